@@ -1,0 +1,14 @@
+pub mod RingLaws
+pub mod Expression
+pub mod Solver
+pub mod SumLaws
+pub mod CountLaws
+pub mod FieldLaws
+pub mod RootLaws
+pub mod StringLaws
+pub mod ColumnLaws
+pub mod BitsLaws
+pub mod LinearLaws
+pub mod ByteLaws
+pub mod BitFieldLaws
+pub mod Two

@@ -1,0 +1,10 @@
+pub mod Ring
+pub mod Count
+pub mod Field
+pub mod Strings
+pub mod Sum
+pub mod Roots
+pub mod Columns
+pub mod Coded
+pub mod Bits
+pub mod BitField
