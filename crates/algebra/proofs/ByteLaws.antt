@@ -3,13 +3,13 @@
 use mathlib.Core.Path.{_≡_, refl, sym, ap, ap₂, _∙_}
 use mathlib.Core.Bool.{Bool, true, false}
 use Prim.Native.Nat.{ℕ, zero, suc, _+_, _*_, _/_, _%_, _^_, _<_, _≤_}
-use native.Mathlib.Nat.{not-suc-le-zero, le-of-suc-le-suc, pow-suc, div-lt-iff-lt-mul, mod-lt, div-add-mod'}
+use native.Mathlib.Nat.{not-suc-le-zero, le-of-suc-le-suc, pow-suc, div-lt-iff-lt-mul, mod-lt, div-add-mod', mul-zero, mul-one}
 use native.Mathlib.Omega.{arith}
 use lib.Dec.{lit<}
 use lib.Arith.{digits-lt, digits-div, digits-mod, lt-one}
 use lib.Bits.{bitXor, differ, xor-step, xor-lt}
 use Rattle.algebra.specs.Count.{indicator}
-use Rattle.algebra.specs.Bits.{Bits, plus, zeros, unit, add, bit, elem, byte}
+use Rattle.algebra.specs.Bits.{Bits, plus, zeros, unit, add, scale, bit, elem, byte}
 use Rattle.algebra.proofs.BitsLaws.{pair}
 
 pub bit-indicator : (c : Bool) → bit (indicator c) ≡ c
@@ -89,3 +89,9 @@ pub elem-one : (n : ℕ) → 1 ≤ n → elem n 1 ≡ unit n
 unfolding elem unit bit
 elem-one zero h = absurd (not-suc-le-zero h)
 elem-one (suc n) h = pair n refl (elem-zero n)
+
+pub elem-scale : (n x q : ℕ) → q < 2 → elem n (x * q) ≡ scale n (bit q) (elem n x)
+unfolding scale bit
+elem-scale n x zero h = ap (elem n) (mul-zero x) ∙ elem-zero n
+elem-scale n x (suc zero) h = ap (elem n) (mul-one x)
+elem-scale n x (suc (suc q)) h = absurd (omega arith)

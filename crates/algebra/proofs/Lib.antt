@@ -12,3 +12,4 @@ pub mod LinearLaws
 pub mod ByteLaws
 pub mod BitFieldLaws
 pub mod Two
+pub mod TestLaws

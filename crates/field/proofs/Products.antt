@@ -1,0 +1,20 @@
+-- The products of specs/Products, computed.
+-- Assumes nothing.
+use mathlib.Core.Path.{refl}
+use Rattle.algebra.specs.BitField.{computing}
+use Rattle.field.specs.Products.{Monic, Product5783, Product5713, Product0552}
+
+pub monic : Monic
+monic = refl
+
+pub product-57-83 : Product5783
+unfolding computing
+product-57-83 = refl
+
+pub product-57-13 : Product5713
+unfolding computing
+product-57-13 = refl
+
+pub product-05-52 : Product0552
+unfolding computing
+product-05-52 = refl

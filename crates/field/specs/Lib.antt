@@ -1,0 +1,3 @@
+pub mod Gf256
+pub mod Gf16
+pub mod Products
