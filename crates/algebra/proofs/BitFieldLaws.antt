@@ -1,62 +1,20 @@
--- The product modulo X^r + m is additive on both sides, so that tests at the basis prove its laws; and what passes them is a coded field.
+-- Tests at the basis prove the laws of the product modulo X^r + m, which is additive on both sides; and what passes them is a coded field.
 -- Assumes nothing.
-use mathlib.Core.Path.{_≡_, refl, sym, ap, ap₂, _∙_}
+use mathlib.Core.Path.{_≡_, refl, ap, _∙_}
 use mathlib.Core.Bool.{Bool, true, false, _||_, false≢true}
-use Prim.Native.Nat.{ℕ, zero, suc, _^_, _≤_}
+use Prim.Native.Nat.{ℕ, _^_, _≤_}
 use native.Mathlib.Omega.{arith}
 use lib.Dec.{T, leb→le}
 use lib.Pow.{pow-mono}
 use Rattle.algebra.specs.Ring.{Ring}
 use Rattle.algebra.specs.Field.{Field}
 use Rattle.algebra.specs.Coded.{Coded}
-use Rattle.algebra.specs.Bits.{Bits, plus, zeros, unit, add, scale, same, elem, byte, elements, onBasis, everywhere}
-use Rattle.algebra.specs.BitField.{shift, out, xtime, times, mul, inverse, commutes, associates, has-one, inverts, Passes}
-use Rattle.algebra.proofs.BitsLaws.{pair, add-assoc, add-comm, add-self, add-zero-r, add-four, same-eq, same-refl, elements-length}
+use Rattle.algebra.specs.Bits.{Bits, zeros, unit, add, same, elem, byte, elements, onBasis}
+use Rattle.algebra.specs.BitField.{mul, inverse, commutes, associates, has-one, inverts, Passes}
+use Rattle.algebra.proofs.BitsLaws.{add-assoc, add-comm, add-self, add-zero-r, same-eq, same-refl, elements-length}
 pub use Rattle.algebra.proofs.BitsLaws.{elements-once}
-use Rattle.algebra.proofs.LinearLaws.{Linear, scale-linear, scale-plus, on-basis, linear-ext, everywhere-at}
+use Rattle.algebra.proofs.LinearLaws.{on-basis, linear-ext, everywhere-at, mul-left, mul-right}
 use Rattle.algebra.proofs.ByteLaws.{elem-byte, byte-elem, byte-lt, byte-add, elem-xor, elem-zero, elem-one}
-
-shift-add : (n : ℕ) (c d : Bool) (a b : Bits n) → shift n (plus c d) (add n a b) ≡ add n (shift n c a) (shift n d b)
-unfolding shift add
-shift-add zero c d a b = refl
-shift-add (suc n) c d a b = pair n refl (shift-add n (a .0) (b .0) (a .1) (b .1))
-
-out-add : (n : ℕ) (c d : Bool) (a b : Bits n) → out n (plus c d) (add n a b) ≡ plus (out n c a) (out n d b)
-unfolding out add
-out-add zero c d a b = refl
-out-add (suc n) c d a b = out-add n (a .0) (b .0) (a .1) (b .1)
-
-pub xtime-linear : (r : ℕ) (m : Bits r) → Linear r r (xtime r m)
-unfolding xtime
-xtime-linear r m a b =
-    ap₂ (add r) (shift-add r false false a b)
-    (ap (λ (c : Bool). scale r c m) (out-add r false false a b) ∙ scale-plus r (out r false a) (out r false b) m)
-    ∙ add-four r (shift r false a) (shift r false b) (scale r (out r false a) m) (scale r (out r false b) m)
-
-times-left : (r : ℕ) (m : Bits r) (k : ℕ) (b : Bits r) → Linear k r (λ a. times r m k a b)
-unfolding times add
-times-left r m zero b x y = sym (add-self r (zeros r))
-times-left r m (suc k) b x y =
-    ap₂ (add r) (scale-plus r (x .0) (y .0) b) (times-left r m k (xtime r m b) (x .1) (y .1))
-    ∙ add-four r (scale r (x .0) b) (scale r (y .0) b) (times r m k (x .1) (xtime r m b)) (times r m k (y .1) (xtime r m b))
-
-times-right : (r : ℕ) (m : Bits r) (k : ℕ) (a : Bits k) → Linear r r (times r m k a)
-unfolding times
-times-right r m zero a x y = sym (add-self r (zeros r))
-times-right r m (suc k) a x y =
-    ap₂ (add r) (scale-linear r (a .0) x y)
-    (ap (times r m k (a .1)) (xtime-linear r m x y) ∙ times-right r m k (a .1) (xtime r m x) (xtime r m y))
-    ∙ add-four r (scale r (a .0) x) (scale r (a .0) y) (times r m k (a .1) (xtime r m x)) (times r m k (a .1) (xtime r m y))
-
-pub mul-left : (r : ℕ) (m b : Bits r) → Linear r r (λ a. mul r m a b)
-unfolding mul
-mul-left r m b = times-left r m r b
-
-pub mul-right : (r : ℕ) (m a : Bits r) → Linear r r (mul r m a)
-unfolding mul
-mul-right r m a = times-right r m r a
-
--- ---- the laws, from the tests
 
 module _ (r : ℕ) (m : Bits r) where
   pub mul-comm : T (commutes r m) → (a b : Bits r) → mul r m a b ≡ mul r m b a
@@ -162,7 +120,7 @@ fieldOf r m p = record {
   eqb-refl = eqb-refl r;
   eqb-sound = eqb-sound r;
   size = 2 ^ r;
-  four≤size = four≤size r (leb→le 2 r (p .least?));
+  four≤size = omega (arith, four≤size r (leb→le 2 r (p .least?)));
   elements = elements r;
   elements-length = elements-length r;
   elements-once = elements-once r;

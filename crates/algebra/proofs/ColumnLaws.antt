@@ -2,7 +2,7 @@
 -- Assumes nothing.
 use mathlib.Core.Path.{_≡_, refl, sym, ap, _∙_, _≡⟨_⟩_, _∎}
 use mathlib.Core.Logic.{_⊎_, inl, inr, _≢_}
-use mathlib.Core.Bool.{Bool, true, false, _&&_}
+use mathlib.Core.Bool.{true, _&&_, and-true}
 use mathlib.Core.List.{List, [], _∷_}
 use Prim.Native.Nat.{ℕ, zero, suc, _-_, _^_, _<_}
 use native.Mathlib.Nat.{pow-succ', one-mul}
@@ -12,7 +12,6 @@ use Rattle.algebra.specs.Ring.{Ring}
 use Rattle.algebra.specs.Count.{count}
 use Rattle.algebra.specs.Field.{Field}
 use Rattle.algebra.specs.Strings.{strings}
-use Rattle.algebra.specs.Sum.{sum}
 use Rattle.algebra.specs.Columns.{columnSum, zeroColumns, FailingColumns, AllColumns}
 use Rattle.algebra.proofs.RingLaws.{ring, mul-zero}
 use Rattle.algebra.proofs.CountLaws.{count-congr, count-true, count-pairs, count-pairs-const}
@@ -78,13 +77,9 @@ module _ (K : Field) where
           t ⊗ 𝟙 ≡⟨ (simp ring) ⟩
           t ∎
 
-      and-true : (b : Bool) → b ≡ (b && true)
-      and-true true = refl
-      and-true false = refl
-
       split : (x : F) (s : List F) → eqb (columnSum K (suc m) (x ∷ s) f) t ≡ (eqb (inv (f 0) ⊗ t) x && true)
       split x s =
-          rw (column-front m x s f, column-zeros m s (λ i. f (suc i)) z, R .add-zero (x ⊗ f 0)) (eqb-iff K (x ⊗ f 0) t (inv (f 0) ⊗ t) x (one x) (back x) ∙ and-true _)
+          rw (column-front m x s f, column-zeros m s (λ i. f (suc i)) z, R .add-zero (x ⊗ f 0)) (eqb-iff K (x ⊗ f 0) t (inv (f 0) ⊗ t) x (one x) (back x) ∙ sym (and-true _))
 
   columns : (m : ℕ) (f : ℕ → F) (t : F) → NonZero (suc m) f → count (λ s. eqb (columnSum K (suc m) s f) t) (strings K (suc m)) ≡ size ^ m
   columns zero f t n = first 0 f t (head-nonzero 0 f n (λ i l. absurd (omega arith))) (λ i l. absurd (omega arith))
@@ -103,10 +98,13 @@ module _ (K : Field) where
           count-pairs-const _ (size ^ m) elements (strings K (suc m)) (λ x. count-congr _ (λ s. eqb (columnSum K (suc m) s g) (t ⊕ x ⊗ f 0)) (shift x) (strings K (suc m)) ∙ ih (t ⊕ x ⊗ f 0) k)
           ∙ rw (K .elements-length, pow-succ')
 
+  power-of : (a b : ℕ) → a ≡ b → size ^ a ≡ size ^ b
+  power-of a b e = ap (λ k. size ^ k) e
+
   pub columns-fail : (m : ℕ) (f : ℕ → F) → FailingColumns K m f
   unfolding zeroColumns
   columns-fail zero f i l n = absurd (omega arith)
-  columns-fail (suc m) f i l n = columns m f 𝟘 (i, l, n) ∙ (let e : m ≡ suc m - 1 = omega arith in ap (λ k. size ^ k) e)
+  columns-fail (suc m) f i l n = columns m f 𝟘 (i, l, n) ∙ power-of _ _ (omega arith)
 
   pub columns-all : (m : ℕ) (f : ℕ → F) → AllColumns K m f
   unfolding zeroColumns

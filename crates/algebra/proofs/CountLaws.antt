@@ -4,8 +4,8 @@ use mathlib.Core.Path.{_≡_, refl, sym, ap, ap₂, _∙_}
 use mathlib.Core.Logic.{_⊎_, inl, inr, _≢_}
 use mathlib.Core.Bool.{Bool, true, false, _&&_, _||_, false≢true}
 use mathlib.Core.List.{List, [], _∷_, _++_, map}
-use Prim.Native.Nat.{ℕ, zero, suc, _+_, _*_, _^_, _≤_, _<_, zero-le}
-use native.Mathlib.Nat.{zero-add, zero-mul, one-mul, suc-mul, add-mul, add-assoc, add-comm, pow-zero, pow-succ', mul-comm, le-refl, add-le-add}
+use Prim.Native.Nat.{ℕ, zero, suc, _+_, _*_, _^_, _≤_, zero-le}
+use native.Mathlib.Nat.{zero-mul, one-mul, suc-mul, add-mul, add-comm, pow-zero, pow-succ'}
 use native.Mathlib.Omega.{arith}
 use lib.ListN.{length, length-append, length-map}
 use Rattle.algebra.specs.Count.{indicator, count, pairs, words, same, passes, product}
@@ -17,14 +17,6 @@ and-left false b h = h
 pub and-right : (a b : Bool) → (a && b) ≡ true → b ≡ true
 and-right true b h = h
 and-right false b h = absurd (false≢true h)
-
-indicator≤1 : (b : Bool) → indicator b ≤ 1
-indicator≤1 true = omega arith
-indicator≤1 false = omega arith
-
-indicator-and : (a b : Bool) → indicator (a && b) ≡ indicator a * indicator b
-indicator-and true b = sym (one-mul (indicator b))
-indicator-and false b = sym (zero-mul (indicator b))
 
 indicator-or : (a b : Bool) → indicator (a || b) ≤ indicator a + indicator b
 indicator-or true b = omega arith
@@ -51,10 +43,6 @@ module _ {A : Type 0} where
   pub count-false : (p : A → Bool) → ((x : A) → p x ≡ false) → (xs : List A) → count p xs ≡ 0
   count-false p h [] = refl
   count-false p h (x ∷ xs) = rw (h x) (omega (arith, count-false p h xs))
-
-  pub count-le-length : (p : A → Bool) (xs : List A) → count p xs ≤ length xs
-  count-le-length p [] = zero-le
-  count-le-length p (x ∷ xs) = omega (arith, count-le-length p xs, indicator≤1 (p x))
 
   pub count-mono : (p r : A → Bool) → ((x : A) → p x ≡ true → r x ≡ true) → (xs : List A) → count p xs ≤ count r xs
   count-mono p r h [] = zero-le

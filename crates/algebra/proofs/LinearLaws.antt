@@ -1,11 +1,13 @@
--- Additive maps of bit vectors: what two of them have at the basis they have everywhere. And a test that passes everywhere passes at each vector.
+-- Additive maps of bit vectors: what two of them have at the basis they have everywhere, and the product is additive on both sides.
+-- And a test that passes everywhere passes at each vector.
 -- Assumes nothing.
 use mathlib.Core.Path.{_≡_, refl, sym, ap, ap₂, _∙_}
-use mathlib.Core.Bool.{Bool, true, false, _&&_}
+use mathlib.Core.Bool.{Bool, true, false}
 use Prim.Native.Nat.{ℕ, zero, suc}
 use lib.Dec.{T}
 use Rattle.algebra.specs.Bits.{Bits, plus, zeros, add, scale, onBasis, everywhere}
-use Rattle.algebra.proofs.BitsLaws.{pair, plus-comm, add-assoc, add-zero, add-self, add-zero-r, both-left, both-right}
+use Rattle.algebra.specs.BitField.{shift, out, xtime, times, mul}
+use Rattle.algebra.proofs.BitsLaws.{pair, plus-comm, add-assoc, add-zero, add-self, add-zero-r, add-four, both-left, both-right}
 
 abbrev pub Linear : (n m : ℕ) → (Bits n → Bits m) → Type 0
 Linear n m f = (a b : Bits n) → f (add n a b) ≡ add m (f a) (f b)
@@ -84,3 +86,45 @@ everywhere-at (suc n) p t x =
     (everywhere-at n (λ y. p (true, y)) (both-right (everywhere n (λ y. p (false, y))) (everywhere n (λ y. p (true, y))) t))
     (x .0)
     (x .1)
+
+-- ---- the product is additive on both sides
+
+shift-add : (n : ℕ) (c d : Bool) (a b : Bits n) → shift n (plus c d) (add n a b) ≡ add n (shift n c a) (shift n d b)
+unfolding shift add
+shift-add zero c d a b = refl
+shift-add (suc n) c d a b = pair n refl (shift-add n (a .0) (b .0) (a .1) (b .1))
+
+out-add : (n : ℕ) (c d : Bool) (a b : Bits n) → out n (plus c d) (add n a b) ≡ plus (out n c a) (out n d b)
+unfolding out add
+out-add zero c d a b = refl
+out-add (suc n) c d a b = out-add n (a .0) (b .0) (a .1) (b .1)
+
+pub xtime-linear : (r : ℕ) (m : Bits r) → Linear r r (xtime r m)
+unfolding xtime
+xtime-linear r m a b =
+    ap₂ (add r) (shift-add r false false a b)
+    (ap (λ (c : Bool). scale r c m) (out-add r false false a b) ∙ scale-plus r (out r false a) (out r false b) m)
+    ∙ add-four r (shift r false a) (shift r false b) (scale r (out r false a) m) (scale r (out r false b) m)
+
+times-left : (r : ℕ) (m : Bits r) (k : ℕ) (b : Bits r) → Linear k r (λ a. times r m k a b)
+unfolding times add
+times-left r m zero b x y = sym (add-self r (zeros r))
+times-left r m (suc k) b x y =
+    ap₂ (add r) (scale-plus r (x .0) (y .0) b) (times-left r m k (xtime r m b) (x .1) (y .1))
+    ∙ add-four r (scale r (x .0) b) (scale r (y .0) b) (times r m k (x .1) (xtime r m b)) (times r m k (y .1) (xtime r m b))
+
+times-right : (r : ℕ) (m : Bits r) (k : ℕ) (a : Bits k) → Linear r r (times r m k a)
+unfolding times
+times-right r m zero a x y = sym (add-self r (zeros r))
+times-right r m (suc k) a x y =
+    ap₂ (add r) (scale-linear r (a .0) x y)
+    (ap (times r m k (a .1)) (xtime-linear r m x y) ∙ times-right r m k (a .1) (xtime r m x) (xtime r m y))
+    ∙ add-four r (scale r (a .0) x) (scale r (a .0) y) (times r m k (a .1) (xtime r m x)) (times r m k (a .1) (xtime r m y))
+
+pub mul-left : (r : ℕ) (m b : Bits r) → Linear r r (λ a. mul r m a b)
+unfolding mul
+mul-left r m b = times-left r m r b
+
+pub mul-right : (r : ℕ) (m a : Bits r) → Linear r r (mul r m a)
+unfolding mul
+mul-right r m a = times-right r m r a

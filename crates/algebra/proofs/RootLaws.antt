@@ -1,19 +1,19 @@
--- The challenges that pass a repetition's conditions: at most two of them, unless every coefficient is zero.
+-- The elements that pass conditions: at most two of them, or all, and all exactly if every coefficient is zero.
 -- Assumes nothing.
-use mathlib.Core.Path.{_≡_, refl, sym, ap, _∙_, _≡⟨_⟩_, _∎}
+use mathlib.Core.Path.{_≡_, refl, sym, ap, _∙_}
 use mathlib.Core.Logic.{_⊎_, inl, inr, _≢_}
-use mathlib.Core.Bool.{Bool, true, false, _&&_, _||_, false≢true, true≢false}
+use mathlib.Core.Bool.{Bool, true, false, _||_}
 use mathlib.Core.List.{List, [], _∷_}
-use Prim.Native.Nat.{ℕ, zero, suc, _+_, _≤_, _<_}
+use Prim.Native.Nat.{ℕ, zero, suc, _≤_, _<_}
 use native.Mathlib.Omega.{arith}
 use Rattle.algebra.specs.Count.{count}
 use Rattle.algebra.specs.Field.{Field}
 use Rattle.algebra.specs.Ring.{Ring}
 use Rattle.algebra.proofs.RingLaws.{ring}
-use Rattle.algebra.specs.Roots.{isZero, Line, Conditions, lineAt, linesOk, quadAt, passing, AllZero, FourCases, FullExactly, LineCases}
+use Rattle.algebra.specs.Roots.{isZero, Line, Conditions, lineAt, linesOk, quadAt, passing, ZeroOneTwoAll, ZeroOneAll, AllZero, FourCases, FullExactly, LineCases}
 pub use Rattle.algebra.specs.Roots.{Trivial}
 pub use Rattle.algebra.proofs.FieldLaws.{dec, eqb-true, solve, mul-cancel, add-cancel}
-use Rattle.algebra.proofs.CountLaws.{and-left, and-right, count-mono, count-or, count-congr, count-true, find}
+use Rattle.algebra.proofs.CountLaws.{and-left, and-right, count-mono, count-or, count-true, find}
 
 module _ (K : Field) where
   open Field K using (R, inv, eqb, elements, size)
@@ -36,16 +36,16 @@ module _ (K : Field) where
           right true e = refl
           right false e = e
 
-  -- a line that is not zero passes at one challenge at most
+  -- a line that is not zero holds at one element at most
   pub line-bound : (l : Line K) → ((l .a ≡ 𝟘) × (l .b ≡ 𝟘)) ⊎ (count (λ x. isZero K (lineAt K l x)) elements ≤ 1)
   line-bound l = go (dec K (l .b) 𝟘) (dec K (l .a) 𝟘)
     where
-      at : (x : F) → isZero K (lineAt K l x) ≡ true → l .a ⊕ x ⊗ l .b ≡ 𝟘
+      at : (x : F) → isZero K (lineAt K l x) ≡ true → lineAt K l x ≡ 𝟘
       at x t = K .eqb-sound (lineAt K l x) 𝟘 t
 
       go : Dec (l .b ≡ 𝟘) → Dec (l .a ≡ 𝟘) → ((l .a ≡ 𝟘) × (l .b ≡ 𝟘)) ⊎ (count (λ x. isZero K (lineAt K l x)) elements ≤ 1)
       go (yes b0) (yes a0) = inl (a0, b0)
-      go (yes b0) (no a1) = inr (at-most-one _ 𝟘 (λ x t. absurd (a1 (simp (b0, ring) at (at x t)))))
+      go (yes b0) (no a1) = inr (at-most-one _ 𝟘 (λ x t. absurd (a1 (simp (lineAt, b0, ring) at (at x t)))))
       go (no b1) a = inr (at-most-one _ (inv (l .b) ⊗ l .a) (λ x t. solve K (l .b) x (l .a) b1 (R .mul-comm (l .b) x ∙ add-cancel K (l .a) (x ⊗ l .b) (at x t))))
 
   -- a quadratic polynomial that is not zero has two roots at most
@@ -55,13 +55,13 @@ module _ (K : Field) where
       p : F → Bool
       p x = isZero K (quadAt K c0 c1 c2 x)
 
-      at : (x : F) → p x ≡ true → c0 ⊕ c1 ⊗ x ⊕ c2 ⊗ (x ⊗ x) ≡ 𝟘
+      at : (x : F) → p x ≡ true → quadAt K c0 c1 c2 x ≡ 𝟘
       at x t = K .eqb-sound (quadAt K c0 c1 c2 x) 𝟘 t
 
       -- the difference of the values at x and r has the factor x ⊕ r
       factor : (x r : F) → p x ≡ true → p r ≡ true → (x ⊕ r) ⊗ (c2 ⊗ (x ⊕ r) ⊕ c1) ≡ 𝟘
       factor x r t u =
-          let s : (x ⊕ r) ⊗ (c2 ⊗ (x ⊕ r) ⊕ c1) ≡ (c0 ⊕ c1 ⊗ x ⊕ c2 ⊗ (x ⊗ x)) ⊕ (c0 ⊕ c1 ⊗ r ⊕ c2 ⊗ (r ⊗ r)) = simp ring in
+          let s : (x ⊕ r) ⊗ (c2 ⊗ (x ⊕ r) ⊕ c1) ≡ quadAt K c0 c1 c2 x ⊕ quadAt K c0 c1 c2 r = simp ring in
           s ∙ rw (at x t, at r u) (R .add-self 𝟘)
 
       roots : (r : F) → p r ≡ true → c2 ≢ 𝟘 → (x : F) → p x ≡ true → (x ≡ r) ⊎ (x ≡ r ⊕ inv c2 ⊗ c1)
@@ -99,7 +99,7 @@ module _ (K : Field) where
       go (inl z) (inr h) = inr (omega (arith, count-mono (linesOk K (l ∷ ls)) (linesOk K ls) (λ x. and-right (one x) (linesOk K ls x)) elements))
       go (inl z) (inl zs) = inl (z .0, z .1, zs)
 
-  -- a repetition's factor is at most 2, unless its conditions are trivial
+  -- conditions that are not trivial pass at two elements at most
   pub factor-bound : (c : Conditions K) → Trivial K c ⊎ (count (passing K c) elements ≤ 2)
   factor-bound c = go (lines-bound (c .lines)) (quad-bound (c .c0) (c .c1) (c .c2))
     where
@@ -114,7 +114,7 @@ module _ (K : Field) where
   lines-trivial : (ls : List (Line K)) → AllZero K ls → (x : F) → linesOk K ls x ≡ true
   lines-trivial [] z x = refl
   lines-trivial (l ∷ ls) z x =
-      let e : l .a ⊕ x ⊗ l .b ≡ 𝟘 = simp (z .0, z .1, ring) in
+      let e : lineAt K l x ≡ 𝟘 = simp (lineAt, z .0, z .1, ring) in
       rw (eqb-true K (lineAt K l x) 𝟘 e) (lines-trivial ls (z .2) x)
 
   pub factor-trivial : (c : Conditions K) → Trivial K c → count (passing K c) elements ≡ size
@@ -125,7 +125,7 @@ module _ (K : Field) where
           let e : quadAt K (c .c0) (c .c1) (c .c2) x ≡ 𝟘 = simp (z .c0-zero, z .c1-zero, z .c2-zero, ring) in
           rw (lines-trivial (c .lines) (z .lines-zero) x) (eqb-true K _ 𝟘 e)
 
-  up-to-two : (n : ℕ) → n ≤ 2 → (n ≡ 0) ⊎ ((n ≡ 1) ⊎ ((n ≡ 2) ⊎ (n ≡ size)))
+  up-to-two : (n : ℕ) → n ≤ 2 → ZeroOneTwoAll size n
   up-to-two zero h = inl refl
   up-to-two (suc zero) h = inr (inl refl)
   up-to-two (suc (suc zero)) h = inr (inr (inl refl))
@@ -138,7 +138,7 @@ module _ (K : Field) where
       go (inl z) = inr (inr (inr (factor-trivial c z)))
       go (inr h) = up-to-two _ h
 
-  -- a factor above 2 has every coefficient zero
+  -- conditions that pass at more than two elements are trivial
   pub factor-full : (c : Conditions K) → 2 < count (passing K c) elements → Trivial K c
   factor-full c h = go (factor-bound c)
     where
@@ -152,7 +152,7 @@ module _ (K : Field) where
   pub factor-iff : (c : Conditions K) → FullExactly K c
   factor-iff c = (factor-q c, factor-trivial c)
 
-  up-to-one : (n : ℕ) → n ≤ 1 → (n ≡ 0) ⊎ ((n ≡ 1) ⊎ (n ≡ size))
+  up-to-one : (n : ℕ) → n ≤ 1 → ZeroOneAll size n
   up-to-one zero h = inl refl
   up-to-one (suc zero) h = inr (inl refl)
   up-to-one (suc (suc n)) h = absurd (omega arith)

@@ -1,6 +1,6 @@
 -- The normal form of an expression has the expression's value, so expressions with one normal form are equal: a decision procedure by computation.
 -- Assumes nothing.
-use mathlib.Core.Path.{_≡_, refl, sym, ap, ap₂, _∙_, subst, _≡⟨_⟩_, _∎}
+use mathlib.Core.Path.{_≡_, refl, sym, ap, ap₂, _∙_, _≡⟨_⟩_, _∎}
 use mathlib.Core.List.{List, [], _∷_}
 use Prim.Native.Nat.{ℕ, zero, suc, compare, Ordering, Ordering·lt, Ordering·eq, Ordering·gt}
 use lib.Dec.{T, isEq, eqb→eq}
@@ -30,12 +30,6 @@ module _ (R : Ring) (ρ : List (R .F)) where
 
   infixl 65 _⊕_
   infixl 70 _⊗_
-  M : List ℕ → F
-  M = valueM R ρ
-
-  P : List (List ℕ) → F
-  P = valueP R ρ
-
   ins-is : (x : ℕ) (m : List ℕ) → valueM R ρ (ins x m) ≡ getD ρ x 𝟘 ⊗ valueM R ρ m
   ins-is x [] = refl
   ins-is x (y ∷ m) = go (compare x y) (ins-is x m)

@@ -1,6 +1,7 @@
 -- Conditions on one element Δ: a system of linear equations and one quadratic equation; and how many elements meet them.
 --   isZero x == whether x is 0;  Line == an equation a + Δ·b = 0;  Conditions == lines, and c0 + c1·Δ + c2·Δ² = 0
 --   lineAt l Δ, quadAt c0 c1 c2 Δ == the left sides at Δ;  linesOk ls Δ == every line holds at Δ;  passing c Δ == all of c holds at Δ
+--   ZeroOneTwoAll all n == n is 0, 1, 2 or all;  ZeroOneAll all n == n is 0, 1 or all
 --   AllZero ls, Trivial c == every coefficient is 0
 --   FourCases c == the number of elements that pass c is 0, 1, 2 or the size of the field
 --   FullExactly c == it is the size exactly if c is trivial;  LineCases ls == lines alone pass at 0, 1 or all elements
@@ -13,6 +14,12 @@ use Prim.Native.Nat.{ℕ}
 use Rattle.algebra.specs.Ring.{Ring}
 use Rattle.algebra.specs.Count.{count}
 use Rattle.algebra.specs.Field.{Field}
+
+abbrev pub ZeroOneTwoAll : ℕ → ℕ → Type 0
+ZeroOneTwoAll all n = (n ≡ 0) ⊎ ((n ≡ 1) ⊎ ((n ≡ 2) ⊎ (n ≡ all)))
+
+abbrev pub ZeroOneAll : ℕ → ℕ → Type 0
+ZeroOneAll all n = (n ≡ 0) ⊎ ((n ≡ 1) ⊎ (n ≡ all))
 
 module _ (K : Field) where
   open Field K using (R, size, elements)
@@ -57,10 +64,10 @@ module _ (K : Field) where
     pub c2-zero : c .c2 ≡ 𝟘
 
   abbrev pub FourCases : Conditions → Type 0
-  FourCases c = (count (passing c) elements ≡ 0) ⊎ ((count (passing c) elements ≡ 1) ⊎ ((count (passing c) elements ≡ 2) ⊎ (count (passing c) elements ≡ size)))
+  FourCases c = ZeroOneTwoAll size (count (passing c) elements)
 
   abbrev pub FullExactly : Conditions → Type 0
   FullExactly c = (count (passing c) elements ≡ size) ↔ Trivial c
 
   abbrev pub LineCases : List Line → Type 0
-  LineCases ls = (count (linesOk ls) elements ≡ 0) ⊎ ((count (linesOk ls) elements ≡ 1) ⊎ (count (linesOk ls) elements ≡ size))
+  LineCases ls = ZeroOneAll size (count (linesOk ls) elements)

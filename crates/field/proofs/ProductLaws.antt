@@ -1,13 +1,13 @@
 -- The product as the code forms it: bit after bit of one factor, the other doubled at each, on numbers.
 --   still r m n a x s == s plus what the low n bits of a, times x, have yet to add
 -- Assumes nothing.
-use mathlib.Core.Path.{_≡_, refl, sym, ap, _∙_}
+use mathlib.Core.Path.{_≡_, sym, ap, _∙_}
 use Prim.Native.Nat.{ℕ, zero, suc, _*_, _/_, _%_, _-_, _≤_, _<_}
 use native.Mathlib.Nat.{mod-lt, mod-eq-of-lt, mul-zero, mul-one, not-suc-le-zero}
 use native.Mathlib.Omega.{arith}
 use lib.Dec.{lit<}
 use lib.Bits.{bitAnd, bitXor, and-mask, and-zero-r}
-use Rattle.algebra.specs.Bits.{Bits, zeros, add, scale, bit, elem}
+use Rattle.algebra.specs.Bits.{Bits, add, scale, bit, elem}
 use Rattle.algebra.specs.BitField.{xtime, times, mul}
 use Rattle.algebra.proofs.BitsLaws.{add-assoc, add-zero, add-zero-r}
 use Rattle.algebra.proofs.ByteLaws.{elem-xor, elem-scale, elem-zero}

@@ -3,7 +3,7 @@
 -- Assumes nothing.
 use mathlib.Core.Path.{_≡_}
 use Prim.Native.Nat.{_/_, _^_}
-use Rattle.algebra.specs.Coded.{Coded, mulByte}
+use Rattle.algebra.specs.Coded.{mulByte}
 use Rattle.field.specs.Gf256.{modulus, gf256}
 
 abbrev pub Monic : Type 0

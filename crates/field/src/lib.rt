@@ -1,6 +1,6 @@
 // Arithmetic in the field of 256 elements, whose elements are the bytes.
 ghost use mathlib.Core.Path.{_≡_};
-ghost use Prim.Native.Nat.{ℕ, _*_, _<_};
+ghost use Prim.Native.Nat.{_*_, _<_};
 ghost use Rattle.algebra.specs.Bits.{elem, byte};
 ghost use Rattle.algebra.specs.BitField.{xtime};
 ghost use Rattle.algebra.specs.Coded.{mulByte};

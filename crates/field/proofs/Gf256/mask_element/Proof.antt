@@ -1,19 +1,25 @@
 -- `field::Gf256::mask_element` meets its contract: below the degree a test at each number, which the checker computes; from there on both are 0.
 -- Assumes nothing.
+use mathlib.Core.Path.{_≡_}
 use mathlib.Core.Bool.{Bool}
-use Prim.Native.Nat.{ℕ, _*_, _%_, _^_}
+use Prim.Native.Nat.{ℕ, _*_, _%_, _^_, _<_}
 use borrow.Author.Needs.{needs}
 use borrow.Author.Tests.{le-ltb}
-use lib.Dec.{eqb, eqb→eq}
+use lib.Dec.{T, eqb, eqb→eq}
 use Rattle.algebra.specs.BitField.{computing}
 use Rattle.algebra.specs.Sum.{power}
-use Rattle.algebra.proofs.TestLaws.{every-at}
+use Rattle.algebra.proofs.TestLaws.{everyBelow, every-at}
 use Rattle.field.specs.Gf256.{maskElement}
 use Rattle.field.proofs.Gf256.mask_element.Statement.{statement}
 use Rattle.field.proofs.Gf256.mask_element.Tie as tie
 
-right : ℕ → Bool
-right s = eqb ((1 * 2 ^ s) % 2 ^ 8) (maskElement s)
+-- k is what the code shifts
+right : ℕ → ℕ → Bool
+right k s = eqb ((k * 2 ^ s) % 2 ^ 8) (maskElement s)
+
+shifted : (k s : ℕ) → T (everyBelow 8 (right k)) → s < 8 → (k * 2 ^ s) % 2 ^ 8 ≡ maskElement s
+unfolding right
+shifted k s t h = eqb→eq ((k * 2 ^ s) % 2 ^ 8) (maskElement s) (every-at 8 (right k) t s h)
 
 cast-result : tie.Need-cast-result
 cast-result c = search needs
@@ -23,7 +29,7 @@ shl-result c = search needs
 
 returns : tie.Need-returns
 unfolding right computing power maskElement
-returns c = eqb→eq ((1 * 2 ^ c .before .args .s) % 2 ^ 8) (maskElement (c .before .args .s)) (every-at 8 right tt (c .before .args .s) (search needs))
+returns c = shifted _ (c .before .args .s) tt (search needs)
 
 returns-2 : tie.Need-returns-2
 unfolding maskElement
