@@ -1,0 +1,226 @@
+-- When each answer is given: the first question that gets a no refuses, and nothing else does.
+-- Assumes nothing.
+use mathlib.Core.Path.{_≡_, refl, sym, ap, ap₂, _∙_, subst}
+use mathlib.Core.Logic.{_↔_, _≢_}
+use mathlib.Core.Bool.{Bool, true, false, _&&_, false≢true, true≢false}
+use mathlib.Core.List.{List, [], _∷_, _++_}
+use Prim.Native.Nat.{ℕ, zero, suc, _+_, _*_, _≤_, _<_}
+use native.Mathlib.Omega.{arith}
+use Rattle.algebra.proofs.CountLaws.{and-left, and-right}
+use Rattle.protocol.specs.Shape.{Shape}
+use Rattle.protocol.specs.Answers.{Answer, accepted, refused, numberOf, placeOf, word, isAccepted, Question, ask, allYes, Reply, Published, taken, header-short, size-out-of-range, key-length, key-spare-bit, challenge-length, hash-spare-bit, leaf-length, leaf-spare-bit, witness-form, output-length, equation-fails, proof-length, proof-spare-bit, inconsistent, product-differs}
+use Rattle.protocol.specs.Statements.{AskRefuses, AskFirstNo, AskAccepts, WordInjective}
+use Rattle.protocol.proofs.TestLaws.{both-true}
+
+pub ask-none : ask [] ≡ accepted
+unfolding ask
+ask-none = refl
+
+pub ask-no : (x : Question) (qs : List Question) → x .yes? ≡ false → ask (x ∷ qs) ≡ refused (x .number) (x .place)
+unfolding ask
+ask-no x qs h = rw (ask, h)
+
+pub ask-yes : (x : Question) (qs : List Question) → x .yes? ≡ true → ask (x ∷ qs) ≡ ask qs
+unfolding ask
+ask-yes x qs h = rw (ask, h)
+
+abbrev pub Yes : List Question → Type 0
+Yes [] = Unit {0}
+Yes (x ∷ qs) = (x .yes? ≡ true) × Yes qs
+
+pub all-yes : (qs : List Question) → allYes qs ≡ true → Yes qs
+all-yes [] h = tt
+all-yes (x ∷ qs) h = (and-left (x .yes?) (allYes qs) h, all-yes qs (and-right (x .yes?) (allYes qs) h))
+
+pub yes-all : (qs : List Question) → Yes qs → allYes qs ≡ true
+yes-all [] h = refl
+yes-all (x ∷ qs) h = both-true (x .yes?) (allYes qs) (h .0) (yes-all qs (h .1))
+
+pub accepted-all : (qs : List Question) → isAccepted (ask qs) ≡ allYes qs
+unfolding ask
+accepted-all [] = refl
+accepted-all (x ∷ qs) = go (x .yes?) (accepted-all qs)
+  where
+    go : (b : Bool) → isAccepted (ask qs) ≡ allYes qs → isAccepted (elim b [ true ↦ ask qs | false ↦ refused (x .number) (x .place) ]) ≡ (b && allYes qs)
+    go true ih = ih
+    go false ih = refl
+
+pub accepted-of : (a : Answer) → isAccepted a ≡ true → a ≡ accepted
+accepted-of accepted h = refl
+accepted-of (refused i p) h = absurd (false≢true h)
+
+pub ask-accepts : AskAccepts
+ask-accepts qs = (λ h. sym (accepted-all qs) ∙ ap isAccepted h, λ h. accepted-of (ask qs) (accepted-all qs ∙ h))
+
+pub ask-after : (before qs : List Question) → allYes before ≡ true → ask (before ++ qs) ≡ ask qs
+ask-after [] qs h = refl
+ask-after (x ∷ before) qs h = go (x .yes?) refl h (ask-after before qs)
+  where
+    go : (b : Bool) → x .yes? ≡ b → (b && allYes before) ≡ true → (allYes before ≡ true → ask (before ++ qs) ≡ ask qs) → ask (x ∷ (before ++ qs)) ≡ ask qs
+    go true e k ih = ask-yes x (before ++ qs) e ∙ ih k
+    go false e k ih = absurd (false≢true k)
+
+-- once a question has got a no, those after it are not put
+pub ask-before : (before qs rs : List Question) → allYes before ≡ false → ask (before ++ qs) ≡ ask (before ++ rs)
+ask-before [] qs rs h = absurd (true≢false h)
+ask-before (x ∷ before) qs rs h = go (x .yes?) refl h (ask-before before qs rs)
+  where
+    go : (b : Bool) → x .yes? ≡ b → (b && allYes before) ≡ false → (allYes before ≡ false → ask (before ++ qs) ≡ ask (before ++ rs)) → ask (x ∷ (before ++ qs)) ≡ ask (x ∷ (before ++ rs))
+    go true e k ih = ask-yes x (before ++ qs) e ∙ ih k ∙ sym (ask-yes x (before ++ rs) e)
+    go false e k ih = ask-no x (before ++ qs) e ∙ sym (ask-no x (before ++ rs) e)
+
+pub ask-first-no : AskFirstNo
+ask-first-no before x after h n = ask-after before (x ∷ after) h ∙ ask-no x after n
+
+pub ask-refuses : AskRefuses
+ask-refuses [] i p h = absurd (true≢false (ap isAccepted (sym ask-none ∙ h)))
+ask-refuses (x ∷ qs) i p h = go (x .yes?) refl (ask-refuses qs i p)
+  where
+    Split : List Question → Type 0
+    Split rs = (before : List Question) × (y : Question) × (after : List Question) × (rs ≡ before ++ (y ∷ after)) × (allYes before ≡ true) × (y .yes? ≡ false) × (y .number ≡ i) × (y .place ≡ p)
+
+    further : x .yes? ≡ true → Split qs → Split (x ∷ qs)
+    further e (before, y, after, q, b, n, j, k) = (x ∷ before, y, after, ap (λ r. x ∷ r) q, both-true (x .yes?) (allYes before) e b, n, j, k)
+
+    go : (b : Bool) → x .yes? ≡ b → (ask qs ≡ refused i p → Split qs) → Split (x ∷ qs)
+    go true e ih = further e (ih (sym (ask-yes x qs e) ∙ h))
+    go false e ih =
+        let r : refused (x .number) (x .place) ≡ refused i p = sym (ask-no x qs e) ∙ h in
+        ([], x, qs, refl, refl, e, ap numberOf r, ap placeOf r)
+
+-- ---- the published list
+
+-- where the answer r is the refusal of a question of the list, r is published
+abbrev pub Listed : Shape → Answer → List Question → Type 0
+Listed s r [] = Unit {0}
+Listed s r (x ∷ qs) = (x .yes? ≡ false → r ≡ refused (x .number) (x .place) → Published s r) × Listed s r qs
+
+pub published-ask : (s : Shape) (r : Answer) (qs : List Question) → Listed s r qs → r ≡ ask qs → Published s r
+published-ask s r [] l h = rw (h, ask-none) taken
+published-ask s r (x ∷ qs) l h = go (x .yes?) refl (published-ask s r qs (l .1))
+  where
+    go : (b : Bool) → x .yes? ≡ b → (r ≡ ask qs → Published s r) → Published s r
+    go true e ih = ih (h ∙ ask-yes x qs e)
+    go false e ih = l .0 e (h ∙ ask-no x qs e)
+
+-- of a question on form
+pub on-form : (s : Shape) (r : Answer) (i : ℕ) (b : Bool) → Published s (refused i 0) → b ≡ false → r ≡ refused i 0 → Published s r
+on-form s r i b c e h = rw h c
+
+-- ---- the free place of 11
+
+zero-not-eleven : _≡_ {A = ℕ} 0 11 → ⊥
+zero-not-eleven h = omega arith
+
+-- no question of the list has the number i
+abbrev pub Without : ℕ → List Question → Type 0
+Without i [] = Unit {0}
+Without i (x ∷ qs) = (x .number ≢ i) × Without i qs
+
+pub not-number : (i : ℕ) (form qs : List Question) → Without i form → allYes form ≡ false → numberOf (ask (form ++ qs)) ≢ i
+not-number i [] qs d h = absurd (true≢false h)
+not-number i (x ∷ form) qs d h = go (x .yes?) refl h (not-number i form qs (d .1))
+  where
+    go : (b : Bool) → x .yes? ≡ b → (b && allYes form) ≡ false → (allYes form ≡ false → numberOf (ask (form ++ qs)) ≢ i) → numberOf (ask (x ∷ (form ++ qs))) ≢ i
+    go true e k ih = λ z. ih k (sym (ap numberOf (ask-yes x (form ++ qs) e)) ∙ z)
+    go false e k ih = λ z. d .0 (sym (ap numberOf (ask-no x (form ++ qs) e)) ∙ z)
+
+module _ (form : List Question) (b : Bool) (answer : ℕ → Answer) (is : (p : ℕ) → answer p ≡ ask (form ++ (record { yes? = b; number = 11; place = p } ∷ []))) (names : ℕ → Type 0) where
+  abbrev eleventh : ℕ → Question
+  eleventh p = record { yes? = b; number = 11; place = p }
+
+  -- with all before it answered yes, 11 is given exactly when its question gets a no
+  at-accepted : allYes form ≡ true → b ≡ true → (k : ℕ) → answer k ≡ accepted
+  at-accepted f e k = is k ∙ ask-after form (eleventh k ∷ []) f ∙ ask-yes (eleventh k) [] e ∙ ask-none
+
+  pub number-eleven : allYes form ≡ true → b ≡ false → (p : ℕ) → answer p ≡ refused 11 p
+  number-eleven f n p = is p ∙ ask-first-no form (eleventh p) [] f n
+
+  pub refuses-exactly : allYes form ≡ true → (((i : ℕ) × names i) → b ≡ false) → (b ≡ false → (i : ℕ) × names i) → (a : Answer) → Reply answer names a
+      → ((a ≢ accepted) ↔ ((i : ℕ) × names i)) × ((numberOf a ≡ 11) ↔ ((i : ℕ) × names i))
+  refuses-exactly f fails failing a r = ((to, λ t h. zero-not-eleven (sym (ap numberOf h) ∙ from t)), (λ h. (placeOf a, r .eleven h), from))
+    where
+      from : ((i : ℕ) × names i) → numberOf a ≡ 11
+      from t = ap numberOf (r .answers ∙ number-eleven f (fails t) (placeOf a))
+
+      to : a ≢ accepted → (i : ℕ) × names i
+      to n = go b refl
+        where
+          go : (c : Bool) → b ≡ c → (i : ℕ) × names i
+          go true e = absurd (n (r .answers ∙ at-accepted f e (placeOf a)))
+          go false e = failing e
+
+  -- there is such a reply
+  pub reply-exists : Without 11 form → (p : ℕ) → (b ≡ false → names p) → (a : Answer) × Reply answer names a
+  reply-exists d p n = (answer p, record { answers = go (allYes form) refl; eleven = named })
+    where
+      by : (c : Bool) → b ≡ c → allYes form ≡ true → answer p ≡ answer (placeOf (answer p))
+      by true e f = at-accepted f e p ∙ sym (at-accepted f e (placeOf (answer p)))
+      by false e f = sym (ap (λ a. answer (placeOf a)) (number-eleven f e p))
+
+      go : (c : Bool) → allYes form ≡ c → answer p ≡ answer (placeOf (answer p))
+      go true f = by b refl f
+      go false f = is p ∙ ask-before form (eleventh p ∷ []) (eleventh (placeOf (answer p)) ∷ []) f ∙ sym (is (placeOf (answer p)))
+
+      place-is : (c : Bool) → b ≡ c → allYes form ≡ true → numberOf (answer p) ≡ 11 → names (placeOf (answer p))
+      place-is true e f h = absurd (zero-not-eleven (sym (ap numberOf (at-accepted f e p)) ∙ h))
+      place-is false e f h = subst (λ a. names (placeOf a)) (sym (number-eleven f e p)) (n e)
+
+      case : (c : Bool) → allYes form ≡ c → numberOf (answer p) ≡ 11 → names (placeOf (answer p))
+      case true f h = place-is b refl f h
+      case false f h = absurd (not-number 11 form (eleventh p ∷ []) d f (sym (ap numberOf (is p)) ∙ h))
+
+      named : numberOf (answer p) ≡ 11 → names (placeOf (answer p))
+      named h = case (allYes form) refl h
+
+-- ---- the word
+
+rebuild : ℕ → ℕ → Answer
+rebuild zero p = accepted
+rebuild (suc i) p = refused (suc i) p
+
+rebuilt : (s : Shape) (a : Answer) → Published s a → rebuild (numberOf a) (placeOf a) ≡ a
+unfolding rebuild
+rebuilt s a taken = refl
+rebuilt s a header-short = refl
+rebuilt s a size-out-of-range = refl
+rebuilt s a key-length = refl
+rebuilt s a key-spare-bit = refl
+rebuilt s a challenge-length = refl
+rebuilt s a hash-spare-bit = refl
+rebuilt s a leaf-length = refl
+rebuilt s a leaf-spare-bit = refl
+rebuilt s a witness-form = refl
+rebuilt s a output-length = refl
+rebuilt s a (equation-fails i l) = refl
+rebuilt s a proof-length = refl
+rebuilt s a proof-spare-bit = refl
+rebuilt s a (inconsistent e l) = refl
+rebuilt s a (product-differs e l) = refl
+
+place-lt : (s : Shape) → s .m ≤ 65536 → s .τ ≤ 65536 → (a : Answer) → Published s a → placeOf a < 65536
+place-lt s hm hτ a taken = omega arith
+place-lt s hm hτ a header-short = omega arith
+place-lt s hm hτ a size-out-of-range = omega arith
+place-lt s hm hτ a key-length = omega arith
+place-lt s hm hτ a key-spare-bit = omega arith
+place-lt s hm hτ a challenge-length = omega arith
+place-lt s hm hτ a hash-spare-bit = omega arith
+place-lt s hm hτ a leaf-length = omega arith
+place-lt s hm hτ a leaf-spare-bit = omega arith
+place-lt s hm hτ a witness-form = omega arith
+place-lt s hm hτ a output-length = omega arith
+place-lt s hm hτ a (equation-fails i l) = omega arith
+place-lt s hm hτ a proof-length = omega arith
+place-lt s hm hτ a proof-spare-bit = omega arith
+place-lt s hm hτ a (inconsistent e l) = omega arith
+place-lt s hm hτ a (product-differs e l) = omega arith
+
+pub word-injective : WordInjective
+unfolding word
+word-injective s hm hτ a b pa pb h =
+    let la : placeOf a < 65536 = place-lt s hm hτ a pa in
+    let lb : placeOf b < 65536 = place-lt s hm hτ b pb in
+    let i : numberOf a ≡ numberOf b = omega arith in
+    let p : placeOf a ≡ placeOf b = omega arith in
+    sym (rebuilt s a pa) ∙ ap₂ rebuild i p ∙ rebuilt s b pb

@@ -1,0 +1,15 @@
+pub mod TestLaws
+pub mod ListLaws
+pub mod StringLaws
+pub mod FrameLaws
+pub mod BinaryLaws
+pub mod LeafLaws
+pub mod VoleLaws
+pub mod FormLaws
+pub mod CoefficientLaws
+pub mod AnswerLaws
+pub mod CountingLaws
+pub mod HonestLaws
+pub mod Published
+pub mod Theorems
+pub mod Demands

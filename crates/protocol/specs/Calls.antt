@@ -1,0 +1,104 @@
+-- What each call answers: its questions, in 01's order. In the calls that take a witness, p is the place of refusal 11, which is free.
+--   testQuestions, .., verifyQuestions == the call's questions on form: all but 11, 14 and 15, which come last
+--   testAnswer, commitAnswer, hashAnswer, batchAnswer, proveAnswer, verifyAnswer == the answers of the six calls
+--   testForm, commitForm, batchForm, proveForm, verifyForm == every question on form gets a yes
+--   honestForm == every question of prove on form but 10: a proof's bytes do not depend on the output's length
+--   wellFormed key leaves H′ χ proof == demand 3's: the questions on form, of full leaves
+--   TestReply, CommitReply, BatchReply, ProveReply == the replies that the papers allow, where a place is free
+-- Assumes nothing.
+use mathlib.Core.Bool.{Bool}
+use mathlib.Core.List.{List, [], _∷_, _++_}
+use Prim.Native.Nat.{ℕ}
+use Rattle.protocol.specs.Alphabet.{Alphabet}
+use Rattle.protocol.specs.Shape.{Shape, shapeOf, perTree, perOpened}
+use Rattle.protocol.specs.Sections.{lengths, commitLengths, hashLengths, batchLengths}
+use Rattle.protocol.specs.Answers.{Answer, Question, ask, allYes, Reply}
+use Rattle.protocol.specs.Questions.{ΔExact, hExact, χExact, namesFailing, q1, q2, q3, q4, q5, q6, q7, q8, q9, q10, q11, q12, q13, q14, q15}
+
+module _ (A : Alphabet) (key : List ℕ) where
+  abbrev pub s : Shape
+  s = shapeOf key
+
+  abbrev pub testQuestions : List ℕ → List Question
+  testQuestions x = q1 A s key ∷ q2 A s ∷ q3 A s key ∷ q4 A s key ∷ q9 A s x ∷ []
+
+  abbrev pub commitQuestions : List ℕ → List ℕ → List ℕ → List Question
+  commitQuestions leaves x out =
+      q1 A s key ∷ q2 A s ∷ q3 A s key ∷ q4 A s key ∷ q7 A s (perTree A) leaves ∷ q8 A s (perTree A) leaves ∷ q9 A s x ∷ q10 A s (commitLengths A s) out ∷ []
+
+  abbrev pub hashQuestions : List ℕ → List ℕ → List ℕ → List Question
+  hashQuestions leaves H′ out =
+      q1 A s key ∷ q2 A s ∷ q3 A s key ∷ q4 A s key ∷ q5 A s (hExact A s H′ ∷ []) ∷ q6 A s H′ ∷ q7 A s (perTree A) leaves ∷ q8 A s (perTree A) leaves
+      ∷ q10 A s (hashLengths A s) out ∷ []
+
+  abbrev pub batchQuestions : List ℕ → List ℕ → List ℕ → List ℕ → List Question
+  batchQuestions leaves x χ out =
+      q1 A s key ∷ q2 A s ∷ q3 A s key ∷ q4 A s key ∷ q5 A s (χExact A s χ ∷ []) ∷ q7 A s (perTree A) leaves ∷ q8 A s (perTree A) leaves ∷ q9 A s x
+      ∷ q10 A s (batchLengths A s) out ∷ []
+
+  abbrev pub proveQuestions : List ℕ → List ℕ → List ℕ → List ℕ → List ℕ → List Question
+  proveQuestions leaves x H′ χ out =
+      q1 A s key ∷ q2 A s ∷ q3 A s key ∷ q4 A s key ∷ q5 A s (hExact A s H′ ∷ χExact A s χ ∷ []) ∷ q6 A s H′ ∷ q7 A s (perTree A) leaves
+      ∷ q8 A s (perTree A) leaves ∷ q9 A s x ∷ q10 A s (lengths A s) out ∷ []
+
+  abbrev pub verifyQuestions : List ℕ → List ℕ → List ℕ → List ℕ → List ℕ → List Question
+  verifyQuestions Δ H′ χ opened proof =
+      q1 A s key ∷ q2 A s ∷ q3 A s key ∷ q4 A s key ∷ q5 A s (ΔExact A s Δ ∷ hExact A s H′ ∷ χExact A s χ ∷ []) ∷ q6 A s H′ ∷ q7 A s (perOpened A) opened
+      ∷ q8 A s (perOpened A) opened ∷ q12 A s proof ∷ q13 A s proof ∷ []
+
+  unfoldable pub testAnswer : List ℕ → ℕ → Answer
+  testAnswer x p = ask (testQuestions x ++ (q11 A s key x p ∷ []))
+
+  unfoldable pub commitAnswer : List ℕ → List ℕ → List ℕ → ℕ → Answer
+  commitAnswer leaves x out p = ask (commitQuestions leaves x out ++ (q11 A s key x p ∷ []))
+
+  unfoldable pub hashAnswer : List ℕ → List ℕ → List ℕ → Answer
+  hashAnswer leaves H′ out = ask (hashQuestions leaves H′ out)
+
+  unfoldable pub batchAnswer : List ℕ → List ℕ → List ℕ → List ℕ → ℕ → Answer
+  batchAnswer leaves x χ out p = ask (batchQuestions leaves x χ out ++ (q11 A s key x p ∷ []))
+
+  unfoldable pub proveAnswer : List ℕ → List ℕ → List ℕ → List ℕ → List ℕ → ℕ → Answer
+  proveAnswer leaves x H′ χ out p = ask (proveQuestions leaves x H′ χ out ++ (q11 A s key x p ∷ []))
+
+  unfoldable pub verifyAnswer : List ℕ → List ℕ → List ℕ → List ℕ → List ℕ → Answer
+  verifyAnswer Δ H′ χ opened proof = ask (verifyQuestions Δ H′ χ opened proof ++ (q14 A s Δ H′ opened proof ∷ q15 A s key Δ χ opened proof ∷ []))
+
+  unfoldable pub testForm : List ℕ → Bool
+  testForm x = allYes (testQuestions x)
+
+  unfoldable pub commitForm : List ℕ → List ℕ → List ℕ → Bool
+  commitForm leaves x out = allYes (commitQuestions leaves x out)
+
+  unfoldable pub batchForm : List ℕ → List ℕ → List ℕ → List ℕ → Bool
+  batchForm leaves x χ out = allYes (batchQuestions leaves x χ out)
+
+  unfoldable pub proveForm : List ℕ → List ℕ → List ℕ → List ℕ → List ℕ → Bool
+  proveForm leaves x H′ χ out = allYes (proveQuestions leaves x H′ χ out)
+
+  unfoldable pub verifyForm : List ℕ → List ℕ → List ℕ → List ℕ → List ℕ → Bool
+  verifyForm Δ H′ χ opened proof = allYes (verifyQuestions Δ H′ χ opened proof)
+
+  unfoldable pub honestForm : List ℕ → List ℕ → List ℕ → List ℕ → Bool
+  honestForm leaves x H′ χ =
+      allYes
+      (q1 A s key ∷ q2 A s ∷ q3 A s key ∷ q4 A s key ∷ q5 A s (hExact A s H′ ∷ χExact A s χ ∷ []) ∷ q6 A s H′ ∷ q7 A s (perTree A) leaves
+      ∷ q8 A s (perTree A) leaves ∷ q9 A s x ∷ [])
+
+  unfoldable pub wellFormed : List ℕ → List ℕ → List ℕ → List ℕ → Bool
+  wellFormed leaves H′ χ proof =
+      allYes
+      (q1 A s key ∷ q2 A s ∷ q3 A s key ∷ q4 A s key ∷ q5 A s (hExact A s H′ ∷ χExact A s χ ∷ []) ∷ q6 A s H′ ∷ q7 A s (perTree A) leaves
+      ∷ q8 A s (perTree A) leaves ∷ q12 A s proof ∷ q13 A s proof ∷ [])
+
+  abbrev pub TestReply : List ℕ → Answer → Type 0
+  TestReply x = Reply (testAnswer x) (namesFailing A s key x)
+
+  abbrev pub CommitReply : List ℕ → List ℕ → List ℕ → Answer → Type 0
+  CommitReply leaves x out = Reply (commitAnswer leaves x out) (namesFailing A s key x)
+
+  abbrev pub BatchReply : List ℕ → List ℕ → List ℕ → List ℕ → Answer → Type 0
+  BatchReply leaves x χ out = Reply (batchAnswer leaves x χ out) (namesFailing A s key x)
+
+  abbrev pub ProveReply : List ℕ → List ℕ → List ℕ → List ℕ → List ℕ → Answer → Type 0
+  ProveReply leaves x H′ χ out = Reply (proveAnswer leaves x H′ χ out) (namesFailing A s key x)

@@ -1,0 +1,111 @@
+-- The client's demands 2 and 3, sentence by sentence, over the names that the calls' contracts cite, at GF(256). proofs/Demands proves each.
+-- Well-formed is what 01 says: every question on form gets a yes. `wellFormed` and `verifyForm` are those questions.
+-- Assumes nothing.
+use mathlib.Core.Path.{_≡_}
+use mathlib.Core.Logic.{_≢_, _⊎_, _↔_}
+use mathlib.Core.Bool.{true}
+use mathlib.Core.List.{List, _++_, map}
+use Prim.Native.Nat.{ℕ, _-_, _^_, _<_}
+use lib.Dec.{eqb}
+use lib.ListN.{length}
+use Rattle.algebra.specs.Ring.{Ring}
+use Rattle.algebra.specs.Field.{Field}
+use Rattle.algebra.specs.Coded.{Coded}
+use Rattle.algebra.specs.Count.{count, same, product}
+use Rattle.algebra.specs.Strings.{strings}
+use Rattle.algebra.specs.Columns.{columnSum, zeroColumns}
+use Rattle.protocol.specs.Lists.{table}
+use Rattle.protocol.specs.Strings.{bytes}
+use Rattle.protocol.specs.Alphabet.{Alphabet}
+use Rattle.protocol.specs.Binary.{bits256}
+use Rattle.protocol.specs.Shape.{Shape, shapeOf}
+use Rattle.protocol.specs.Sections.{sectionsIn}
+use Rattle.protocol.specs.Forms.{χAt}
+use Rattle.protocol.specs.Prover.{commitBytes, hashBytes, batchBytes, proofOf}
+use Rattle.protocol.specs.Verifier.{batchedError}
+use Rattle.protocol.specs.Answers.{Answer, accepted, numberOf}
+use Rattle.protocol.specs.Questions.{solves, consistentIn, productIn}
+use Rattle.protocol.specs.Calls.{verifyAnswer, proveForm, honestForm, verifyForm, wellFormed, ProveReply}
+use Rattle.protocol.specs.Counting.{opening, acceptedCount, factor}
+use Rattle.protocol.specs.Statements.{SomeFails, errorOf}
+
+abbrev pub 𝟎 : bits256 .K .base .R .F
+𝟎 = bits256 .K .base .R .𝟘
+
+-- Demand 2. "The prover's every byte equals what the published protocol's equations give for that key, witness, leaves and challenges": `proofOf` is these
+-- bytes, and the contracts of the calls cite it. Here: the three steps' bytes, one after the other, are the whole call's.
+abbrev pub StepBytes : Type 0
+StepBytes = (key leaves x H′ χ : List ℕ) → commitBytes bits256 key leaves x ++ (hashBytes bits256 key leaves H′ ++ batchBytes bits256 key leaves x χ) ≡ proofOf bits256 key leaves x H′ χ
+
+-- "and, all else being well formed, a call given a witness of the right form refuses it exactly when some equation fails."
+-- `RefusedIff`: refused, and refused 11, exactly when some equation fails. The same of the test, of commit and of batch: `RefusesExactly`.
+abbrev pub RefusedExactlyWhen : Type 0
+RefusedExactlyWhen = (key leaves x H′ χ out : List ℕ) (a : Answer) → proveForm bits256 key leaves x H′ χ out ≡ true → ProveReply bits256 key leaves x H′ χ out a
+    → ((a ≢ accepted) ↔ SomeFails bits256 key x) × ((numberOf a ≡ 11) ↔ SomeFails bits256 key x)
+
+-- "Given well-formed input, the verifier accepts exactly when the published checks hold in every repetition."
+abbrev pub AcceptsExactlyWhen : Type 0
+AcceptsExactlyWhen = (key Δ H′ χ opened proof : List ℕ) → verifyForm bits256 key Δ H′ χ opened proof ≡ true
+    → (verifyAnswer bits256 key Δ H′ χ opened proof ≡ accepted)
+    ↔ ((e : ℕ) → e < shapeOf key .τ → (consistentIn bits256 (shapeOf key) Δ H′ opened proof e ≡ true) × (productIn bits256 (shapeOf key) key Δ χ opened proof e ≡ true))
+
+-- "So an honest proof is accepted at every challenge."
+abbrev pub HonestProofAccepted : Type 0
+HonestProofAccepted = (key leaves x H′ χ Δ : List ℕ) → honestForm bits256 key leaves x H′ χ ≡ true → solves bits256 (shapeOf key) key x ≡ true
+    → length Δ ≡ shapeOf key .τ → bytes Δ → verifyAnswer bits256 key Δ H′ χ (opening bits256 (shapeOf key) leaves Δ) (proofOf bits256 key leaves x H′ χ) ≡ accepted
+
+-- Demand 3. "Whatever well-formed key, full set of leaves, hash matrix, batching bytes and proof a stranger hands us,
+module _ (key leaves H′ χ proof : List ℕ) where
+  -- the count of challenge strings that the verifier accepts, the leaves opened anew for each, equals the product of one factor per repetition: the number
+  -- of challenge bytes at which both published checks hold there."
+  abbrev pub CountEqualsProduct : Type 0
+  CountEqualsProduct = acceptedCount bits256 key leaves H′ χ proof ≡ product (shapeOf key .τ) (factor bits256 key leaves H′ χ proof)
+
+  -- Counted are all Δ of τ bytes: each stands exactly once among the strings that are counted, and they are 256^τ.
+  abbrev pub EveryChallengeOnce : Type 0
+  EveryChallengeOnce = (Δ : List ℕ) → length Δ ≡ shapeOf key .τ → bytes Δ → count (λ z. same eqb (map (bits256 .K .byte) z) Δ) (strings (bits256 .K .base) (shapeOf key .τ)) ≡ 1
+
+  abbrev pub ChallengesInAll : Type 0
+  ChallengesInAll = length (strings (bits256 .K .base) (shapeOf key .τ)) ≡ 256 ^ (shapeOf key .τ)
+
+  -- "Each factor is 0, 1, 2 or 256."
+  abbrev pub EachFactor : Type 0
+  EachFactor = (e : ℕ) → e < shapeOf key .τ
+      → (factor bits256 key leaves H′ χ proof e ≡ 0) ⊎ ((factor bits256 key leaves H′ χ proof e ≡ 1) ⊎ ((factor bits256 key leaves H′ χ proof e ≡ 2) ⊎ (factor bits256 key leaves H′ χ proof e ≡ 256)))
+
+  -- "If the count exceeds 2 to the number of repetitions, some factor is 256;
+  abbrev pub LargeCountNeedsFull : Type 0
+  LargeCountNeedsFull = 2 ^ (shapeOf key .τ) < acceptedCount bits256 key leaves H′ χ proof → (e : ℕ) × (e < shapeOf key .τ) × (factor bits256 key leaves H′ χ proof e ≡ 256)
+
+  -- and wherever one is, the leaves and corrections spell for that repetition a candidate witness whose equation errors, each times its batching byte, sum
+  -- to zero." The candidate need not solve the system: a batching byte that is zero hides an error.
+  abbrev pub FullSpellsCandidate : Type 0
+  FullSpellsCandidate = (e : ℕ) → e < shapeOf key .τ → factor bits256 key leaves H′ χ proof e ≡ 256 → batchedError bits256 (shapeOf key) key χ leaves (sectionsIn bits256 (shapeOf key) proof) e ≡ 𝟎
+
+  -- "that sum": of the errors, each times the entry of a column, here the column of χ for repetition e.
+  abbrev pub ThatSum : Type 0
+  ThatSum = (e : ℕ) → batchedError bits256 (shapeOf key) key χ leaves (sectionsIn bits256 (shapeOf key) proof) e
+      ≡ columnSum (bits256 .K .base) (shapeOf key .m) (table (shapeOf key .m) (χAt bits256 (shapeOf key) χ e)) (errorOf bits256 key leaves proof e)
+
+  -- "For the candidate of every repetition, whatever its factor, exactly 256 to the power m−1 of all batching columns for m equations make that sum zero if
+  -- it fails any equation,
+  abbrev pub ColumnsIfFailing : Type 0
+  ColumnsIfFailing = (e i : ℕ) → i < shapeOf key .m → errorOf bits256 key leaves proof e i ≢ 𝟎
+      → zeroColumns (bits256 .K .base) (shapeOf key .m) (errorOf bits256 key leaves proof e) ≡ 256 ^ (shapeOf key .m - 1)
+
+  -- and all of them if it fails none."
+  abbrev pub ColumnsIfSolving : Type 0
+  ColumnsIfSolving = (e : ℕ) → ((i : ℕ) → i < shapeOf key .m → errorOf bits256 key leaves proof e i ≡ 𝟎)
+      → zeroColumns (bits256 .K .base) (shapeOf key .m) (errorOf bits256 key leaves proof e) ≡ 256 ^ (shapeOf key .m)
+
+  -- Four statements are of what is well-formed; the others hold of anything.
+  pub record Demand3 : Type 0 where
+    pub count-equals-product : wellFormed bits256 key leaves H′ χ proof ≡ true → CountEqualsProduct
+    pub each-factor : wellFormed bits256 key leaves H′ χ proof ≡ true → EachFactor
+    pub large-count-needs-full : wellFormed bits256 key leaves H′ χ proof ≡ true → LargeCountNeedsFull
+    pub full-spells-candidate : wellFormed bits256 key leaves H′ χ proof ≡ true → FullSpellsCandidate
+    pub every-challenge-once : EveryChallengeOnce
+    pub challenges-in-all : ChallengesInAll
+    pub that-sum : ThatSum
+    pub columns-if-failing : ColumnsIfFailing
+    pub columns-if-solving : ColumnsIfSolving

@@ -1,0 +1,51 @@
+-- The sizes: what a key's header says, the limits, and what is derived from them.
+--   n variables, m equations, τ repetitions, t hash rows;  shapeOf key == the sizes in the header of a key;  limits s == they are in range
+--   within most x == 1 ≤ x ≤ most;  maskAt A s e == the first mask coordinate of repetition e
+--   kOf == 01's k = n + 8, the coordinates that H′ covers;  lOf == L = k + t, all coordinates;  wOf == w = ⌈L/8⌉, the bytes of a leaf
+--   perTree == the leaves of a tree, 256;  perOpened == those of an opened tree, 255
+-- Assumes nothing.
+use mathlib.Core.Bool.{Bool, _&&_}
+use mathlib.Core.List.{List, [], _∷_}
+use Prim.Native.Nat.{ℕ, _+_, _-_}
+use lib.Dec.{leb}
+use Rattle.algebra.specs.Field.{Field}
+use Rattle.algebra.specs.Coded.{Coded}
+use Rattle.protocol.specs.Lists.{allTrue}
+use Rattle.protocol.specs.Frames.{num2}
+use Rattle.protocol.specs.Alphabet.{Alphabet}
+
+pub record Shape : Type 0 where
+  pub n : ℕ
+  pub m : ℕ
+  pub τ : ℕ
+  pub t : ℕ
+
+abbrev pub shapeOf : List ℕ → Shape
+shapeOf key = record { n = num2 key 0; m = num2 key 2; τ = num2 key 4; t = num2 key 6 }
+
+unfoldable pub within : ℕ → ℕ → Bool
+within most x = leb 1 x && leb x most
+
+unfoldable pub limits : Shape → Bool
+limits s = allTrue (within 160 (s .n) ∷ within 160 (s .m) ∷ within 48 (s .τ) ∷ within 160 (s .t) ∷ [])
+
+module _ (A : Alphabet) where
+  unfoldable pub perTree : ℕ
+  perTree = A .K .base .size
+
+  unfoldable pub perOpened : ℕ
+  perOpened = perTree - 1
+
+  module _ (s : Shape) where
+    -- the mask coordinates serve every repetition
+    unfoldable pub maskAt : ℕ → ℕ
+    maskAt e = s .n
+
+    unfoldable pub kOf : ℕ
+    kOf = s .n + A .masks
+
+    unfoldable pub lOf : ℕ
+    lOf = kOf + s .t
+
+    unfoldable pub wOf : ℕ
+    wOf = A .width lOf
