@@ -1,6 +1,7 @@
 pub mod Lists
 pub mod Strings
 pub mod Frames
+pub mod Reader
 pub mod Alphabet
 pub mod Binary
 pub mod Shape

@@ -1,0 +1,78 @@
+// The answers of the calls, and where a section stands, in the forms that 01 names.
+ghost use mathlib.Core.Path.{_≡_};
+ghost use Prim.Native.Nat.{_<_};
+ghost use Rattle.protocol.specs.Answers.{word};
+ghost use Rattle.format.specs.Verdict.{numberFor, answerOf};
+
+// Why a call refuses: one case for each question of 01.
+pub enum Reason {
+    ShortHeader,
+    SizeOutOfRange,
+    KeyLength,
+    KeySpareBit,
+    ChallengeLength,
+    HashSpareBit,
+    LeafLength,
+    LeafSpareBit,
+    WitnessForm,
+    OutputLength,
+    EquationFails,
+    ProofLength,
+    ProofSpareBit,
+    Inconsistent,
+    ProductDiffers,
+}
+
+// A number and a place held together.
+pub struct Refusal {
+    pub reason: Reason,
+    pub place: u16,
+}
+
+// What a call answers.
+pub enum Verdict {
+    Accepted,
+    Refused(Refusal),
+}
+
+// Where a section's bytes start and end, or that it is not there whole.
+pub enum Span {
+    At { start: usize, end: usize },
+    Missing,
+}
+
+// The number that 01 gives a question.
+pub fn number(reason: Reason) -> u32
+    ensures { λ r. ⌜ (r ≡ numberFor reason) × (r < 16) ⌝ }
+{
+    match reason {
+        Reason::ShortHeader => 1,
+        Reason::SizeOutOfRange => 2,
+        Reason::KeyLength => 3,
+        Reason::KeySpareBit => 4,
+        Reason::ChallengeLength => 5,
+        Reason::HashSpareBit => 6,
+        Reason::LeafLength => 7,
+        Reason::LeafSpareBit => 8,
+        Reason::WitnessForm => 9,
+        Reason::OutputLength => 10,
+        Reason::EquationFails => 11,
+        Reason::ProofLength => 12,
+        Reason::ProofSpareBit => 13,
+        Reason::Inconsistent => 14,
+        Reason::ProductDiffers => 15,
+    }
+}
+
+// What the schools' server receives: number × 65,536 + place, 0 for accepted.
+pub fn word_of(verdict: Verdict) -> u32
+    ensures { λ r. ⌜ r ≡ word (answerOf verdict) ⌝ }
+{
+    match verdict {
+        Verdict::Accepted => 0,
+        Verdict::Refused(refusal) => {
+            let reason = refusal.reason;
+            number(reason) * 65536 + refusal.place as u32
+        }
+    }
+}
