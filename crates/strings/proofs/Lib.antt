@@ -1,0 +1,5 @@
+pub mod XorLaws
+pub mod SumLaws
+pub mod Elementwise
+pub mod Rows
+pub mod Meaning

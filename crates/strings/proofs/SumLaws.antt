@@ -1,0 +1,43 @@
+-- Laws of sums: one term more, a part after a part, terms that agree, terms past an end that are 0; and a term times a bit, which a loop adds under a test.
+-- Assumes nothing.
+use Prim.Native.Nat.{ℕ, zero, suc, _+_, _*_, _≤_, _<_}
+use mathlib.Core.Path.{_≡_, refl, sym, ap, ap₂, _∙_}
+use native.Mathlib.Nat.{add-suc, add-zero, one-mul, zero-mul}
+use native.Mathlib.Numerals.{add-one}
+use native.Mathlib.Omega.{arith}
+use lib.Bits.{bitXor, xor-zero-r}
+use Rattle.strings.specs.Sums.{xorSum}
+use Rattle.strings.proofs.XorLaws.{xor-assoc}
+
+pub sum-more : (n : ℕ) (f : ℕ → ℕ) → xorSum (n + 1) f ≡ bitXor (xorSum n f) (f n)
+unfolding xorSum
+sum-more n f = rw add-one
+
+pub sum-same : (n : ℕ) (f g : ℕ → ℕ) → ((i : ℕ) → i < n → f i ≡ g i) → xorSum n f ≡ xorSum n g
+unfolding xorSum
+sum-same zero f g h = refl
+sum-same (suc k) f g h = ap₂ bitXor (sum-same k f g (λ i hi. h i (omega arith))) (h k (omega arith))
+
+pub sum-parts : (n k : ℕ) (f : ℕ → ℕ) → xorSum (n + k) f ≡ bitXor (xorSum n f) (xorSum k (λ s. f (n + s)))
+unfolding xorSum
+sum-parts n zero f = rw add-zero (sym (xor-zero-r (xorSum n f)))
+sum-parts n (suc k) f =
+    rw add-suc (ap (λ (x : ℕ). bitXor x (f (n + k))) (sum-parts n k f) ∙ xor-assoc (xorSum n f) (xorSum k (λ s. f (n + s))) (f (n + k)))
+
+pub sum-past : (n k : ℕ) (f : ℕ → ℕ) → ((s : ℕ) → f (n + s) ≡ 0) → xorSum (n + k) f ≡ xorSum n f
+unfolding xorSum
+sum-past n zero f h = rw add-zero
+sum-past n (suc k) f h = rw add-suc (ap₂ bitXor (sum-past n k f h) (h k) ∙ xor-zero-r (xorSum n f))
+
+-- a sum in a running total, and one term more
+pub sum-step : (a v n : ℕ) (f : ℕ → ℕ) → v ≡ bitXor a (xorSum n f) → bitXor v (f n) ≡ bitXor a (xorSum (n + 1) f)
+sum-step a v n f h = rw (h, sum-more) (xor-assoc a (xorSum n f) (f n))
+
+-- a total to which x was added under a test of the bit q
+pub bit-added : (v q x : ℕ) → q ≡ 1 → bitXor v x ≡ bitXor v (q * x)
+bit-added v q x h = rw (h, one-mul)
+
+pub bit-left : (v q x : ℕ) → q < 2 → (q ≡ 1 → ⊥) → v ≡ bitXor v (q * x)
+bit-left v zero x h k = rw zero-mul (sym (xor-zero-r v))
+bit-left v (suc zero) x h k = absurd (k refl)
+bit-left v (suc (suc q)) x h k = absurd (omega arith)

@@ -1,0 +1,74 @@
+// Byte strings as the code walks them: sums in place, rows of a table, spare bits, and the product of two rows of bits.
+ghost use mathlib.Core.Path.{_≡_};
+ghost use Prim.Native.Nat.{ℕ, _+_, _*_, _<_, _≤_};
+ghost use lib.ListN.{length};
+ghost use lib.Bits.{bitXor};
+ghost use Rattle.protocol.specs.Lists.{blockAt};
+ghost use Rattle.strings.specs.Sums.{byteAt};
+
+// dst[i] ^= src[i], for each i.
+pub fn xor_into(dst: &mut [u8], src: &[u8])
+    requires { ⌜ length (now src) ≡ length (now dst) ⌝ }
+    ensures { λ _. ⌜ ((i : ℕ) → i < length (now (dst .entry)) → byteAt (now (dst .exit)) i ≡ bitXor (byteAt (now (dst .entry)) i) (byteAt (now (src .entry)) i)) ⌝ }
+{
+    let mut i = 0;
+    while i < dst.len() {
+        dst[i] ^= src[i];
+        i += 1;
+    }
+}
+
+// dst[i] ^= a[i] ^ b[i], for each i.
+pub fn xor_two_into(dst: &mut [u8], a: &[u8], b: &[u8])
+    requires { ⌜ (length (now a) ≡ length (now dst)) × (length (now b) ≡ length (now dst)) ⌝ }
+    ensures { λ _. ⌜ ((i : ℕ) → i < length (now (dst .entry)) → byteAt (now (dst .exit)) i ≡ bitXor (byteAt (now (dst .entry)) i) (bitXor (byteAt (now (a .entry)) i) (byteAt (now (b .entry)) i))) ⌝ }
+{
+    let mut i = 0;
+    while i < dst.len() {
+        dst[i] ^= a[i] ^ b[i];
+        i += 1;
+    }
+}
+
+// Each byte is 0.
+pub fn clear(dst: &mut [u8])
+    ensures { λ _. ⌜ ((i : ℕ) → i < length (now (dst .entry)) → byteAt (now (dst .exit)) i ≡ 0) ⌝ }
+{
+    let mut i = 0;
+    while i < dst.len() {
+        dst[i] = 0;
+        i += 1;
+    }
+}
+
+// dst becomes src.
+pub fn copy_into(dst: &mut [u8], src: &[u8])
+    requires { ⌜ length (now src) ≡ length (now dst) ⌝ }
+    ensures { λ _. ⌜ now (dst .exit) ≡ now (src .entry) ⌝ }
+{
+    let mut i = 0;
+    while i < dst.len() {
+        dst[i] = src[i];
+        i += 1;
+    }
+}
+
+// Row i of a table, as that part of it.
+pub fn row_at(table: &[u8], width: usize, i: usize) -> &[u8]
+    requires { ⌜ i * width + width ≤ length (now table) ⌝ }
+    ensures { λ r. ⌜ (now r ≡ blockAt (now (table .entry)) width i) × (length (now r) ≡ width) ⌝ }
+{
+    let from = i * width;
+    &table[from..from + width]
+}
+
+// Adds src to row i of a table whose rows are as long as src, and leaves the other rows.
+pub fn xor_row(table: &mut [u8], i: usize, src: &[u8])
+    requires { ⌜ i * length (now src) + length (now src) ≤ length (now table) ⌝ }
+    ensures { λ _. ⌜ ((b : ℕ) → b < length (now (src .entry)) → byteAt (now (table .exit)) (i * length (now (src .entry)) + b) ≡ bitXor (byteAt (now (table .entry)) (i * length (now (src .entry)) + b)) (byteAt (now (src .entry)) b)) ⌝ }
+    ensures { λ _. ⌜ ((q b : ℕ) → (q ≡ i → ⊥) → b < length (now (src .entry)) → byteAt (now (table .exit)) (q * length (now (src .entry)) + b) ≡ byteAt (now (table .entry)) (q * length (now (src .entry)) + b)) ⌝ }
+{
+    let w = src.len();
+    let at = i * w;
+    xor_into(&mut table[at..at + w], src);
+}
