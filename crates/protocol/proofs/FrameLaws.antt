@@ -2,15 +2,16 @@
 -- Assumes nothing.
 use mathlib.Core.Path.{_≡_, refl, sym, ap, ap₂, _∙_}
 use mathlib.Core.Bool.{Bool, true, _&&_}
-use mathlib.Core.List.{List, [], _∷_, _++_, map}
+use mathlib.Core.List.{List, [], _∷_, _++_, map, append-assoc}
 use Prim.Native.Nat.{ℕ, zero, suc, _+_, _*_, _/_, _%_, _≤_, _<_}
 use native.Mathlib.Nat.{div-div-eq-div-mul}
 use native.Mathlib.Omega.{arith}
 use lib.Dec.{eqb, leb}
 use lib.ListN.{length, getD, take, drop, length-append}
+use lib.Seq.{take-at}
 use Rattle.protocol.specs.Frames.{num2, num4, count4, frame, framed, sectionNo, framedLength}
 use Rattle.protocol.proofs.TestLaws.{eqb-same, leb-yes, both-true}
-use Rattle.protocol.proofs.ListLaws.{take-append, drop-append, append-assoc}
+use Rattle.protocol.proofs.ListLaws.{drop-append}
 
 digits : (x y z t : ℕ) → y ≡ x / 256 → z ≡ y / 256 → t ≡ z / 256 → x < 4294967296 → x % 256 + y % 256 * 256 + (z % 256 + t % 256 * 256) * 65536 ≡ x
 digits x y z t a b c h = omega (arith, last)
@@ -42,7 +43,7 @@ fits x s t = omega (arith, length-append s t)
 
 take-front : (x : ℕ) (s t : List ℕ) → take (length s) (drop 4 (count4 x ++ (s ++ t))) ≡ s
 unfolding count4
-take-front x s t = take-append s t (length s) refl
+take-front x s t = take-at s t (length s) refl
 
 pub frame-framed : (ss : List (List ℕ)) → Short ss → framed (map length ss) (frame ss) ≡ true
 unfolding framed frame
@@ -63,8 +64,8 @@ pub frame-append : (ss ts : List (List ℕ)) → frame ss ++ frame ts ≡ frame 
 unfolding frame
 frame-append [] ts = refl
 frame-append (s ∷ ss) ts =
-    sym (append-assoc (count4 (length s)) (s ++ frame ss) (frame ts))
-    ∙ ap (λ r. count4 (length s) ++ r) (sym (append-assoc s (frame ss) (frame ts)) ∙ ap (λ r. s ++ r) (frame-append ss ts))
+    append-assoc (count4 (length s)) (s ++ frame ss) (frame ts)
+    ∙ ap (λ r. count4 (length s) ++ r) (append-assoc s (frame ss) (frame ts) ∙ ap (λ r. s ++ r) (frame-append ss ts))
 
 length-count4 : (x : ℕ) → length (count4 x) ≡ 4
 unfolding count4

@@ -1,13 +1,14 @@
--- Laws of lists cut in blocks, of tables, and of lists that agree at each index.
+-- Laws of lists cut in blocks, and of tables.
 --   Each w ss == each string of ss has w entries;  Cut w n P s == s is n blocks of w entries, each of which passes the test P
 -- Assumes nothing.
 use mathlib.Core.Path.{_≡_, refl, sym, ap, ap₂, _∙_}
 use mathlib.Core.Bool.{Bool, true}
-use mathlib.Core.List.{List, [], _∷_, _++_, map}
+use mathlib.Core.List.{List, [], _∷_, _++_, map, append-nil, append-assoc}
 use Prim.Native.Nat.{ℕ, zero, suc, _+_, _*_, _≤_, _<_}
 use native.Mathlib.Nat.{suc-mul, zero-mul, min-eq-left, mul-le-mul, le-refl}
 use native.Mathlib.Omega.{arith}
 use lib.ListN.{length, getD, take, drop, length-append, length-take, length-drop}
+use lib.Seq.{take-at, getD-take, getD-drop}
 use Rattle.protocol.specs.Lists.{part, blockAt, concat, table}
 
 pub row-end : (i n w : ℕ) → i < n → i * w + w ≤ n * w
@@ -17,47 +18,15 @@ pub length-block : (s : List ℕ) (w i : ℕ) → i * w + w ≤ length s → len
 unfolding blockAt part
 length-block s w i h = length-take w (drop (i * w) s) ∙ rw (length-drop (i * w) s) (min-eq-left (omega arith))
 
-pub take-append : {A : Type 0} (s t : List A) (w : ℕ) → length s ≡ w → take w (s ++ t) ≡ s
-take-append [] t zero h = refl
-take-append [] t (suc w) h = absurd (omega arith)
-take-append (x ∷ s) t zero h = absurd (omega arith)
-take-append (x ∷ s) t (suc w) h = ap (λ r. x ∷ r) (take-append s t w (omega arith))
-
 pub drop-append : {A : Type 0} (s t : List A) (w k : ℕ) → length s ≡ w → drop (w + k) (s ++ t) ≡ drop k t
 drop-append [] t w k h = let e : w + k ≡ k = omega arith in rw e
 drop-append (x ∷ s) t w k h =
     let e : w + k ≡ suc (length s + k) = omega arith in
     rw e (drop-append s t (length s) k refl)
 
-pub getD-take : (l : List ℕ) (w b : ℕ) → b < w → getD (take w l) b 0 ≡ getD l b 0
-getD-take l zero b h = absurd (omega arith)
-getD-take [] (suc w) b h = refl
-getD-take (x ∷ l) (suc w) zero h = refl
-getD-take (x ∷ l) (suc w) (suc b) h = getD-take l w b (omega arith)
-
-pub getD-drop : (l : List ℕ) (k b : ℕ) → getD (drop k l) b 0 ≡ getD l (k + b) 0
-getD-drop l zero b = let e : b ≡ 0 + b = omega arith in ap (λ i. getD l i 0) e
-getD-drop [] (suc k) b = refl
-getD-drop (x ∷ l) (suc k) b = let e : suc (k + b) ≡ suc k + b = omega arith in getD-drop l k b ∙ ap (λ i. getD (x ∷ l) i 0) e
-
 pub block-getD : (s : List ℕ) (w i b : ℕ) → b < w → getD (blockAt s w i) b 0 ≡ getD s (i * w + b) 0
 unfolding blockAt part
-block-getD s w i b h = getD-take (drop (i * w) s) w b h ∙ getD-drop s (i * w) b
-
--- lists of one length that agree at each index
-pub list-eq : (s t : List ℕ) → length s ≡ length t → ((i : ℕ) → i < length s → getD s i 0 ≡ getD t i 0) → s ≡ t
-list-eq [] [] h e = refl
-list-eq [] (y ∷ t) h e = absurd (omega arith)
-list-eq (x ∷ s) [] h e = absurd (omega arith)
-list-eq (x ∷ s) (y ∷ t) h e = ap₂ _∷_ (e 0 (omega arith)) (list-eq s t (omega arith) (λ i l. e (suc i) (omega arith)))
-
-pub append-nil : (s : List ℕ) → s ++ [] ≡ s
-append-nil [] = refl
-append-nil (x ∷ s) = ap (λ r. x ∷ r) (append-nil s)
-
-pub append-assoc : (a b c : List ℕ) → a ++ (b ++ c) ≡ (a ++ b) ++ c
-append-assoc [] b c = refl
-append-assoc (x ∷ a) b c = ap (λ r. x ∷ r) (append-assoc a b c)
+block-getD s w i b h = getD-take w (drop (i * w) s) b 0 h ∙ getD-drop (i * w) s b 0
 
 -- ---- blocks put together
 
@@ -68,7 +37,7 @@ Each w (s ∷ ss) = (length s ≡ w) × Each w ss
 pub block-concat : (w : ℕ) (ss : List (List ℕ)) → Each w ss → (i : ℕ) → i < length ss → blockAt (concat ss) w i ≡ getD ss i []
 unfolding blockAt part concat
 block-concat w [] h i l = absurd (omega arith)
-block-concat w (s ∷ ss) h zero l = rw (zero-mul w) (take-append s (concat ss) w (h .0))
+block-concat w (s ∷ ss) h zero l = rw (zero-mul w) (take-at s (concat ss) w (h .0))
 block-concat w (s ∷ ss) h (suc i) l =
     let e : suc i * w ≡ w + i * w = omega (arith, suc-mul i w) in
     rw (e, drop-append s (concat ss) w (i * w) (h .0)) (block-concat w ss (h .1) i (omega arith))
@@ -128,7 +97,7 @@ each-append w (s ∷ ss) ts a b = (a .0, each-append w ss ts (a .1) b)
 concat-append : (ss ts : List (List ℕ)) → concat (ss ++ ts) ≡ concat ss ++ concat ts
 unfolding concat
 concat-append [] ts = refl
-concat-append (s ∷ ss) ts = ap (λ r. s ++ r) (concat-append ss ts) ∙ append-assoc s (concat ss) (concat ts)
+concat-append (s ∷ ss) ts = ap (λ r. s ++ r) (concat-append ss ts) ∙ sym (append-assoc s (concat ss) (concat ts))
 
 passes-append : (P : List ℕ → Bool) (ss ts : List (List ℕ)) → ((i : ℕ) → i < length ss → P (getD ss i []) ≡ true) → ((i : ℕ) → i < length ts → P (getD ts i []) ≡ true)
     → (i : ℕ) → i < length (ss ++ ts) → P (getD (ss ++ ts) i []) ≡ true

@@ -11,10 +11,11 @@ use lib.Arith.{lt-one}
 use lib.Dec.{eqb, ltb, lit<}
 use lib.Pow.{shr-shr}
 use lib.ListN.{length, getD}
+use lib.Seq.{ext-getD}
 use Rattle.protocol.specs.Lists.{table, allBelow}
 use Rattle.protocol.specs.Strings.{bytesFor, bit, fromBits, pack, spareZero, bytes}
 use Rattle.protocol.proofs.TestLaws.{eqb-same, eqb-eq, ltb-yes, ltb-no, all-of, all-at}
-use Rattle.protocol.proofs.ListLaws.{length-table, table-at, list-eq}
+use Rattle.protocol.proofs.ListLaws.{length-table, table-at}
 
 pub bit-lt : (s : List ℕ) (c : ℕ) → bit s c < 2
 unfolding bit
@@ -112,7 +113,7 @@ byte-is L s z i l b =
 pub string-is : (L : ℕ) (s : List ℕ) → length s ≡ bytesFor L → bytes s → spareZero s L ≡ true → pack L (bit s) ≡ s
 unfolding pack
 string-is L s h b z =
-    list-eq _ s (n ∙ sym h)
+    ext-getD 0 _ s (n ∙ sym h)
     (λ i l. let k : i < bytesFor L = omega (arith, n, l) in let j : i < length s = omega (arith, k, h) in
     table-at (bytesFor L) (λ b. fromBits 8 (λ i. cond (ltb (b * 8 + i) L) (bit s (b * 8 + i)) 0)) 0 i k ∙ byte-is L s z i j (b i j))
   where
