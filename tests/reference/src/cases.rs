@@ -1,0 +1,148 @@
+//! Random cases for tests. Nothing here is in 01 but the layout of what is made.
+
+use crate::field::{Field, GF256};
+use crate::key::{sections, Key, Shape};
+use crate::leaves::open_leaves;
+use crate::strings::{bytes_for, pack, unpack, write_section};
+
+/// splitmix64, a small generator of deterministic numbers.
+#[derive(Clone, Debug)]
+pub struct Random {
+    state: u64,
+}
+
+impl Random {
+    pub fn new(seed: u64) -> Random {
+        Random { state: seed }
+    }
+
+    pub fn number(&mut self) -> u64 {
+        self.state = self.state.wrapping_add(0x9E37_79B9_7F4A_7C15);
+        let mut z = self.state;
+        z = (z ^ (z >> 30)).wrapping_mul(0xBF58_476D_1CE4_E5B9);
+        z = (z ^ (z >> 27)).wrapping_mul(0x94D0_49BB_1331_11EB);
+        z ^ (z >> 31)
+    }
+
+    /// A number below `bound`.
+    pub fn below(&mut self, bound: usize) -> usize {
+        (self.number() % bound as u64) as usize
+    }
+
+    /// A string of so many random bits, spare bits 0.
+    pub fn string(&mut self, bits: usize) -> Vec<u8> {
+        let mut vector = Vec::new();
+        for _ in 0..bits {
+            vector.push((self.number() >> 63) as u8);
+        }
+        pack(&vector)
+    }
+
+    /// So many strings one after another, each of so many random bits, spare bits 0.
+    pub fn strings(&mut self, how_many: usize, bits: usize) -> Vec<u8> {
+        let mut strings = Vec::new();
+        for _ in 0..how_many {
+            strings.extend_from_slice(&self.string(bits));
+        }
+        strings
+    }
+
+    /// So many random elements of the field.
+    pub fn elements(&mut self, field: &Field, how_many: usize) -> Vec<u8> {
+        let mut elements = Vec::new();
+        for _ in 0..how_many {
+            elements.push(self.below(field.size) as u8);
+        }
+        elements
+    }
+}
+
+/// All inputs of an honest proof.
+#[derive(Clone, Debug)]
+pub struct Case {
+    pub shape: Shape,
+    pub key: Vec<u8>,
+    pub witness: Vec<u8>,
+    pub leaves: Vec<u8>,
+    pub h: Vec<u8>,
+    pub chi: Vec<u8>,
+    pub delta: Vec<u8>,
+}
+
+impl Case {
+    /// The key of this case, read.
+    pub fn read_key(&self) -> Key<'_> {
+        sections(self.shape, &self.key).unwrap()
+    }
+
+    /// The opened leaves at this case's Δ.
+    pub fn opened(&self) -> Vec<u8> {
+        open_leaves(&self.shape, &self.leaves, &self.delta)
+    }
+
+    /// The length of the whole proof: "24 bytes more than these together."
+    pub fn proof_length(&self) -> usize {
+        24 + self.shape.proof_sections().iter().sum::<usize>()
+    }
+}
+
+/// The bytes of a key with the given sections.
+pub fn key_bytes(shape: &Shape, a: &[u8], b: &[u8], y: &[u8]) -> Vec<u8> {
+    let mut key = Vec::new();
+    for number in [shape.n, shape.m, shape.tau, shape.t] {
+        key.push((number % 256) as u8);
+        key.push((number / 256) as u8);
+    }
+    write_section(&mut key, a);
+    write_section(&mut key, b);
+    write_section(&mut key, y);
+    key
+}
+
+/// A random case over GF(256): A, b and x at random, y so that x solves; leaves, H′, χ, Δ at
+/// random, spare bits 0.
+pub fn case(seed: u64, n: usize, m: usize, tau: usize, t: usize) -> Case {
+    case_over(GF256, seed, n, m, tau, t)
+}
+
+/// The same over any field.
+pub fn case_over(field: Field, seed: u64, n: usize, m: usize, tau: usize, t: usize) -> Case {
+    let shape = Shape {
+        field,
+        n,
+        m,
+        tau,
+        t,
+    };
+    let mut random = Random::new(seed);
+    let a = random.strings(m * n, n);
+    let b = random.strings(m, n);
+    let witness = random.string(n);
+    let x = unpack(&witness, n);
+    // With y = 0 an equation's error is its left side, which is then taken for y.
+    let zero = vec![0; bytes_for(m)];
+    let with_zero = Key {
+        shape,
+        a: &a,
+        b: &b,
+        y: &zero,
+    };
+    let mut y = Vec::new();
+    for i in 0..m {
+        y.push(with_zero.error(i, &x));
+    }
+    let key = key_bytes(&shape, &a, &b, &pack(&y));
+    let leaves = random.strings(tau * field.size, shape.l());
+    let h = random.strings(t, shape.k());
+    let chi = random.elements(&field, shape.chi_length());
+    let delta = random.elements(&field, shape.delta_length());
+    Case {
+        shape,
+        key,
+        witness,
+        leaves,
+        h,
+        chi,
+        delta,
+    }
+}

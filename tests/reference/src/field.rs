@@ -1,0 +1,86 @@
+//! The field K and its elements.
+
+/// "The field's size, modulus and degree belong to the field, not to each caller."
+///
+/// An element is a byte below `size`. The modulus is written as a number whose bit s is the
+/// coefficient of X^s. The equations of the other files take the field as a parameter ("Facts
+/// common to fields are shown with the field as a parameter"); the calls use `GF256`.
+#[derive(Clone, Copy, Debug, PartialEq, Eq)]
+pub struct Field {
+    pub size: usize,
+    pub modulus: usize,
+    pub degree: usize,
+}
+
+/// "K is GF(256) with the modulus X^8+X^4+X^3+X+1 of FIPS 197".
+pub const GF256: Field = Field {
+    size: 256,
+    modulus: 0b1_0001_1011,
+    degree: 8,
+};
+
+/// GF(16) with the modulus X^4+X+1. Not in 01; only the second file of vectors uses it.
+pub const GF16: Field = Field {
+    size: 16,
+    modulus: 0b1_0011,
+    degree: 4,
+};
+
+/// "α is 02."
+pub const ALPHA: u8 = 0x02;
+
+/// "a byte is an element, a sum is exclusive or."
+pub fn add(a: u8, b: u8) -> u8 {
+    a ^ b
+}
+
+/// A bit times an element of K, as in "j·ℓ(e,j) over K, coordinate by coordinate": the element where
+/// the bit is 1, else 0.
+pub fn bit_times(bit: u8, element: u8) -> u8 {
+    if bit == 1 {
+        element
+    } else {
+        0
+    }
+}
+
+impl Field {
+    /// The product in K, "with the modulus X^8+X^4+X^3+X+1 of FIPS 197" when the field is `GF256`.
+    ///
+    /// a·b = Σ b[s]·(a·X^s), where a·X^(s+1) is a·X^s doubled and, once the degree is reached,
+    /// reduced by the modulus.
+    pub fn mul(&self, a: u8, b: u8) -> u8 {
+        let mut product: usize = 0;
+        let mut shifted: usize = a as usize;
+        for s in 0..self.degree {
+            if (b >> s) & 1 == 1 {
+                product ^= shifted;
+            }
+            shifted *= 2;
+            if shifted >= self.size {
+                shifted ^= self.modulus;
+            }
+        }
+        product as u8
+    }
+
+    /// α^s: "α is 02."
+    pub fn alpha_to(&self, s: usize) -> u8 {
+        let mut power = 1;
+        for _ in 0..s {
+            power = self.mul(power, ALPHA);
+        }
+        power
+    }
+
+    /// The mask element of a vector z, Σ α^s·z[n+s], with u, v_e or W_e put for z: "A*₁ = Σ α^s·u[n+s],
+    /// A*₀,e = Σ α^s·v_e[n+s], s = 0..7"; "Σ α^s·W_e[n+s], s = 0..7". In any field, s is below its
+    /// degree.
+    pub fn mask(&self, n: usize, z: &[u8]) -> u8 {
+        let mut sum = 0;
+        for s in 0..self.degree {
+            sum = add(sum, self.mul(self.alpha_to(s), z[n + s]));
+        }
+        sum
+    }
+}

@@ -1,0 +1,210 @@
+//! The key, its shape, and its equations at a point.
+
+use crate::field::{add, bit_times, Field};
+use crate::strings::{bytes_for, coordinate, exact_sections, spare_bits_are_0, two_bytes};
+
+/// "n variables 1..160, m equations 1..160, τ repetitions 1..48, t hash rows 1..160."
+#[derive(Clone, Copy, Debug, PartialEq, Eq)]
+pub struct Shape {
+    pub field: Field,
+    pub n: usize,
+    pub m: usize,
+    pub tau: usize,
+    pub t: usize,
+}
+
+impl Shape {
+    /// "n variables 1..160, m equations 1..160, τ repetitions 1..48, t hash rows 1..160."
+    pub fn in_range(&self) -> bool {
+        (1..=160).contains(&self.n)
+            && (1..=160).contains(&self.m)
+            && (1..=48).contains(&self.tau)
+            && (1..=160).contains(&self.t)
+    }
+
+    /// "Put k = n+8" (n plus the field's degree).
+    pub fn k(&self) -> usize {
+        self.n + self.field.degree
+    }
+
+    /// "L = k+t".
+    pub fn l(&self) -> usize {
+        self.k() + self.t
+    }
+
+    /// "w = ⌈L/8⌉".
+    pub fn w(&self) -> usize {
+        bytes_for(self.l())
+    }
+
+    /// "A has m matrices of n rows of ⌈n/8⌉ bytes ...; b has m rows of ⌈n/8⌉ bytes; y has m bits."
+    pub fn key_sections(&self) -> [usize; 3] {
+        [
+            self.m * self.n * bytes_for(self.n),
+            self.m * bytes_for(self.n),
+            bytes_for(self.m),
+        ]
+    }
+
+    /// "for each repetition e, from 0 rising, 256 strings ℓ(e,j) of w bytes".
+    pub fn leaves_length(&self) -> usize {
+        self.tau * self.field.size * self.w()
+    }
+
+    /// "Opened leaves: 255 for each repetition".
+    pub fn opened_length(&self) -> usize {
+        self.tau * (self.field.size - 1) * self.w()
+    }
+
+    /// "Δ, τ bytes".
+    pub fn delta_length(&self) -> usize {
+        self.tau
+    }
+
+    /// "H′, t rows of k bits (⌈k/8⌉ bytes a row)".
+    pub fn h_length(&self) -> usize {
+        self.t * bytes_for(self.k())
+    }
+
+    /// "χ, τ columns of m bytes".
+    pub fn chi_length(&self) -> usize {
+        self.tau * self.m
+    }
+
+    /// "Has the witness ⌈n/8⌉ bytes".
+    pub fn witness_length(&self) -> usize {
+        bytes_for(self.n)
+    }
+
+    /// "The proof has the sections C, d, ũ, Ṽ, QS0, QS1, in that order, ...: (τ−1)·w, ⌈n/8⌉,
+    /// ⌈t/8⌉, τ·t, τ and τ bytes".
+    pub fn proof_sections(&self) -> [usize; 6] {
+        [
+            (self.tau - 1) * self.w(),
+            bytes_for(self.n),
+            bytes_for(self.t),
+            self.tau * self.t,
+            self.tau,
+            self.tau,
+        ]
+    }
+
+    /// The column of χ of repetition e: "τ columns of m bytes, by repetition and in each by
+    /// equation, rising."
+    pub fn column<'a>(&self, chi: &'a [u8], e: usize) -> &'a [u8] {
+        &chi[e * self.m..(e + 1) * self.m]
+    }
+}
+
+/// "Has the key at least the 8 bytes of its header?"
+pub fn has_header(bytes: &[u8]) -> bool {
+    bytes.len() >= 8
+}
+
+/// "A key is n, m, τ, t, two bytes each, lowest first".
+pub fn header(field: Field, bytes: &[u8]) -> Shape {
+    Shape {
+        field,
+        n: two_bytes(bytes, 0),
+        m: two_bytes(bytes, 2),
+        tau: two_bytes(bytes, 4),
+        t: two_bytes(bytes, 6),
+    }
+}
+
+/// A key: its shape and the sections A, b, y.
+#[derive(Clone, Copy, Debug)]
+pub struct Key<'a> {
+    pub shape: Shape,
+    pub a: &'a [u8],
+    pub b: &'a [u8],
+    pub y: &'a [u8],
+}
+
+/// "then the sections A, b, y in that order, each after its byte count (four bytes, lowest
+/// first)." Nothing unless "all counts and the key's length [are] exact".
+pub fn sections<'a>(shape: Shape, bytes: &'a [u8]) -> Option<Key<'a>> {
+    let found = exact_sections(bytes, 8, &shape.key_sections())?;
+    Some(Key {
+        shape,
+        a: found[0],
+        b: found[1],
+        y: found[2],
+    })
+}
+
+impl Key<'_> {
+    /// "Are the key's spare bits 0?" The rows of A and of b have n bits each, y has m.
+    pub fn spare_bits_are_0(&self) -> bool {
+        spare_bits_are_0(self.a, self.shape.n)
+            && spare_bits_are_0(self.b, self.shape.n)
+            && spare_bits_are_0(self.y, self.shape.m)
+    }
+
+    /// The bit of A_i in the given row and column: "m matrices of n rows of ⌈n/8⌉ bytes, matrix 0
+    /// row 0 first".
+    pub fn a_bit(&self, i: usize, row: usize, column: usize) -> u8 {
+        let length = bytes_for(self.shape.n);
+        let start = (i * self.shape.n + row) * length;
+        coordinate(&self.a[start..start + length], column)
+    }
+
+    /// The bit of b_i in the given column: "b has m rows of ⌈n/8⌉ bytes".
+    pub fn b_bit(&self, i: usize, column: usize) -> u8 {
+        let length = bytes_for(self.shape.n);
+        let start = i * length;
+        coordinate(&self.b[start..start + length], column)
+    }
+
+    /// y_i: "y has m bits."
+    pub fn y_bit(&self, i: usize) -> u8 {
+        coordinate(self.y, i)
+    }
+
+    /// pᵀA_i·q = Σ over rows r of p[r]·(Σ over columns c of A_i[r][c]·q[c]), over K.
+    ///
+    /// With p and q both x this is the first part of "xᵀA_i·x + b_i·x = y_i", where "over GF(2) each
+    /// product of a row with x is the parity of the ones that row and x share."
+    /// "A_i need not be symmetric", so p and q are not interchangeable.
+    pub fn a_form(&self, i: usize, p: &[u8], q: &[u8]) -> u8 {
+        let mut sum = 0;
+        for row in 0..self.shape.n {
+            let mut row_sum = 0;
+            for column in 0..self.shape.n {
+                let term = bit_times(self.a_bit(i, row, column), q[column]);
+                row_sum = add(row_sum, term);
+            }
+            sum = add(sum, self.shape.field.mul(p[row], row_sum));
+        }
+        sum
+    }
+
+    /// b_i·q = Σ over columns c of b_i[c]·q[c], over K; with x for q the second part of
+    /// "xᵀA_i·x + b_i·x = y_i".
+    pub fn b_form(&self, i: usize, q: &[u8]) -> u8 {
+        let mut sum = 0;
+        for column in 0..self.shape.n {
+            sum = add(sum, bit_times(self.b_bit(i, column), q[column]));
+        }
+        sum
+    }
+
+    /// "An equation's error at a candidate is its left side plus y_i", the left side being
+    /// "xᵀA_i·x + b_i·x". Here x is a vector of n bits, and so the error is 0 or 1.
+    pub fn error(&self, i: usize, x: &[u8]) -> u8 {
+        let left_side = add(self.a_form(i, x, x), self.b_form(i, x));
+        add(left_side, self.y_bit(i))
+    }
+
+    /// The equations that fail at x, rising: "A candidate fails an equation when that equation's
+    /// error at it is not 0."
+    pub fn failing(&self, x: &[u8]) -> Vec<usize> {
+        let mut failing = Vec::new();
+        for i in 0..self.shape.m {
+            if self.error(i, x) != 0 {
+                failing.push(i);
+            }
+        }
+        failing
+    }
+}

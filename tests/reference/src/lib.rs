@@ -1,0 +1,25 @@
+//! Reference rendering of the MQ proof core.
+//!
+//! Written from `01-scope.md` alone (called 01 below), with the paper 003 where 01 leaves a doubt.
+//! It is meant to be read next to 01, not to be fast: field products by shift and add, sums
+//! coordinate by coordinate. Text between quotation marks in the comments is 01's own.
+//!
+//! A *string* is packed bytes as 01 lays them out; a *vector* here is a `Vec<u8>` holding one
+//! element of K for each coordinate. A bit is the element 0 or 1 of K.
+
+// Coordinates are counted as in 01, by number, so that each line can be held against its equation.
+#![allow(clippy::needless_range_loop)]
+
+pub mod calls;
+pub mod cases;
+pub mod check;
+pub mod factors;
+pub mod field;
+pub mod key;
+pub mod leaves;
+pub mod prover;
+pub mod strings;
+pub mod verifier;
+
+pub use calls::{batch, commit, failing, hash, prove, test, verify, word, Answer};
+pub use leaves::open_leaves;

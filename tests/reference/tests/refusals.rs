@@ -1,0 +1,349 @@
+//! Every refusal, the order of the questions, and outputs left as they were.
+
+use reference::cases::{case, Case};
+use reference::strings::bytes_for;
+use reference::*;
+
+/// All that is lent in one sitting, so that it can be spoiled.
+#[derive(Clone)]
+struct Lent {
+    key: Vec<u8>,
+    witness: Vec<u8>,
+    leaves: Vec<u8>,
+    h: Vec<u8>,
+    chi: Vec<u8>,
+    delta: Vec<u8>,
+    opened: Vec<u8>,
+    proof: Vec<u8>,
+    out: [usize; 4],
+}
+
+fn sitting() -> (Case, Lent) {
+    // n, m, L and t leave spare bits; k = 13, L = 17.
+    let case = case(31, 5, 3, 3, 4);
+    let lengths = case.shape.proof_sections();
+    let mut proof = vec![0; case.proof_length()];
+    assert_eq!(
+        prove(
+            &case.key,
+            &case.leaves,
+            &case.witness,
+            &case.h,
+            &case.chi,
+            &mut proof
+        ),
+        Answer::Accepted
+    );
+    let lent = Lent {
+        key: case.key.clone(),
+        witness: case.witness.clone(),
+        leaves: case.leaves.clone(),
+        h: case.h.clone(),
+        chi: case.chi.clone(),
+        delta: case.delta.clone(),
+        opened: case.opened(),
+        out: [
+            8 + lengths[0] + lengths[1],
+            8 + lengths[2] + lengths[3],
+            8 + lengths[4] + lengths[5],
+            proof.len(),
+        ],
+        proof,
+    };
+    (case, lent)
+}
+
+const CALLS: [&str; 6] = ["test", "commit", "hash", "batch", "prove", "verify"];
+
+/// The questions "that concern its inputs", by call.
+fn questions(call: &str) -> Vec<u32> {
+    match call {
+        "test" => vec![1, 2, 3, 4, 9, 11],
+        "commit" => vec![1, 2, 3, 4, 7, 8, 9, 10, 11],
+        "hash" => vec![1, 2, 3, 4, 5, 6, 7, 8, 10],
+        "batch" => vec![1, 2, 3, 4, 5, 7, 8, 9, 10, 11],
+        "prove" => vec![1, 2, 3, 4, 5, 6, 7, 8, 9, 10, 11],
+        _ => vec![1, 2, 3, 4, 5, 6, 7, 8, 12, 13, 14, 15],
+    }
+}
+
+/// Puts a call; looks that a refusal leaves the output as it was, and that an acceptance writes
+/// its sections of the honest proof.
+fn put(call: &str, lent: &Lent, honest: &[u8]) -> Answer {
+    let (key, leaves) = (&lent.key, &lent.leaves);
+    let [first, second, third, whole] = lent.out;
+    // The output of the call, and where its sections start in the proof.
+    let (mut out, start) = match call {
+        "commit" => (vec![0xEE; first], 0),
+        "hash" => (vec![0xEE; second], first),
+        "batch" => (vec![0xEE; third], first + second),
+        "prove" => (vec![0xEE; whole], 0),
+        _ => (Vec::new(), 0),
+    };
+    let answer = match call {
+        "test" => test(key, &lent.witness),
+        "commit" => commit(key, leaves, &lent.witness, &mut out),
+        "hash" => hash(key, leaves, &lent.h, &mut out),
+        "batch" => batch(key, leaves, &lent.witness, &lent.chi, &mut out),
+        "prove" => prove(key, leaves, &lent.witness, &lent.h, &lent.chi, &mut out),
+        _ => verify(
+            key,
+            &lent.delta,
+            &lent.h,
+            &lent.chi,
+            &lent.opened,
+            &lent.proof,
+        ),
+    };
+    if answer == Answer::Accepted {
+        assert_eq!(out, honest[start..start + out.len()]);
+    } else {
+        assert!(out.iter().all(|byte| *byte == 0xEE));
+    }
+    answer
+}
+
+/// Spoils what is lent so that the question of that number, in that call, gets a no.
+fn spoil(number: u32, call: &str, lent: &mut Lent) {
+    match number {
+        1 => lent.key.truncate(7),
+        2 => lent.key[0] = 0,
+        3 => lent.key[8] ^= 1,
+        4 => lent.key[12] |= 0x80,
+        5 => match call {
+            "hash" => lent.h.push(0),
+            "batch" => lent.chi.push(0),
+            "prove" => lent.chi.truncate(1),
+            _ => lent.delta.push(0),
+        },
+        6 => lent.h[1] |= 0x80,
+        7 => {
+            lent.leaves.push(0);
+            lent.opened.push(0);
+        }
+        8 => {
+            lent.leaves[2] |= 0x80;
+            lent.opened[2] |= 0x80;
+        }
+        9 => lent.witness[0] |= 0x80,
+        10 => lent.out = lent.out.map(|length| length + 1),
+        11 => {
+            // y has one byte, the last of the key: equation 1 now fails.
+            let last = lent.key.len() - 1;
+            lent.key[last] ^= 0b10;
+        }
+        12 => lent.proof.push(0),
+        13 => lent.proof[6] |= 0x80,
+        14 => {
+            // Ṽ of repetition 2, hash row 3.
+            let at = lent.out[0] + 4 + 1 + 4 + 2 * 4 + 3;
+            lent.proof[at] ^= 1;
+        }
+        _ => {
+            // QS0 of repetition 1.
+            let at = lent.out[0] + lent.out[1] + 4 + 1;
+            lent.proof[at] ^= 1;
+        }
+    }
+}
+
+fn place_of(number: u32) -> u32 {
+    match number {
+        11 => 1,
+        14 => 2,
+        15 => 1,
+        _ => 0,
+    }
+}
+
+#[test]
+fn honest_is_accepted_by_every_call() {
+    let (_, lent) = sitting();
+    for call in CALLS {
+        assert_eq!(put(call, &lent, &lent.proof), Answer::Accepted);
+    }
+}
+
+#[test]
+fn every_refusal_of_every_call() {
+    let (_, lent) = sitting();
+    for call in CALLS {
+        for number in questions(call) {
+            let mut spoiled = lent.clone();
+            spoil(number, call, &mut spoiled);
+            let answer = put(call, &spoiled, &lent.proof);
+            let place = place_of(number);
+            assert_eq!(answer, Answer::Refused { number, place }, "{call}");
+            assert_eq!(word(answer), number * 65_536 + place);
+        }
+    }
+    assert_eq!(word(Answer::Accepted), 0);
+}
+
+/// "in this order": where two questions get a no, the call ends with the earlier.
+#[test]
+fn the_earlier_question_ends_the_call() {
+    let (_, lent) = sitting();
+    for call in CALLS {
+        let numbers = questions(call);
+        for (index, earlier) in numbers.iter().enumerate() {
+            for later in &numbers[index + 1..] {
+                let mut spoiled = lent.clone();
+                // The later first, since the earlier may cut what the later spoils.
+                spoil(*later, call, &mut spoiled);
+                spoil(*earlier, call, &mut spoiled);
+                let answer = put(call, &spoiled, &lent.proof);
+                assert_eq!(word(answer) / 65_536, *earlier, "{call} {earlier} {later}");
+            }
+        }
+    }
+}
+
+/// A question that does not concern a call's inputs is not put: H′ and χ are one question for
+/// the calls that take both, and each alone is enough for a no.
+#[test]
+fn question_5_is_one_question() {
+    let (_, lent) = sitting();
+    let number_of = |call: &str, spoil: &dyn Fn(&mut Lent)| {
+        let mut spoiled = lent.clone();
+        spoil(&mut spoiled);
+        word(put(call, &spoiled, &lent.proof)) / 65_536
+    };
+    for longer in [true, false] {
+        let change = |bytes: &mut Vec<u8>| {
+            if longer {
+                bytes.push(0)
+            } else {
+                bytes.pop();
+            }
+        };
+        assert_eq!(number_of("prove", &|lent| change(&mut lent.h)), 5);
+        assert_eq!(number_of("prove", &|lent| change(&mut lent.chi)), 5);
+        assert_eq!(number_of("verify", &|lent| change(&mut lent.h)), 5);
+        assert_eq!(number_of("verify", &|lent| change(&mut lent.chi)), 5);
+        assert_eq!(number_of("verify", &|lent| change(&mut lent.delta)), 5);
+        // Wrong χ before the spare bits of H′.
+        let both = |lent: &mut Lent| {
+            change(&mut lent.chi);
+            lent.h[1] |= 0x80;
+        };
+        assert_eq!(number_of("prove", &both), 5);
+        assert_eq!(number_of("verify", &both), 5);
+    }
+}
+
+/// Every spare bit of every string, each alone.
+#[test]
+fn every_spare_bit() {
+    let (case, lent) = sitting();
+    let shape = case.shape;
+    // Each: the bytes of one string, the bits in it.
+    let each_spare = |length: usize, bits: usize| -> Vec<(usize, u8)> {
+        let one = bytes_for(bits);
+        let mut found = Vec::new();
+        for start in (0..length).step_by(one) {
+            for c in bits..8 * one {
+                found.push((start + c / 8, 1 << (c % 8)));
+            }
+        }
+        found
+    };
+    let lengths = shape.key_sections();
+    let [a, b, y] = [12, 16 + lengths[0], 20 + lengths[0] + lengths[1]];
+    for (start, length, bits) in [
+        (a, lengths[0], shape.n),
+        (b, lengths[1], shape.n),
+        (y, lengths[2], shape.m),
+    ] {
+        for (at, with) in each_spare(length, bits) {
+            let mut key = lent.key.clone();
+            key[start + at] |= with;
+            assert_eq!(word(test(&key, &lent.witness)), 4 * 65_536);
+        }
+    }
+    for (at, with) in each_spare(shape.h_length(), shape.k()) {
+        let mut spoiled = lent.clone();
+        spoiled.h[at] |= with;
+        for call in ["hash", "prove", "verify"] {
+            assert_eq!(word(put(call, &spoiled, &lent.proof)), 6 * 65_536);
+        }
+    }
+    for (at, with) in each_spare(shape.leaves_length(), shape.l()) {
+        let mut spoiled = lent.clone();
+        spoiled.leaves[at] |= with;
+        assert_eq!(word(put("commit", &spoiled, &lent.proof)), 8 * 65_536);
+    }
+    for (at, with) in each_spare(shape.opened_length(), shape.l()) {
+        let mut spoiled = lent.clone();
+        spoiled.opened[at] |= with;
+        assert_eq!(word(put("verify", &spoiled, &lent.proof)), 8 * 65_536);
+    }
+    for (at, with) in each_spare(shape.witness_length(), shape.n) {
+        let mut witness = lent.witness.clone();
+        witness[at] |= with;
+        assert_eq!(word(test(&lent.key, &witness)), 9 * 65_536);
+    }
+    let lengths = shape.proof_sections();
+    let [c, d, u] = [4, 8 + lengths[0], 12 + lengths[0] + lengths[1]];
+    for (start, length, bits) in [
+        (c, lengths[0], shape.l()),
+        (d, lengths[1], shape.n),
+        (u, lengths[2], shape.t),
+    ] {
+        for (at, with) in each_spare(length, bits) {
+            let mut spoiled = lent.clone();
+            spoiled.proof[start + at] |= with;
+            assert_eq!(word(put("verify", &spoiled, &lent.proof)), 13 * 65_536);
+        }
+    }
+    for witness in [&[][..], &[0, 0][..]] {
+        assert_eq!(word(test(&lent.key, witness)), 9 * 65_536);
+    }
+}
+
+/// Refusal 11 names the lowest failing equation; `failing` gives all that may be named.
+#[test]
+fn failing_equations() {
+    let (case, lent) = sitting();
+    let last = lent.key.len() - 1;
+    for errors in 1..8u8 {
+        let mut key = lent.key.clone();
+        key[last] ^= errors;
+        let expected: Vec<usize> = (0..3).filter(|i| (errors >> i) & 1 == 1).collect();
+        assert_eq!(failing(&key, &case.witness), expected);
+        assert_eq!(
+            test(&key, &case.witness),
+            Answer::Refused {
+                number: 11,
+                place: expected[0] as u32
+            }
+        );
+    }
+    assert!(failing(&lent.key, &case.witness).is_empty());
+}
+
+/// "14 ... with the first e where not" and "15 ... with the first e where not"; 14 of all
+/// repetitions before 15 of any.
+#[test]
+fn first_repetition_and_order_of_14_and_15() {
+    let (_, lent) = sitting();
+    let v_tilde = |e: usize| lent.out[0] + 4 + 1 + 4 + e * 4;
+    let qs0 = |e: usize| lent.out[0] + lent.out[1] + 4 + e;
+    for consistency in 0..8usize {
+        for product in 0..8usize {
+            let mut spoiled = lent.clone();
+            for e in 0..3 {
+                spoiled.proof[v_tilde(e)] ^= 7 * ((consistency >> e) & 1) as u8;
+                spoiled.proof[qs0(e)] ^= 9 * ((product >> e) & 1) as u8;
+            }
+            let expected = if consistency != 0 {
+                14 * 65_536 + consistency.trailing_zeros()
+            } else if product != 0 {
+                15 * 65_536 + product.trailing_zeros()
+            } else {
+                0
+            };
+            assert_eq!(word(put("verify", &spoiled, &lent.proof)), expected);
+        }
+    }
+}
