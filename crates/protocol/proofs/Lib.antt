@@ -8,6 +8,7 @@ pub mod VoleLaws
 pub mod FormLaws
 pub mod CoefficientLaws
 pub mod AnswerLaws
+pub mod ReplyLaws
 pub mod CountingLaws
 pub mod HonestLaws
 pub mod Published

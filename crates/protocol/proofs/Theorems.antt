@@ -39,7 +39,8 @@ use Rattle.protocol.proofs.LeafLaws.{open-place}
 use Rattle.protocol.proofs.VoleLaws.{vole}
 use Rattle.protocol.proofs.FormLaws.{expand, quad-congr, lin-congr}
 use Rattle.protocol.proofs.CoefficientLaws.{checks-passing}
-use Rattle.protocol.proofs.AnswerLaws.{ask-none, ask-no, ask-yes, accepted-all, accepted-of, all-yes, yes-all, ask-after, Without, not-number}
+use Rattle.protocol.proofs.AnswerLaws.{ask-none, ask-no, ask-yes, accepted-all, accepted-of, all-yes, yes-all, ask-after}
+use Rattle.protocol.proofs.ReplyLaws.{Without, not-number}
 use Rattle.protocol.proofs.CountingLaws.{Form, form-of, leaves-length, opened-exact, opened-spare, tree-is, splits, count-product}
 use Rattle.protocol.proofs.HonestLaws.{sym-symbol, pack-sym, u-symbol, bounds-of, passing-all, exact, sections-back, spare}
 
