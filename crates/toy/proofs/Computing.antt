@@ -22,5 +22,22 @@ use Rattle.protocol.specs.Counting.{opening}
 use Rattle.toy.specs.Toy.{keyWith, leaves, proofWith}
 
 unfoldable pub computing : ℕ
-unfolding field-computing form power table concat allBelow firstNot part blockAt bytesFor bit spareZero fromBits pack num2 num4 count4 frame framed sectionNo framedLength sym elemAt within limits perTree perOpened maskAt kOf lOf wOf rowsSpare keyLengths keyExact sectionA sectionB sectionY keySpare aSym bSym ySym leafAt except rising openTree openLeaves place openedLeaf bytesOf commitLengths batchLengths lengths α quad lin yOf error middle h hash maskOf χAt batch u v correction dOf a₀ a₁ qs0 qs1 cSection dSection ũSection ṼSection qs0Section qs1Section proofOf correctionAt W keyAt consistent productLeft productHolds consistentAt productAt candidate batchedError ask hExact χExact ΔExact hSpare leavesExact leavesSpare witnessForm solves proofSpare treeOf consistentIn productIn testAnswer proveAnswer verifyAnswer testForm commitForm batchForm proveForm verifyForm honestForm wellFormed opening keyWith leaves proofWith
+unfolding field-computing
+    form power
+    table concat allBelow firstNot part blockAt
+    bytesFor bit spareZero fromBits pack
+    num2 num4 count4 frame framed sectionNo framedLength
+    sym elemAt
+    within limits perTree perOpened maskAt kOf lOf wOf
+    rowsSpare keyLengths keyExact sectionA sectionB sectionY keySpare aSym bSym ySym
+    leafAt except rising openTree openLeaves place openedLeaf
+    bytesOf commitLengths batchLengths lengths
+    α quad lin yOf error middle h hash maskOf χAt batch
+    u v correction dOf a₀ a₁ qs0 qs1 cSection dSection ũSection ṼSection qs0Section qs1Section proofOf
+    correctionAt W keyAt consistent productLeft productHolds consistentAt productAt candidate batchedError
+    ask
+    hExact χExact ΔExact hSpare leavesExact leavesSpare witnessForm solves proofSpare treeOf consistentIn productIn
+    testAnswer proveAnswer verifyAnswer testForm commitForm batchForm proveForm verifyForm honestForm wellFormed
+    opening
+    keyWith leaves proofWith
 computing = 0

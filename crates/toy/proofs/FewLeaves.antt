@@ -1,27 +1,26 @@
--- The toy's leaves from leaf 4 on are zero, so that a sum over the 256 leaves is that over the first four: with these the checker computes.
---   toy == the sizes of its keys;  R, F == the ring of GF(256) and its elements;  u₄, v₄ == u and v as sums over four leaves
+-- The toy's leaves from leaf 4 on are 0, so that u and v, sums over 256 leaves, are sums over the first four. The checker computes with these: 4 terms for 256.
+--   toy == the sizes of the toy's keys;  R, F == the ring of GF(256) and its elements;  u₄, v₄ == the sums over four leaves
 -- Assumes nothing.
 use mathlib.Core.Path.{_≡_, refl, ap, _∙_}
-use mathlib.Core.List.{List, [], _∷_, _++_}
+use mathlib.Core.Logic.{_≢_}
+use mathlib.Core.Bool.{true≢false}
+use mathlib.Core.List.{List, [], _∷_}
 use Prim.Native.Nat.{ℕ, zero, suc, _+_, _*_, _/_}
 use native.Mathlib.Nat.{zero-div, zero-mod}
 use native.Mathlib.Omega.{arith}
 use lib.ListN.{getD, take, drop, replicate}
 use Rattle.algebra.specs.Ring.{Ring}
-use Rattle.algebra.specs.Field.{Field}
-use Rattle.algebra.specs.Coded.{Coded}
 use Rattle.algebra.specs.Sum.{sum}
 use Rattle.algebra.proofs.RingLaws.{mul-zero}
 use Rattle.algebra.proofs.SumLaws.{sum-ext, sum-zero, sum-split}
 use Rattle.protocol.specs.Lists.{part, blockAt}
 use Rattle.protocol.specs.Strings.{bit}
-use Rattle.protocol.specs.Alphabet.{Alphabet, sym}
+use Rattle.protocol.specs.Alphabet.{sym}
 use Rattle.protocol.specs.Shape.{Shape}
 use Rattle.protocol.specs.Leaves.{leafAt}
 use Rattle.protocol.specs.Prover.{u, v}
 use Rattle.protocol.proofs.ListLaws.{getD-drop, drop-append}
-use Rattle.toy.specs.Toy.{fourLeaves, leaves}
-use Rattle.toy.specs.Table.{A}
+use Rattle.toy.specs.Toy.{A, fourLeaves, leaves}
 use Rattle.toy.proofs.Computing.{computing}
 
 abbrev pub R : Ring
@@ -32,6 +31,10 @@ F = R .F
 
 abbrev pub toy : Shape
 toy = record { n = 2; m = 1; τ = 1; t = 1 }
+
+pub one-not-zero : R .𝟙 ≢ R .𝟘
+unfolding computing
+one-not-zero e = true≢false (ap (λ (b : F). b .0) e)
 
 zero-replicate : (n b : ℕ) → _≡_ {A = ℕ} (getD (replicate n 0) b 0) 0
 zero-replicate zero b = refl

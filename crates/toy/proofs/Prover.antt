@@ -1,19 +1,16 @@
 -- What the prover's rules give for the toy, computed.
 -- Assumes nothing.
 use mathlib.Core.Path.{_≡_, refl, ap, ap₂, _∙_}
-use mathlib.Core.List.{List, [], _∷_}
-use Prim.Native.Nat.{ℕ}
+use mathlib.Core.List.{[], _∷_}
 use lib.ListN.{length}
-use Rattle.algebra.specs.Ring.{Ring}
-use Rattle.algebra.specs.Coded.{Coded}
 use Rattle.protocol.specs.Lists.{table}
-use Rattle.protocol.specs.Alphabet.{Alphabet, sym}
+use Rattle.protocol.specs.Alphabet.{sym}
 use Rattle.protocol.specs.Shape.{lOf}
-use Rattle.protocol.specs.Sections.{Sections, bytesOf}
+use Rattle.protocol.specs.Sections.{bytesOf}
 use Rattle.protocol.specs.Forms.{quad, middle, hash, maskOf, batch}
 use Rattle.protocol.specs.Prover.{u, v, proofOf}
-use Rattle.toy.specs.Toy.{key, leaves, x, H′, χ, proof}
-use Rattle.toy.specs.Table.{A, s, sections}
+use Rattle.toy.specs.Toy.{A, s, key, leaves, x, H′, χ, proof}
+use Rattle.toy.specs.Table.{sections}
 use Rattle.toy.proofs.Computing.{computing}
 use Rattle.toy.proofs.FewLeaves.{R, toy, u-few, v-few}
 

@@ -1,5 +1,5 @@
 -- What the verifier answers to the toy's proofs, computed.
---   W₄ p δ == W as a sum over four leaves;  checks k p d w == the answer to the last two questions, for the vector w
+--   W₄ == W, by the VOLE identity, from sums over four leaves;  checks w == the answer to questions 14 and 15, where the vector is w
 -- Assumes nothing.
 use mathlib.Core.Path.{_≡_, refl, ap, ap₂, _∙_}
 use mathlib.Core.Bool.{true}
@@ -8,13 +8,9 @@ use Prim.Native.Nat.{ℕ, zero, suc, _<_}
 use lib.ListN.{getD}
 use native.Mathlib.Omega.{arith}
 use lib.Dec.{lit<}
-use Rattle.algebra.specs.Ring.{Ring}
-use Rattle.algebra.specs.Coded.{Coded}
 use Rattle.protocol.specs.Lists.{allBelow, firstNot}
 use Rattle.protocol.specs.Frames.{num2}
-use Rattle.protocol.specs.Alphabet.{Alphabet}
-use Rattle.protocol.specs.Shape.{Shape, perTree, perOpened, wOf}
-use Rattle.protocol.specs.Leaves.{openTree}
+use Rattle.protocol.specs.Shape.{perTree}
 use Rattle.protocol.specs.Sections.{Sections, sectionsIn}
 use Rattle.protocol.specs.Verifier.{W, correctionAt, consistent, productHolds, consistentAt, productAt}
 use Rattle.protocol.specs.Answers.{Answer, accepted, refused, question, ask}
@@ -24,8 +20,7 @@ use Rattle.protocol.specs.Counting.{opening}
 use Rattle.protocol.proofs.AnswerLaws.{ask-after}
 use Rattle.protocol.proofs.CountingLaws.{leaves-length, tree-is}
 use Rattle.protocol.proofs.VoleLaws.{vole}
-use Rattle.toy.specs.Toy.{keyWith, key, leaves, H′, χ, proof, proofQS1, proofũ, answerAt}
-use Rattle.toy.specs.Table.{A}
+use Rattle.toy.specs.Toy.{A, keyWith, key, leaves, H′, χ, proof, proofQS1, proofũ, answerAt}
 use Rattle.toy.proofs.Computing.{computing}
 use Rattle.toy.proofs.FewLeaves.{R, F, toy, u₄, v₄, u-few, v-few}
 

@@ -1,9 +1,6 @@
--- With y = 0 the toy's witness fails equation 0, and each call that looks refuses it by that, computed.
+-- With y = 0 the toy's witness fails equation 0: computed. Test and prove refuse it with 11 and place 0, and no other reply is allowed.
 -- Assumes nothing.
-use mathlib.Core.Path.{_≡_, refl, sym, ap, _∙_}
-use mathlib.Core.Bool.{true≢false}
-use mathlib.Core.Logic.{_≢_}
-use mathlib.Core.List.{List}
+use mathlib.Core.Path.{_≡_, refl, ap, _∙_}
 use Prim.Native.Nat.{ℕ, _<_}
 use native.Mathlib.Omega.{arith}
 use lib.Dec.{lit<}
@@ -11,13 +8,13 @@ use Rattle.protocol.specs.Answers.{Answer, refused, numberOf, placeOf, Reply}
 use Rattle.protocol.specs.Questions.{namesFailing}
 use Rattle.protocol.specs.Calls.{testAnswer, proveAnswer, TestReply, ProveReply}
 use Rattle.protocol.specs.Shape.{shapeOf}
-use Rattle.toy.specs.Toy.{key₀, leaves, x, H′, χ, out}
-use Rattle.toy.specs.Table.{A}
+use Rattle.toy.specs.Toy.{A, key₀, leaves, x, H′, χ, out}
 use Rattle.toy.proofs.Computing.{computing}
+use Rattle.toy.proofs.FewLeaves.{one-not-zero}
 
 pub equation-0-fails : namesFailing A (shapeOf key₀) key₀ x 0
 unfolding computing
-equation-0-fails = (lit< tt, λ e. true≢false (ap (λ (b : A .K .base .R .F). b .0) e))
+equation-0-fails = (lit< tt, one-not-zero)
 
 test-at : (q : ℕ) → testAnswer A key₀ x q ≡ refused 11 q
 unfolding computing

@@ -1,30 +1,22 @@
--- The entries that 01 marks (P), in one table, over the definitions that the contracts cite. 01's words stand above each.
---   A == bits over GF(256);  s == the sizes of the toy's key;  PublishedEntries == the table; proofs/Table has the one result that establishes it
+-- The entries that 01 marks (P), in one table, of the definitions that the contracts cite. 01's words stand above each; proofs/Table proves it.
+--   sections == the six sections that the prover's rules give for the toy;  PublishedEntries == the table
 -- Assumes nothing.
 use mathlib.Core.Path.{_≡_}
 use mathlib.Core.Bool.{_||_}
-use mathlib.Core.List.{List, [], _∷_}
+use mathlib.Core.List.{[], _∷_}
 use Prim.Native.Nat.{ℕ, _<_}
 use lib.Dec.{eqb}
 use lib.ListN.{length}
-use Rattle.algebra.specs.Coded.{Coded, mulByte}
+use Rattle.algebra.specs.Coded.{mulByte}
 use Rattle.field.specs.Gf256.{gf256}
 use Rattle.protocol.specs.Lists.{table}
-use Rattle.protocol.specs.Alphabet.{Alphabet}
-use Rattle.protocol.specs.Binary.{bits256}
-use Rattle.protocol.specs.Shape.{Shape, shapeOf, lOf}
+use Rattle.protocol.specs.Shape.{shapeOf, lOf}
 use Rattle.protocol.specs.Sections.{Sections}
 use Rattle.protocol.specs.Prover.{u, v, sectionsOf, proofOf}
 use Rattle.protocol.specs.Answers.{Answer, accepted, refused, isAccepted}
 use Rattle.protocol.specs.Questions.{namesFailing}
 use Rattle.protocol.specs.Calls.{testAnswer, proveAnswer, TestReply, ProveReply}
-use Rattle.toy.specs.Toy.{key, key₀, leaves, x, H′, χ, out, proof, proofQS1, proofũ, answerAt}
-
-abbrev pub A : Alphabet
-A = bits256
-
-abbrev pub s : Shape
-s = shapeOf key
+use Rattle.toy.specs.Toy.{A, s, key, key₀, leaves, x, H′, χ, out, proof, proofQS1, proofũ, answerAt}
 
 abbrev pub sections : Sections
 sections = sectionsOf A s leaves key x H′ χ
@@ -53,7 +45,7 @@ pub record PublishedEntries : Type 0 where
   pub QS1-changed-at-00 : answerAt key 0x00 proofQS1 ≡ accepted
   -- "ũ changed to 00: refused 14 place 0 at 02."
   pub ũ-changed-at-02 : answerAt key 0x02 proofũ ≡ refused 14 0
-  -- "y = 0: witness refused 11 place 0;" equation 0 fails, the answer is that, and no other reply is allowed.
+  -- "y = 0: witness refused 11 place 0;" equation 0 fails, so that this answer is a reply, and there is no other.
   pub equation-0-fails : namesFailing A (shapeOf key₀) key₀ x 0
   pub test-refused : testAnswer A key₀ x 0 ≡ refused 11 0
   pub prove-refused : proveAnswer A key₀ leaves x H′ χ (out 29) 0 ≡ refused 11 0
