@@ -56,6 +56,14 @@ honest-well-formed : wellFormed A key leaves H′ χ proof ≡ true
 unfolding computing
 honest-well-formed = refl
 
+QS1-well-formed : wellFormed A key leaves H′ χ proofQS1 ≡ true
+unfolding computing
+QS1-well-formed = refl
+
+Ṽ-well-formed : wellFormed A key leaves H′ χ proofṼ ≡ true
+unfolding computing
+Ṽ-well-formed = refl
+
 factor-none : factor A key leaves H′ χ proofṼ 0 ≡ 0
 unfolding computing
 factor-none = factor-by 0x01 proofṼ (conditionsWith 0x01 0x00 0x00) 0 refl refl
@@ -100,6 +108,8 @@ hypotheses-met = record {
   solved = solved;
   verify-form = verify-form;
   honest-well-formed = honest-well-formed;
+  QS1-well-formed = QS1-well-formed;
+  Ṽ-well-formed = Ṽ-well-formed;
   forged-well-formed = forged-well-formed;
   factor-none = factor-none;
   factor-one = factor-one;

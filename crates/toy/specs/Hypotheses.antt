@@ -25,10 +25,12 @@ pub record HypothesesMet : Type 0 where
   pub solved : solves A s key x ≡ true
   -- "Given well-formed input, the verifier accepts exactly when the published checks hold in every repetition."
   pub verify-form : verifyForm A key (0x02 ∷ []) H′ χ (opening A s leaves (0x02 ∷ [])) proof ≡ true
-  -- Demand 3: "Whatever well-formed key, .." An honest proof, and a forged one.
+  -- Demand 3: "Whatever well-formed key, .. and proof a stranger hands us": an honest proof, two that are changed, and with y = 0 a forged one.
   pub honest-well-formed : wellFormed A key leaves H′ χ proof ≡ true
+  pub QS1-well-formed : wellFormed A key leaves H′ χ proofQS1 ≡ true
+  pub Ṽ-well-formed : wellFormed A key leaves H′ χ proofṼ ≡ true
   pub forged-well-formed : wellFormed A key₀ leaves H′ χ proofQS1 ≡ true
-  -- "Each factor is 0, 1, 2 or 256": each of the four occurs.
+  -- "Each factor is 0, 1, 2 or 256": of these proofs, each of the four occurs.
   pub factor-none : factor A key leaves H′ χ proofṼ 0 ≡ 0
   pub factor-one : factor A key leaves H′ χ proofQS1 0 ≡ 1
   pub factor-two : factor A key₀ leaves H′ χ proofQS1 0 ≡ 2
