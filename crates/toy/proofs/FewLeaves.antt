@@ -19,7 +19,8 @@ use Rattle.protocol.specs.Alphabet.{sym}
 use Rattle.protocol.specs.Shape.{Shape}
 use Rattle.protocol.specs.Leaves.{leafAt}
 use Rattle.protocol.specs.Prover.{u, v}
-use Rattle.protocol.proofs.ListLaws.{getD-drop, drop-append}
+use lib.Seq.{getD-drop}
+use Rattle.protocol.proofs.ListLaws.{drop-append}
 use Rattle.toy.specs.Toy.{A, fourLeaves, leaves}
 use Rattle.toy.proofs.Computing.{computing}
 
@@ -52,7 +53,7 @@ unfolding leafAt blockAt part leaves
 zero-byte i b =
     let e : (0 * 256 + (4 + i)) * 2 ≡ 8 + i * 2 = omega arith in
     ap (λ k. getD (take 2 (drop k leaves)) b 0) e ∙ ap (λ z. getD (take 2 z) b 0) (drop-append fourLeaves (replicate 504 0) 8 (i * 2) refl)
-    ∙ zero-take 2 (drop (i * 2) (replicate 504 0)) (λ a. getD-drop (replicate 504 0) (i * 2) a ∙ zero-replicate 504 (i * 2 + a)) b
+    ∙ zero-take 2 (drop (i * 2) (replicate 504 0)) (λ a. getD-drop (i * 2) (replicate 504 0) a 0 ∙ zero-replicate 504 (i * 2 + a)) b
 
 zero-leaf : (i c : ℕ) → sym A (leafAt 256 2 leaves 0 (4 + i)) c ≡ R .𝟘
 unfolding sym bit
