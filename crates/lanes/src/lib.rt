@@ -1,0 +1,199 @@
+// The vectors of all repetitions side by side: byte c·LANES + e of a table is coordinate c of the vector of repetition e.
+// A table, and what is computed from it, is secret: no branch and no index goes by it. Rows of bits that are looked up are public.
+ghost use mathlib.Core.Path.{_≡_};
+ghost use mathlib.Core.List.{List};
+ghost use Prim.Native.Nat.{ℕ, _+_, _*_, _/_, _%_, _<_, _≤_};
+ghost use lib.ListN.{length};
+ghost use lib.Bits.{bitXor};
+ghost use Rattle.algebra.specs.Coded.{mulByte};
+ghost use Rattle.field.specs.Gf256.{gf256, maskElement};
+ghost use Rattle.protocol.specs.Strings.{bit};
+ghost use Rattle.strings.specs.Sums.{byteAt, bitOf, xorSum, selected};
+ghost use Rattle.lanes.specs.Lanes.{lanes, laneAt, entryByte, Tabled, lookedUp, maskLane, maskBits};
+use field::Gf256;
+
+// As many as a key may have repetitions (01: 1..48). Lanes from a key's own number on hold anything.
+pub const LANES: usize = 48;
+
+// The entries of the table of sums for four coordinates, one for each value of half a byte, and for the eight of a byte.
+const HALF: usize = 16;
+
+const BYTE: usize = 32;
+
+fn wide(x: u8) -> usize
+    ensures { λ r. ⌜ r ≡ x ⌝ }
+{
+    x as usize
+}
+
+// Adds coordinate c of the table to out. Coordinates from n on are 0.
+fn add_coordinate(out: &mut [u8], c: usize, n: usize, table: &[u8])
+    requires { ⌜ (length (now out) ≡ lanes) × (length (now table) ≡ n * lanes) ⌝ }
+    ensures { λ _. ⌜ ((e : ℕ) → e < lanes → byteAt (now (out .exit)) e ≡ bitXor (byteAt (now (out .entry)) e) (laneAt (now (table .entry)) c e)) ⌝ }
+{
+    if c < n {
+        strings::xor_into(out, strings::row_at(table, LANES, c));
+    }
+}
+
+// Adds entry k of the table of sums to out. The branch goes by k, which is public.
+fn add_entry(out: &mut [u8], k: usize, n: usize, table: &[u8])
+    requires { ⌜ (length (now out) ≡ lanes) × (length (now table) ≡ n * lanes) ⌝ }
+    ensures { λ _. ⌜ ((e : ℕ) → e < lanes → byteAt (now (out .exit)) e ≡ bitXor (byteAt (now (out .entry)) e) (entryByte (now (table .entry)) k e)) ⌝ }
+{
+    let half = k % HALF;
+    let first = k / HALF * 4;
+    let mut s = 0;
+    while s < 4 {
+        if (half >> s) % 2 == 1 {
+            add_coordinate(out, first + s, n, table);
+        }
+        s += 1;
+    }
+}
+
+fn fill_entry(out: &mut [u8], k: usize, n: usize, table: &[u8])
+    requires { ⌜ (length (now out) ≡ lanes) × (length (now table) ≡ n * lanes) ⌝ }
+    ensures { λ _. ⌜ ((e : ℕ) → e < lanes → byteAt (now (out .exit)) e ≡ entryByte (now (table .entry)) k e) ⌝ }
+{
+    strings::clear(out);
+    add_entry(out, k, n, table);
+}
+
+fn fill_row(sums: &mut [u8], k: usize, n: usize, table: &[u8])
+    requires { ⌜ (length (now table) ≡ n * lanes) × (k * lanes + lanes ≤ length (now sums)) ⌝ }
+    ensures { λ _. ⌜ ((e : ℕ) → e < lanes → laneAt (now (sums .exit)) k e ≡ entryByte (now (table .entry)) k e) ⌝ }
+    ensures { λ _. ⌜ ((q e : ℕ) → (q ≡ k → ⊥) → e < lanes → laneAt (now (sums .exit)) q e ≡ laneAt (now (sums .entry)) q e) ⌝ }
+{
+    let at = k * LANES;
+    fill_entry(&mut sums[at..at + LANES], k, n, table);
+}
+
+// The table of sums, sixteen entries for each four of the n coordinates. Made once, it serves every row of every matrix.
+pub fn fill_sums(sums: &mut [u8], n: usize, table: &[u8])
+    requires { ⌜ length (now table) ≡ n * lanes ⌝ }
+    ensures { λ _. ⌜ Tabled (now (table .entry)) (now (sums .exit)) ⌝ }
+{
+    let count = sums.len() / LANES;
+    let mut k = 0;
+    while k < count {
+        fill_row(sums, k, n, table);
+        k += 1;
+    }
+}
+
+// dst[e] ^= sums[low + e] ^ sums[high + e], for each lane. The count is a constant, so that a caller's local array stays in registers.
+fn xor_entries(dst: &mut [u8; LANES], sums: &[u8], low: usize, high: usize)
+    requires { ⌜ (low + lanes ≤ length (now sums)) × (high + lanes ≤ length (now sums)) × (length (now dst) ≡ lanes) ⌝ }
+    ensures { λ _. ⌜ length (now (dst .exit)) ≡ lanes ⌝ }
+    ensures { λ _. ⌜ ((e : ℕ) → e < lanes → byteAt (now (dst .exit)) e ≡ bitXor (byteAt (now (dst .entry)) e) (bitXor (byteAt (now (sums .entry)) (low + e)) (byteAt (now (sums .entry)) (high + e)))) ⌝ }
+{
+    let mut e = 0;
+    while e < LANES {
+        dst[e] ^= sums[low + e] ^ sums[high + e];
+        e += 1;
+    }
+}
+
+// Adds the two entries that byte b of a row, x, chooses. The row is public, so the table may be indexed by it.
+fn add_chosen(dst: &mut [u8; LANES], b: usize, x: u8, sums: &[u8])
+    requires { ⌜ ((b * 32 + 32) * lanes ≤ length (now sums)) × (length (now dst) ≡ lanes) ⌝ }
+    ensures { λ _. ⌜ length (now (dst .exit)) ≡ lanes ⌝ }
+    ensures { λ _. ⌜ ((e : ℕ) → e < lanes → byteAt (now (dst .exit)) e ≡ bitXor (byteAt (now (dst .entry)) e) (bitXor (laneAt (now (sums .entry)) (b * 32 + x % 16) e) (laneAt (now (sums .entry)) (b * 32 + 16 + x / 16) e))) ⌝ }
+{
+    let first = b * BYTE;
+    let low = wide(x % 16);
+    let high = wide(x / 16);
+    xor_entries(
+        dst,
+        sums,
+        (first + low) * LANES,
+        (first + HALF + high) * LANES,
+    );
+}
+
+fn copy_lanes(out: &mut [u8], src: &[u8; LANES])
+    requires { ⌜ length (now out) ≡ lanes ⌝ }
+    ensures { λ _. ⌜ ((e : ℕ) → e < lanes → byteAt (now (out .exit)) e ≡ byteAt (now (src .entry)) e) ⌝ }
+{
+    let mut e = 0;
+    while e < LANES {
+        out[e] = src[e];
+        e += 1;
+    }
+}
+
+// out[e] = Σ row(c)·T[c][e] over the n coordinates of the table T that was summed: two additions for eight coordinates.
+pub fn look_up_row(out: &mut [u8], row: &[u8], sums: &[u8])
+    requires { ⌜ (length (now out) ≡ lanes) × (length (now row) * 32 * lanes ≤ length (now sums)) ⌝ }
+    ensures { λ _. ⌜ ((table : List ℕ) (n e : ℕ) → Tabled table (now (sums .entry)) → length table ≡ n * lanes → n ≤ length (now (row .entry)) * 8 → e < lanes → byteAt (now (out .exit)) e ≡ selected n (now (row .entry)) table lanes e) ⌝ }
+{
+    let mut sum = [0u8; LANES];
+    let mut b = 0;
+    while b < row.len() {
+        add_chosen(&mut sum, b, row[b], sums);
+        b += 1;
+    }
+    copy_lanes(out, &sum);
+}
+
+// acc[e] ^= f[e]·t[e] in GF(256), for each lane. Both factors vary with e, so that no mask is the same for a whole loop and could become a branch.
+pub fn accumulate(acc: &mut [u8], f: &[u8], t: &[u8])
+    requires { ⌜ (length (now acc) ≡ lanes) × (length (now f) ≡ lanes) × (length (now t) ≡ lanes) ⌝ }
+    ensures { λ _. ⌜ ((e : ℕ) → e < lanes → byteAt (now (acc .exit)) e ≡ bitXor (byteAt (now (acc .entry)) e) (mulByte gf256 (byteAt (now (f .entry)) e) (byteAt (now (t .entry)) e))) ⌝ }
+{
+    let mut e = 0;
+    while e < LANES {
+        acc[e] ^= Gf256::multiply(f[e], t[e]);
+        e += 1;
+    }
+}
+
+// acc[e] ^= src[e] or 0, by a secret bit: through a mask. The caller reads the bit from memory, where the compiler cannot see
+// that it is a bit and make the mask a branch.
+pub fn add_masked(acc: &mut [u8], bit: u8, src: &[u8])
+    requires { ⌜ (length (now acc) ≡ lanes) × (length (now src) ≡ lanes) × (bit < 2) ⌝ }
+    ensures { λ _. ⌜ ((e : ℕ) → e < lanes → byteAt (now (acc .exit)) e ≡ bitXor (byteAt (now (acc .entry)) e) (bit * byteAt (now (src .entry)) e)) ⌝ }
+{
+    let mask = bit * 255;
+    let mut e = 0;
+    while e < LANES {
+        acc[e] ^= src[e] & mask;
+        e += 1;
+    }
+}
+
+// Coordinate c of a string of bits (01: bit c mod 8 of byte ⌊c/8⌋), with no branch on it.
+pub fn bit_at(s: &[u8], c: usize) -> u8
+    requires { ⌜ c / 8 < length (now s) ⌝ }
+    ensures { λ r. ⌜ (r ≡ bit (now (s .entry)) c) × (r < 2) ⌝ }
+{
+    (s[c / 8] >> (c % 8)) % 2
+}
+
+// acc[e] ^= Σ α^s·T[n + s][e]: the mask A*₀ of each repetition (01, prover's rules).
+pub fn add_mask(acc: &mut [u8], table: &[u8], n: usize)
+    requires { ⌜ (length (now acc) ≡ lanes) × ((n + gf256 .degree) * lanes ≤ length (now table)) ⌝ }
+    ensures { λ _. ⌜ ((e : ℕ) → e < lanes → byteAt (now (acc .exit)) e ≡ bitXor (byteAt (now (acc .entry)) e) (maskLane (now (table .entry)) n e)) ⌝ }
+{
+    let mut s = 0;
+    while s < Gf256::DEGREE {
+        let weight = [Gf256::mask_element(s); LANES];
+        accumulate(acc, &weight, strings::row_at(table, LANES, n + s));
+        s += 1;
+    }
+}
+
+// Σ α^s·u[n + s]: the mask A*₁, the same for every repetition (01, prover's rules).
+pub fn mask_byte(u: &[u8], n: usize) -> u8
+    requires { ⌜ (n + gf256 .degree ≤ length (now u) * 8) × (n < 65536) ⌝ }
+    ensures { λ r. ⌜ r ≡ maskBits (now (u .entry)) n ⌝ }
+{
+    let mut sum: u8 = 0;
+    let mut s = 0;
+    while s < Gf256::DEGREE {
+        sum ^= Gf256::multiply(Gf256::mask_element(s), bit_at(u, n + s));
+        s += 1;
+    }
+    sum
+}
