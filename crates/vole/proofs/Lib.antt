@@ -1,0 +1,4 @@
+pub mod PlaneLaws
+pub mod PartialLaws
+pub mod BitLaws
+pub mod LaneLaws

@@ -1,0 +1,86 @@
+// Leaf sums for all repetitions, and the sections C, d and ũ that are made of them.
+ghost use mathlib.Core.Path.{_≡_};
+ghost use Prim.Native.Nat.{ℕ, _+_, _*_, _<_, _≤_};
+ghost use lib.ListN.{length};
+ghost use lib.Bits.{bitXor};
+ghost use Rattle.protocol.specs.Lists.{blockAt};
+ghost use Rattle.protocol.specs.Strings.{bit, fromBits};
+ghost use Rattle.strings.specs.Sums.{byteAt, bitOf, xorSum};
+ghost use Rattle.vole.specs.Sums.{lanes, planeByte, SumsAre, TableIs};
+
+// Repetitions side by side in a table: entry c of repetition e stands at c·LANES + e. The stride is fixed, so that loops over it have a constant length.
+pub const LANES: usize = 48;
+
+// Adds a row to the planes p below r whose bit is set in j, which is public.
+pub fn absorb(planes: &mut [u8], r: usize, j: usize, row: &[u8])
+    requires { ⌜ (length (now planes) ≡ r * length (now row)) × (r ≤ 8) ⌝ }
+    ensures { λ _. ⌜ ((p b : ℕ) → p < r → b < length (now (row .entry)) → byteAt (now (planes .exit)) (p * length (now (row .entry)) + b) ≡ bitXor (byteAt (now (planes .entry)) (p * length (now (row .entry)) + b)) (bitOf j p * byteAt (now (row .entry)) b)) ⌝ }
+{
+    let mut p = 0;
+    while p < r {
+        if (j >> p) % 2 == 1 {
+            strings::xor_row(planes, p, row);
+        }
+        p += 1;
+    }
+}
+
+// 01's u_e and v_e of one tree: u is the sum of its leaves, and plane p has the bits p of v, the sum of the leaves j with bit p of j set.
+// Plane p takes the running sum of the leaves where bit p of the leaf's number changes, so that three rows are added for each leaf, and not
+// five. It needs a count whose low r bits are 0.
+pub fn leaf_sums(u: &mut [u8], planes: &mut [u8], r: usize, leaves: &[u8], count: usize, w: usize)
+    requires { ⌜ (length (now leaves) ≡ count * w) × (length (now u) ≡ w) × (length (now planes) ≡ r * w) × (r ≤ 8) ⌝ }
+    requires { ⌜ ((p : ℕ) → p < r → bitOf count p ≡ 0) × (count < 65536) ⌝ }
+    ensures { λ _. ⌜ ((b : ℕ) → b < w → byteAt (now (u .exit)) b ≡ xorSum count (λ j. byteAt (now (leaves .entry)) (j * w + b))) ⌝ }
+    ensures { λ _. ⌜ ((p b : ℕ) → p < r → b < w → byteAt (now (planes .exit)) (p * w + b) ≡ planeByte (now (leaves .entry)) count w p b) ⌝ }
+{
+    strings::clear(u);
+    strings::clear(planes);
+    let mut j = 0;
+    while j < count {
+        strings::xor_into(u, strings::row_at(leaves, w, j));
+        absorb(planes, r, j ^ (j + 1), u);
+        j += 1;
+    }
+}
+
+// The byte whose bit p is bit i of byte b of plane p.
+fn gathered(planes: &[u8], w: usize, b: usize, i: usize) -> u8
+    requires { ⌜ (length (now planes) ≡ 8 * w) × (b < w) × (i < 8) ⌝ }
+    ensures { λ r. ⌜ r ≡ fromBits 8 (λ p. bitOf (byteAt (now (planes .entry)) (p * w + b)) i) ⌝ }
+{
+    let mut sum = 0u8;
+    let mut p = 0usize;
+    while p < 8 {
+        sum ^= (planes[p * w + b] >> i) % 2 << p;
+        p += 1;
+    }
+    sum
+}
+
+// Writes lane e of the eight coordinates of byte b.
+fn spread_byte(table: &mut [u8], e: usize, planes: &[u8], w: usize, b: usize)
+    requires { ⌜ (length (now table) ≡ 8 * w * lanes) × (length (now planes) ≡ 8 * w) × (e < lanes) × (b < w) ⌝ }
+    ensures { λ _. ⌜ ((i : ℕ) → i < 8 → byteAt (now (table .exit)) ((b * 8 + i) * lanes + e) ≡ fromBits 8 (λ p. bitOf (byteAt (now (planes .entry)) (p * w + b)) i)) ⌝ }
+    ensures { λ _. ⌜ ((c q : ℕ) → q < lanes → (q ≡ e → c < b * 8) → byteAt (now (table .exit)) (c * lanes + q) ≡ byteAt (now (table .entry)) (c * lanes + q)) ⌝ }
+{
+    let mut i = 0;
+    while i < 8 {
+        table[(b * 8 + i) * LANES + e] = gathered(planes, w, b, i);
+        i += 1;
+    }
+}
+
+// Writes lane e of the table from the planes of one tree: bit p of coordinate c is coordinate c of plane p. Bytes are walked, and the eight
+// places in each.
+pub fn spread(table: &mut [u8], e: usize, planes: &[u8], w: usize)
+    requires { ⌜ (length (now table) ≡ 8 * w * lanes) × (length (now planes) ≡ 8 * w) × (e < lanes) ⌝ }
+    ensures { λ _. ⌜ ((c : ℕ) → c < 8 * w → byteAt (now (table .exit)) (c * lanes + e) ≡ fromBits 8 (λ p. bit (blockAt (now (planes .entry)) w p) c)) ⌝ }
+    ensures { λ _. ⌜ ((c q : ℕ) → q < lanes → (q ≡ e → ⊥) → byteAt (now (table .exit)) (c * lanes + q) ≡ byteAt (now (table .entry)) (c * lanes + q)) ⌝ }
+{
+    let mut b = 0;
+    while b < w {
+        spread_byte(table, e, planes, w, b);
+        b += 1;
+    }
+}
