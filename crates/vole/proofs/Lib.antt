@@ -2,3 +2,4 @@ pub mod PlaneLaws
 pub mod PartialLaws
 pub mod BitLaws
 pub mod LaneLaws
+pub mod TreeLaws

@@ -1,4 +1,5 @@
 // Leaf sums for all repetitions, and the sections C, d and ũ that are made of them.
+use field::Gf256;
 ghost use mathlib.Core.Path.{_≡_};
 ghost use Prim.Native.Nat.{ℕ, _+_, _*_, _<_, _≤_};
 ghost use lib.ListN.{length};
@@ -6,7 +7,7 @@ ghost use lib.Bits.{bitXor};
 ghost use Rattle.protocol.specs.Lists.{blockAt};
 ghost use Rattle.protocol.specs.Strings.{bit, fromBits};
 ghost use Rattle.strings.specs.Sums.{byteAt, bitOf, xorSum};
-ghost use Rattle.vole.specs.Sums.{lanes, planeByte, SumsAre, TableIs};
+ghost use Rattle.vole.specs.Sums.{lanes, planeByte, uByte, vByte, SumsAre, TableIs};
 
 // Repetitions side by side in a table: entry c of repetition e stands at c·LANES + e. The stride is fixed, so that loops over it have a constant length.
 pub const LANES: usize = 48;
@@ -82,5 +83,50 @@ pub fn spread(table: &mut [u8], e: usize, planes: &[u8], w: usize)
     while b < w {
         spread_byte(table, e, planes, w, b);
         b += 1;
+    }
+}
+
+// The widest leaf that is served, in bytes.
+const MOST_WIDTH: usize = 128;
+
+// Writes u_e and v_e of repetition e.
+fn load_tree(
+    table: &mut [u8],
+    sums: &mut [u8],
+    planes: &mut [u8],
+    leaves: &[u8],
+    e: usize,
+    w: usize,
+)
+    requires { ⌜ (length (now table) ≡ 8 * w * lanes) × (length (now planes) ≡ 8 * w) × (e < lanes) × (e * w + w ≤ length (now sums)) × (e * (256 * w) + 256 * w ≤ length (now leaves)) ⌝ }
+    ensures { λ _. ⌜ ((b : ℕ) → b < w → byteAt (now (sums .exit)) (e * w + b) ≡ uByte (now (leaves .entry)) w e b) ⌝ }
+    ensures { λ _. ⌜ ((c : ℕ) → c < 8 * w → byteAt (now (table .exit)) (c * lanes + e) ≡ vByte (now (leaves .entry)) w e c) ⌝ }
+    ensures { λ _. ⌜ ((q b : ℕ) → (q ≡ e → ⊥) → b < w → byteAt (now (sums .exit)) (q * w + b) ≡ byteAt (now (sums .entry)) (q * w + b)) ⌝ }
+    ensures { λ _. ⌜ ((c q : ℕ) → q < lanes → (q ≡ e → ⊥) → byteAt (now (table .exit)) (c * lanes + q) ≡ byteAt (now (table .entry)) (c * lanes + q)) ⌝ }
+{
+    let tree = strings::row_at(leaves, Gf256::SIZE * w, e);
+    let at = e * w;
+    leaf_sums(
+        &mut sums[at..at + w],
+        planes,
+        Gf256::DEGREE,
+        tree,
+        Gf256::SIZE,
+        w,
+    );
+    spread(table, e, planes, w);
+}
+
+// 01's u_e and v_e for every repetition e below tau, from the full leaves: u_e is row e of the sums, v_e is lane e of the table.
+pub fn load_trees(table: &mut [u8], sums: &mut [u8], leaves: &[u8], tau: usize, w: usize)
+    requires { ⌜ (length (now table) ≡ 8 * w * lanes) × (length (now sums) ≡ tau * w) × (length (now leaves) ≡ tau * 256 * w) × (tau ≤ lanes) × (w ≤ 128) ⌝ }
+    ensures { λ _. ⌜ SumsAre (now (sums .exit)) (now (leaves .entry)) tau w ⌝ }
+    ensures { λ _. ⌜ TableIs (now (table .exit)) (now (leaves .entry)) tau w ⌝ }
+{
+    let mut planes = [0u8; 8 * MOST_WIDTH];
+    let mut e = 0;
+    while e < tau {
+        load_tree(table, sums, &mut planes[..8 * w], leaves, e, w);
+        e += 1;
     }
 }
