@@ -3,3 +3,4 @@ pub mod PartialLaws
 pub mod BitLaws
 pub mod LaneLaws
 pub mod TreeLaws
+pub mod SumsMeaning

@@ -7,7 +7,7 @@ use mathlib.Core.Logic.{⊎-elim}
 use native.Mathlib.Nat.{mul-assoc, add-mul, eq-or-lt-of-le, le-of-suc-le-suc}
 use native.Mathlib.Numerals.{add-one}
 use native.Mathlib.Omega.{arith}
-use lib.Bits.{bitXor, xor-lt}
+use lib.Bits.{xor-lt, xor-zero-r}
 use lib.Dec.{lit<}
 use Rattle.protocol.specs.Lists.{blockAt}
 use Rattle.protocol.specs.Strings.{bit, fromBits}
@@ -22,6 +22,11 @@ pub sum-lt : (k n : ℕ) (f : ℕ → ℕ) → 0 < 2 ^ k → ((i : ℕ) → i < 
 unfolding xorSum
 sum-lt k zero f pos h = pos
 sum-lt k (suc n) f pos h = xor-lt k (xorSum n f) (f n) (sum-lt k n f pos (λ i l. h i (omega arith))) (h n (omega arith))
+
+pub sum-none : (n : ℕ) → xorSum n (λ i. 0) ≡ 0
+unfolding xorSum
+sum-none zero = refl
+sum-none (suc n) = xor-zero-r (xorSum n (λ i. 0)) ∙ sum-none n
 
 module _ (leaves : List ℕ) (w e : ℕ) where
   tree-byte : (j b : ℕ) → j < 256 → b < w → byteAt (blockAt leaves (256 * w) e) (j * w + b) ≡ byteAt leaves ((e * 256 + j) * w + b)
