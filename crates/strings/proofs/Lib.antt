@@ -3,3 +3,4 @@ pub mod SumLaws
 pub mod Elementwise
 pub mod Rows
 pub mod Meaning
+pub mod Packed

@@ -30,6 +30,18 @@ pub fn xor_two_into(dst: &mut [u8], a: &[u8], b: &[u8])
     }
 }
 
+// dst[i] = a[i] ^ b[i], for each i.
+pub fn xor_of(dst: &mut [u8], a: &[u8], b: &[u8])
+    requires { ⌜ (length (now a) ≡ length (now dst)) × (length (now b) ≡ length (now dst)) ⌝ }
+    ensures { λ _. ⌜ ((i : ℕ) → i < length (now (dst .entry)) → byteAt (now (dst .exit)) i ≡ bitXor (byteAt (now (a .entry)) i) (byteAt (now (b .entry)) i)) ⌝ }
+{
+    let mut i = 0;
+    while i < dst.len() {
+        dst[i] = a[i] ^ b[i];
+        i += 1;
+    }
+}
+
 // Each byte is 0.
 pub fn clear(dst: &mut [u8])
     ensures { λ _. ⌜ ((i : ℕ) → i < length (now (dst .entry)) → byteAt (now (dst .exit)) i ≡ 0) ⌝ }

@@ -26,10 +26,9 @@ use Rattle.protocol.proofs.ListLaws.{row-end, length-block}
 use Rattle.protocol.proofs.StringLaws.{bit-lt, spare-at}
 use Rattle.strings.specs.Sums.{byteAt, bitOf, xorSum}
 use Rattle.strings.proofs.Rows.{row-byte}
-use Rattle.strings.proofs.SumLaws.{sum-same}
+use Rattle.strings.proofs.SumLaws.{sum-same, sum-lt, sum-none}
 use Rattle.strings.proofs.Meaning.{bitOf-sum, bit-is, byte-sum}
 use Rattle.vole.specs.Sums.{lanes, uByte, vByte, SumsAre, TableIs}
-use Rattle.vole.proofs.TreeLaws.{sum-lt, sum-none}
 
 module _ (C : Coded) where
   open Coded C using (base, elem, byte)

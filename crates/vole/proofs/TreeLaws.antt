@@ -7,26 +7,15 @@ use mathlib.Core.Logic.{⊎-elim}
 use native.Mathlib.Nat.{mul-assoc, add-mul, eq-or-lt-of-le, le-of-suc-le-suc}
 use native.Mathlib.Numerals.{add-one}
 use native.Mathlib.Omega.{arith}
-use lib.Bits.{xor-lt, xor-zero-r}
 use lib.Dec.{lit<}
 use Rattle.protocol.specs.Lists.{blockAt}
 use Rattle.protocol.specs.Strings.{bit, fromBits}
 use Rattle.protocol.proofs.StringLaws.{bit-lt, bits-congr, bits-of}
 use Rattle.strings.specs.Sums.{byteAt, bitOf, xorSum}
 use Rattle.strings.proofs.Rows.{row-end, row-byte}
-use Rattle.strings.proofs.SumLaws.{sum-same}
+use Rattle.strings.proofs.SumLaws.{sum-same, sum-lt}
 use Rattle.strings.proofs.Meaning.{bitOf-lt, bitOf-sum, bit-times, times-bit, bit-is}
 use Rattle.vole.specs.Sums.{lanes, planeByte, uByte, vByte, SumsAre, TableIs}
-
-pub sum-lt : (k n : ℕ) (f : ℕ → ℕ) → 0 < 2 ^ k → ((i : ℕ) → i < n → f i < 2 ^ k) → xorSum n f < 2 ^ k
-unfolding xorSum
-sum-lt k zero f pos h = pos
-sum-lt k (suc n) f pos h = xor-lt k (xorSum n f) (f n) (sum-lt k n f pos (λ i l. h i (omega arith))) (h n (omega arith))
-
-pub sum-none : (n : ℕ) → xorSum n (λ i. 0) ≡ 0
-unfolding xorSum
-sum-none zero = refl
-sum-none (suc n) = xor-zero-r (xorSum n (λ i. 0)) ∙ sum-none n
 
 module _ (leaves : List ℕ) (w e : ℕ) where
   tree-byte : (j b : ℕ) → j < 256 → b < w → byteAt (blockAt leaves (256 * w) e) (j * w + b) ≡ byteAt leaves ((e * 256 + j) * w + b)
