@@ -15,7 +15,7 @@ use Rattle.strings.specs.Sums.{byteAt, bitOf, xorSum}
 use Rattle.strings.proofs.Rows.{row-end, row-byte}
 use Rattle.strings.proofs.SumLaws.{sum-same, sum-lt}
 use Rattle.strings.proofs.Meaning.{bitOf-lt, bitOf-sum, bit-times, times-bit, bit-is}
-use Rattle.vole.specs.Sums.{lanes, planeByte, uByte, vByte, SumsAre, TableIs}
+use Rattle.vole.specs.Sums.{lanes, planeByte, uByte, vByte, TableIs}
 
 module _ (leaves : List ℕ) (w e : ℕ) where
   tree-byte : (j b : ℕ) → j < 256 → b < w → byteAt (blockAt leaves (256 * w) e) (j * w + b) ≡ byteAt leaves ((e * 256 + j) * w + b)
@@ -55,12 +55,7 @@ module _ (leaves : List ℕ) (w e : ℕ) where
       (λ p k. bit-is (blockAt planes w p) c ∙ ap (λ y. bitOf y (c % 8)) (row-byte planes w p (c / 8) l ∙ is p (c / 8) k l) ∙ plane-bit p c h)
       ∙ bits-of 8 (vByte leaves w e c) (v-lt c)
 
-  -- the repetitions below e are done, and now e
-  pub sums-more : (l l′ : List ℕ) → SumsAre l leaves e w → ((b : ℕ) → b < w → byteAt l′ (e * w + b) ≡ uByte leaves w e b)
-      → ((q b : ℕ) → (q ≡ e → ⊥) → b < w → byteAt l′ (q * w + b) ≡ byteAt l (q * w + b)) → SumsAre l′ leaves (e + 1) w
-  sums-more l l′ done row others q b h k =
-      ⊎-elim (λ (eq : q ≡ e). rw eq (row b k)) (λ (lt : q < e). others q b (λ x. omega arith) k ∙ done q b lt k) (eq-or-lt-of-le (le-of-suc-le-suc (rw add-one at h)))
-
+  -- the lanes below e are done, and now lane e
   pub table-more : (l l′ : List ℕ) → e < lanes → TableIs l leaves e w → ((c : ℕ) → c < 8 * w → byteAt l′ (c * lanes + e) ≡ vByte leaves w e c)
       → ((c q : ℕ) → q < lanes → (q ≡ e → ⊥) → byteAt l′ (c * lanes + q) ≡ byteAt l (c * lanes + q)) → TableIs l′ leaves (e + 1) w
   table-more l l′ el done lane others q c h k =

@@ -3,10 +3,12 @@
 --   planeByte leaves count w p b == byte b of plane p: the sum of the leaves j below count with bit p of j set
 --   uByte leaves w e b == byte b of u_e;  vByte leaves w e c == coordinate c of v_e = Σ j·ℓ(e, j), as a byte
 --   SumsAre, TableIs == a string has the rows u_e, and a table the lanes v_e, for each repetition e below τ
+--   CorrectionsAre out sums n w == out has n rows of w bytes, row e the sum of rows e + 1 and 0 of the sums
 -- Assumes nothing.
 use mathlib.Core.Path.{_≡_}
 use mathlib.Core.List.{List}
 use Prim.Native.Nat.{ℕ, _+_, _*_, _<_}
+use lib.Bits.{bitXor}
 use Rattle.protocol.specs.Lists.{blockAt}
 use Rattle.protocol.specs.Strings.{bit}
 use Rattle.strings.specs.Sums.{byteAt, bitOf, xorSum}
@@ -28,3 +30,6 @@ SumsAre sums leaves τ w = (e b : ℕ) → e < τ → b < w → byteAt sums (e *
 
 abbrev pub TableIs : List ℕ → List ℕ → ℕ → ℕ → Type 0
 TableIs table leaves τ w = (e c : ℕ) → e < τ → c < 8 * w → byteAt table (c * lanes + e) ≡ vByte leaves w e c
+
+abbrev pub CorrectionsAre : List ℕ → List ℕ → ℕ → ℕ → Type 0
+CorrectionsAre out sums n w = (e b : ℕ) → e < n → b < w → byteAt out (e * w + b) ≡ bitXor (byteAt sums ((e + 1) * w + b)) (byteAt sums b)

@@ -1,13 +1,13 @@
 // Leaf sums for all repetitions, and the sections C, d and ũ that are made of them.
 use field::Gf256;
 ghost use mathlib.Core.Path.{_≡_};
-ghost use Prim.Native.Nat.{ℕ, _+_, _*_, _<_, _≤_};
+ghost use Prim.Native.Nat.{ℕ, _+_, _*_, _-_, _<_, _≤_};
 ghost use lib.ListN.{length};
 ghost use lib.Bits.{bitXor};
 ghost use Rattle.protocol.specs.Lists.{blockAt};
 ghost use Rattle.protocol.specs.Strings.{bit, fromBits};
 ghost use Rattle.strings.specs.Sums.{byteAt, bitOf, xorSum};
-ghost use Rattle.vole.specs.Sums.{lanes, planeByte, uByte, vByte, SumsAre, TableIs};
+ghost use Rattle.vole.specs.Sums.{lanes, planeByte, uByte, vByte, SumsAre, TableIs, CorrectionsAre};
 
 // Repetitions side by side in a table: entry c of repetition e stands at c·LANES + e. The stride is fixed, so that loops over it have a constant length.
 pub const LANES: usize = 48;
@@ -127,6 +127,30 @@ pub fn load_trees(table: &mut [u8], sums: &mut [u8], leaves: &[u8], tau: usize, 
     let mut e = 0;
     while e < tau {
         load_tree(table, sums, &mut planes[..8 * w], leaves, e, w);
+        e += 1;
+    }
+}
+
+// C_(e+1) = u_(e+1) + u, as row e of the section.
+fn write_correction(out: &mut [u8], sums: &[u8], e: usize, w: usize)
+    requires { ⌜ (e < lanes) × (e * w + w ≤ length (now out)) × ((e + 1) * w + w ≤ length (now sums)) ⌝ }
+    ensures { λ _. ⌜ ((b : ℕ) → b < w → byteAt (now (out .exit)) (e * w + b) ≡ bitXor (byteAt (now (sums .entry)) ((e + 1) * w + b)) (byteAt (now (sums .entry)) b)) ⌝ }
+    ensures { λ _. ⌜ ((q b : ℕ) → (q ≡ e → ⊥) → b < w → byteAt (now (out .exit)) (q * w + b) ≡ byteAt (now (out .entry)) (q * w + b)) ⌝ }
+{
+    let next = strings::row_at(sums, w, e + 1);
+    let first = strings::row_at(sums, w, 0);
+    let at = e * w;
+    strings::xor_of(&mut out[at..at + w], next, first);
+}
+
+// The section C: the corrections of repetitions 1 to tau - 1, from the rows u_e. C_0 is all zero and not sent.
+pub fn write_corrections(out: &mut [u8], sums: &[u8], tau: usize, w: usize)
+    requires { ⌜ (length (now sums) ≡ tau * w) × (length (now out) ≡ (tau - 1) * w) × (tau ≤ lanes) ⌝ }
+    ensures { λ _. ⌜ CorrectionsAre (now (out .exit)) (now (sums .entry)) (tau - 1) w ⌝ }
+{
+    let mut e = 0;
+    while e + 1 < tau {
+        write_correction(out, sums, e, w);
         e += 1;
     }
 }
