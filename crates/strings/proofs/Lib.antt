@@ -4,3 +4,4 @@ pub mod Elementwise
 pub mod Rows
 pub mod Meaning
 pub mod Packed
+pub mod BitLaws

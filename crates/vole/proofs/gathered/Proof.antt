@@ -10,7 +10,7 @@ use Rattle.strings.specs.Sums.{byteAt, bitOf, xorSum}
 use Rattle.strings.proofs.Rows.{row-end}
 use Rattle.strings.proofs.SumLaws.{sum-more}
 use Rattle.strings.proofs.Meaning.{bitOf-lt}
-use Rattle.vole.proofs.BitLaws.{bits-sum, bit-shifted}
+use Rattle.strings.proofs.BitLaws.{bits-sum, bit-shifted}
 use Rattle.vole.proofs.gathered.Statement.{statement}
 use Rattle.vole.proofs.gathered.Tie as tie
 use Rattle.vole.proofs.gathered.Reads as reads
