@@ -6,8 +6,8 @@ use Prim.Native.Nat.{ℕ, zero, suc, _+_, _*_, _^_, _/_, _%_, _-_, _≤_, _<_}
 use native.Mathlib.Nat.{pow-suc, mul-assoc, mul-comm, mul-le-mul, le-refl, mod-eq-of-lt, mod-lt, div-eq-of-lt, mul-mod-left, one-mul}
 use lib.Pow.{pow-mono, pow-lt, pow-add, pow-pos, field, mod-mod-pow, shl-shr}
 use lib.Dec.{lit<}
-use lib.ListN.{length, set}
-use lib.Seq.{getD-set-same, getD-set-other}
+use lib.ListN.{length, set, take}
+use lib.Seq.{getD-take, getD-set-same, getD-set-other}
 use native.Mathlib.Decide.{ℕ-discrete}
 use native.Mathlib.Omega.{arith, ne-cases}
 use lib.Bits.{bitAnd, bitXor, and-mask, xor-comm, xor-shifted, xor-zero-r}
@@ -128,3 +128,13 @@ module _ (l : List ℕ) (n : ℕ) (spare : n % 8 ≡ 0 → ⊥) (long : length l
 
 pub mask-is : (x k : ℕ) → k < 8 → bitAnd x (1 * 2 ^ k % 256 - 1) ≡ x % 2 ^ k
 mask-is x k h = ap (λ m. bitAnd x (m - 1)) (bit-shifted 1 k (lit< tt) h ∙ one-mul (2 ^ k)) ∙ and-mask x k
+
+-- ---- strings added, and cut short
+
+pub xor-bits : (l a b : List ℕ) (n : ℕ) → ((i : ℕ) → i < n → byteAt l i ≡ bitXor (byteAt a i) (byteAt b i)) → (c : ℕ) → c < n * 8 → bit l c ≡ bitXor (bit a c) (bit b c)
+xor-bits l a b n is c h =
+    bit-is l c ∙ ap (λ x. bitOf x (c % 8)) (is (c / 8) (omega arith)) ∙ bitOf-xor (byteAt a (c / 8)) (byteAt b (c / 8)) (c % 8)
+    ∙ ap₂ bitXor (sym (bit-is a c)) (sym (bit-is b c))
+
+pub take-bit : (n : ℕ) (l : List ℕ) (c : ℕ) → c < n * 8 → bit (take n l) c ≡ bit l c
+take-bit n l c h = bit-is (take n l) c ∙ ap (λ x. bitOf x (c % 8)) (getD-take n l (c / 8) 0 (omega arith)) ∙ sym (bit-is l c)

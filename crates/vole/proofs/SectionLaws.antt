@@ -11,17 +11,19 @@ use lib.Bits.{bitXor, xor-lt}
 use lib.ListN.{length}
 use Rattle.protocol.specs.Lists.{blockAt}
 use Rattle.protocol.specs.Strings.{bytesFor, bit, pack}
+use Rattle.protocol.specs.Alphabet.{sym as symbol}
 use Rattle.protocol.specs.Binary.{bits256}
 use Rattle.protocol.specs.Shape.{Shape, perTree, kOf, lOf, wOf}
 use Rattle.protocol.specs.Questions.{leavesExact, leavesSpare}
-use Rattle.protocol.specs.Prover.{u, correction, cSection}
+use Rattle.protocol.specs.Prover.{u, correction, dOf, cSection, dSection}
 use Rattle.protocol.proofs.ListLaws.{length-block}
+use Rattle.protocol.proofs.StringLaws.{bit-lt}
 use Rattle.strings.specs.Sums.{byteAt, bitOf}
 use Rattle.strings.proofs.Rows.{row-end, row-byte, row-lt}
 use Rattle.strings.proofs.Meaning.{bitOf-xor, bit-is}
-use Rattle.strings.proofs.Packed.{packed, rows-are}
+use Rattle.strings.proofs.Packed.{packed, pack-congr, rows-are}
 use Rattle.vole.specs.Sums.{SumsAre, CorrectionsAre}
-use Rattle.vole.proofs.SumsMeaning.{byteOf, u-lt, u-spare, sums-u}
+use Rattle.vole.proofs.SumsMeaning.{byteOf, byte-bit, u-lt, u-spare, sums-u}
 
 abbrev Element : Type 0
 Element = bits256 .K .base .R .F
@@ -38,6 +40,13 @@ in-width s c h = omega arith
 width-is : (s : Shape) → wOf bits256 s ≡ bytesFor (lOf bits256 s)
 unfolding wOf
 width-is s = refl
+
+-- row has the coordinates of 01's u
+abbrev pub IsU : Shape → List ℕ → List ℕ → Type 0
+IsU s leaves row = (c : ℕ) → c < 8 * wOf bits256 s → bit row c ≡ byteOf (u bits256 s leaves 0 c)
+
+pub first-is-u : (s : Shape) (leaves sums : List ℕ) → 0 < s .τ → SumsAre sums leaves (s .τ) (wOf bits256 s) → IsU s leaves (blockAt sums (wOf bits256 s) 0)
+first-is-u s leaves sums pos are c h = sums-u s leaves 0 c sums (s .τ) are pos h
 
 module _ (s : Shape) (leaves : List ℕ) where
   abbrev w : ℕ
@@ -74,3 +83,10 @@ module _ (s : Shape) (leaves : List ℕ) where
           where
             size : length (blockAt out w e) ≡ w
             size = length-block out w e (omega (arith, row-end e (s .τ - 1) w l))
+
+  pub difference-is : (x row : List ℕ) → IsU s leaves row → pack (s .n) (λ c. bitXor (bit x c) (bit row c)) ≡ dSection bits256 s leaves x
+  unfolding dSection dOf symbol lOf kOf
+  difference-is x row is =
+      pack-congr (s .n) _ _ (λ c l.
+      ap₂ bitXor (sym (byte-bit (bits256 .K) (bit x c) (bit-lt x c))) (is c (in-width s c (omega arith)))
+      ∙ sym (sum-symbol (bits256 .K .elem (bit x c)) (u bits256 s leaves 0 c) (rw (byte-bit (bits256 .K) (bit x c) (bit-lt x c)) (bit-lt x c)) (u-lt s leaves 0 c)))

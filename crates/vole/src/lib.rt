@@ -5,7 +5,7 @@ ghost use Prim.Native.Nat.{ℕ, _+_, _*_, _-_, _<_, _≤_};
 ghost use lib.ListN.{length};
 ghost use lib.Bits.{bitXor};
 ghost use Rattle.protocol.specs.Lists.{blockAt};
-ghost use Rattle.protocol.specs.Strings.{bit, fromBits};
+ghost use Rattle.protocol.specs.Strings.{bytesFor, bit, fromBits, pack};
 ghost use Rattle.strings.specs.Sums.{byteAt, bitOf, xorSum};
 ghost use Rattle.vole.specs.Sums.{lanes, planeByte, uByte, vByte, SumsAre, TableIs, CorrectionsAre};
 
@@ -153,4 +153,14 @@ pub fn write_corrections(out: &mut [u8], sums: &[u8], tau: usize, w: usize)
         write_correction(out, sums, e, w);
         e += 1;
     }
+}
+
+// The section d = x + the first n bits of u. The mask bits of u that share its last byte are cleared.
+pub fn write_difference(out: &mut [u8], witness: &[u8], u: &[u8], n: usize)
+    requires { ⌜ (length (now out) ≡ bytesFor n) × (length (now witness) ≡ bytesFor n) × (bytesFor n ≤ length (now u)) ⌝ }
+    ensures { λ _. ⌜ now (out .exit) ≡ pack n (λ c. bitXor (bit (now (witness .entry)) c) (bit (now (u .entry)) c)) ⌝ }
+{
+    let count = out.len();
+    strings::xor_of(out, witness, &u[..count]);
+    strings::clear_spare(out, n);
 }
