@@ -1,0 +1,6 @@
+pub mod PlaneLaws
+pub mod PartialLaws
+pub mod LaneLaws
+pub mod TreeLaws
+pub mod SumsMeaning
+pub mod SectionLaws
