@@ -6,6 +6,7 @@ pub mod BinaryLaws
 pub mod LeafLaws
 pub mod VoleLaws
 pub mod FormLaws
+pub mod HashLaws
 pub mod CoefficientLaws
 pub mod AnswerLaws
 pub mod ReplyLaws
