@@ -4,10 +4,11 @@ use mathlib.Core.Path.{_≡_, refl, sym, ap, ap₂, _∙_}
 use mathlib.Core.List.{List}
 use Prim.Native.Nat.{ℕ, zero, suc, _+_, _*_, _/_, _%_, _^_, _≤_, _<_}
 use native.Mathlib.Nat.{zero-mul, mod-lt, mod-mod, div-one, pow-suc, div-lt-iff-lt-mul}
+use native.Mathlib.Numerals.{add-one}
 use native.Mathlib.Omega.{arith}
 use lib.Arith.{lt-one}
-use lib.Bits.{bitAnd, bitXor, and-shr, and-mod, xor-add-and, xor-mod}
-use lib.Count.{ones, ones-step}
+use lib.Bits.{bitAnd, bitXor, and-shr, and-mod, and-le-l, xor-add-and, xor-mod}
+use lib.Count.{ones, ones-step, ones-le}
 use lib.Dec.{lit<}
 use lib.ListN.{length}
 use lib.Pow.{shr-shr}
@@ -75,3 +76,15 @@ shared-parity (suc n) row x h =
 
 pub row-product : RowProduct
 row-product row x h l = shared-parity (length row) row x h
+
+-- ---- bounds
+
+pub shared-le : (n : ℕ) (row x : List ℕ) → ((i : ℕ) → byteAt row i < 256) → shared n row x ≤ 8 * n
+unfolding shared
+shared-le zero row x h = omega arith
+shared-le (suc n) row x h =
+    omega (arith, shared-le n row x h, ones-le 8 (bitAnd (byteAt row n) (byteAt x n)) (omega (arith, and-le-l (byteAt row n) (byteAt x n), h n)))
+
+pub shared-more : (n : ℕ) (row x : List ℕ) → shared (n + 1) row x ≡ shared n row x + ones (bitAnd (byteAt row n) (byteAt x n))
+unfolding shared
+shared-more n row x = rw add-one
