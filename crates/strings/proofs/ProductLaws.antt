@@ -13,9 +13,10 @@ use lib.Dec.{lit<}
 use lib.ListN.{length}
 use lib.Pow.{shr-shr}
 use Rattle.protocol.specs.Strings.{bit, bytes}
+use Rattle.protocol.proofs.StringLaws.{bit-lt}
 use Rattle.strings.specs.Sums.{byteAt, bitOf, xorSum}
 use Rattle.strings.specs.Products.{shared, product, RowProduct}
-use Rattle.strings.proofs.SumLaws.{sum-same, sum-parts}
+use Rattle.strings.proofs.SumLaws.{sum-same, sum-parts, sum-lt}
 use Rattle.strings.proofs.Meaning.{bit-place}
 
 pub parity-add : (a b : ℕ) → (a + b) % 2 ≡ bitXor (a % 2) (b % 2)
@@ -78,6 +79,14 @@ pub row-product : RowProduct
 row-product row x h l = shared-parity (length row) row x h
 
 -- ---- bounds
+
+bit-times-lt : (p q : ℕ) → p < 2 → q < 2 → p * q < 2
+bit-times-lt zero q h k = omega arith
+bit-times-lt (suc zero) q h k = omega arith
+bit-times-lt (suc (suc p)) q h k = absurd (omega arith)
+
+pub product-lt : (n : ℕ) (row x : List ℕ) → product n row x < 2
+product-lt n row x = sum-lt 1 n _ (lit< tt) (λ c l. bit-times-lt _ _ (bit-lt row c) (bit-lt x c))
 
 pub shared-le : (n : ℕ) (row x : List ℕ) → ((i : ℕ) → byteAt row i < 256) → shared n row x ≤ 8 * n
 unfolding shared

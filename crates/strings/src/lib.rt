@@ -132,7 +132,7 @@ fn shared_bytes(row: &[u8], x: &[u8], from: usize) -> u32
 // The product of two rows of bits over GF(2): the parity of the ones that they share.
 pub fn row_product(row: &[u8], x: &[u8]) -> u8
     requires { ⌜ (length (now x) ≡ length (now row)) × (length (now row) ≤ 100000) ⌝ }
-    ensures { λ r. ⌜ r ≡ product (length (now (row .entry)) * 8) (now (row .entry)) (now (x .entry)) ⌝ }
+    ensures { λ r. ⌜ (r ≡ product (length (now (row .entry)) * 8) (now (row .entry)) (now (x .entry))) × (r < 2) ⌝ }
 {
     let count = shared_bytes(row, x, 0);
     (count % 2) as u8

@@ -25,7 +25,7 @@ unfolding shared
 returns c =
     let a = c .before .before .before .args in
     let e : c .shared-bytes .result ≡ shared (length (now (a .row))) (now (a .row)) (now (a .x)) = omega (arith, c .shared-bytes .ensures) in
-    ap (λ n. n % 2) e ∙ row-product (now (a .row)) (now (a .x)) (λ i l. c .before .before .shared-slice-known .given i .fits) (omega arith)
+    (ap (λ n. n % 2) e ∙ row-product (now (a .row)) (now (a .x)) (λ i l. c .before .before .shared-slice-known .given i .fits) (omega arith), search needs)
 
 pub row-product-spec : {M : Type 1} → statement M
 row-product-spec = tie.close (tie.spec shared-bytes-requires cast-result returns)
