@@ -5,3 +5,4 @@ pub mod Rows
 pub mod Meaning
 pub mod Packed
 pub mod BitLaws
+pub mod ProductLaws

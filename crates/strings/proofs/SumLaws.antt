@@ -1,6 +1,6 @@
 -- Laws of sums: one term more, a part after a part, terms that agree, terms that are 0, the bound of a sum; and a term times a bit, which a loop adds under a test.
 -- Assumes nothing.
-use Prim.Native.Nat.{ℕ, zero, suc, _+_, _*_, _^_, _≤_, _<_}
+use Prim.Native.Nat.{ℕ, zero, suc, _+_, _*_, _-_, _^_, _≤_, _<_}
 use mathlib.Core.Path.{_≡_, refl, sym, ap, ap₂, _∙_}
 use native.Mathlib.Nat.{add-suc, add-zero, one-mul, zero-mul}
 use native.Mathlib.Numerals.{add-one}
@@ -33,6 +33,13 @@ pub sum-none : (n : ℕ) → xorSum n (λ i. 0) ≡ 0
 unfolding xorSum
 sum-none zero = refl
 sum-none (suc n) = xor-zero-r (xorSum n (λ i. 0)) ∙ sum-none n
+
+-- terms from n on that are 0
+pub sum-short : (n m : ℕ) (f : ℕ → ℕ) → n ≤ m → ((i : ℕ) → n ≤ i → i < m → f i ≡ 0) → xorSum m f ≡ xorSum n f
+sum-short n m f h zeros =
+    let e : m ≡ n + (m - n) = omega arith in
+    ap (λ k. xorSum k f) e ∙ sum-parts n (m - n) f
+    ∙ ap (bitXor (xorSum n f)) (sum-same (m - n) _ (λ i. 0) (λ i l. zeros (n + i) (omega arith) (omega arith)) ∙ sum-none (m - n)) ∙ xor-zero-r (xorSum n f)
 
 -- a sum of numbers of k bits has k bits
 pub sum-lt : (k n : ℕ) (f : ℕ → ℕ) → 0 < 2 ^ k → ((i : ℕ) → i < n → f i < 2 ^ k) → xorSum n f < 2 ^ k

@@ -6,6 +6,7 @@ ghost use lib.Bits.{bitXor};
 ghost use Rattle.protocol.specs.Lists.{blockAt};
 ghost use Rattle.protocol.specs.Strings.{bytesFor, bit};
 ghost use Rattle.strings.specs.Sums.{byteAt};
+ghost use Rattle.strings.specs.Products.{shared, product};
 
 // dst[i] ^= src[i], for each i.
 pub fn xor_into(dst: &mut [u8], src: &[u8])
@@ -112,4 +113,27 @@ pub fn clear_spare(s: &mut [u8], n: usize)
     if n % 8 != 0 {
         s[n / 8] &= (1u8 << (n % 8)) - 1;
     }
+}
+
+// The ones that two rows share from byte `from` on.
+fn shared_bytes(row: &[u8], x: &[u8], from: usize) -> u32
+    requires { ⌜ (length (now x) ≡ length (now row)) × (length (now row) ≤ 100000) × (from ≤ length (now row)) ⌝ }
+    ensures { λ r. ⌜ r + shared from (now (row .entry)) (now (x .entry)) ≡ shared (length (now (row .entry))) (now (row .entry)) (now (x .entry)) ⌝ }
+{
+    let mut count = 0u32;
+    let mut i = from;
+    while i < row.len() {
+        count += u8::count_ones(row[i] & x[i]);
+        i += 1;
+    }
+    count
+}
+
+// The product of two rows of bits over GF(2): the parity of the ones that they share.
+pub fn row_product(row: &[u8], x: &[u8]) -> u8
+    requires { ⌜ (length (now x) ≡ length (now row)) × (length (now row) ≤ 100000) ⌝ }
+    ensures { λ r. ⌜ (r ≡ product (length (now (row .entry)) * 8) (now (row .entry)) (now (x .entry))) × (r < 2) ⌝ }
+{
+    let count = shared_bytes(row, x, 0);
+    (count % 2) as u8
 }

@@ -4,3 +4,4 @@ pub mod LaneLaws
 pub mod TreeLaws
 pub mod SumsMeaning
 pub mod SectionLaws
+pub mod HashLaws

@@ -4,26 +4,34 @@ use mathlib.Core.Path.{_≡_, refl, sym, ap, ap₂, _∙_}
 use mathlib.Core.Bool.{Bool, true}
 use mathlib.Core.List.{List}
 use Prim.Native.Nat.{ℕ, zero, suc, _+_, _*_, _-_, _/_, _%_, _≤_, _<_}
-use native.Mathlib.Nat.{mod-eq-of-lt}
+use native.Mathlib.Nat.{zero-mul, mod-eq-of-lt}
 use native.Mathlib.Numerals.{add-one}
 use native.Mathlib.Omega.{arith}
 use lib.Bits.{bitXor, xor-lt}
 use lib.ListN.{length}
+use Rattle.algebra.specs.Sum.{sum}
 use Rattle.protocol.specs.Lists.{blockAt}
-use Rattle.protocol.specs.Strings.{bytesFor, bit, pack}
+use Rattle.protocol.specs.Strings.{bytesFor, bit, spareZero, pack}
 use Rattle.protocol.specs.Alphabet.{sym as symbol}
 use Rattle.protocol.specs.Binary.{bits256}
 use Rattle.protocol.specs.Shape.{Shape, perTree, kOf, lOf, wOf}
-use Rattle.protocol.specs.Questions.{leavesExact, leavesSpare}
-use Rattle.protocol.specs.Prover.{u, correction, dOf, cSection, dSection}
+use Rattle.protocol.specs.Questions.{hExact, hSpare, leavesExact, leavesSpare}
+use Rattle.protocol.specs.Key.{rowsSpare}
+use Rattle.protocol.specs.Prover.{u, correction, dOf, cSection, dSection, ũSection}
 use Rattle.protocol.proofs.ListLaws.{length-block}
-use Rattle.protocol.proofs.StringLaws.{bit-lt}
+use Rattle.protocol.proofs.StringLaws.{bit-lt, spare-at}
+use Rattle.protocol.proofs.TestLaws.{eqb-eq, all-at}
 use Rattle.strings.specs.Sums.{byteAt, bitOf}
+use Rattle.strings.specs.Products.{product}
 use Rattle.strings.proofs.Rows.{row-end, row-byte, row-lt}
-use Rattle.strings.proofs.Meaning.{bitOf-xor, bit-is}
+use Rattle.strings.proofs.Meaning.{bitOf-xor, bit-is, byte-sum}
+use Rattle.strings.proofs.SumLaws.{sum-same, sum-short}
+use Rattle.strings.proofs.ProductLaws.{product-lt}
 use Rattle.strings.proofs.Packed.{packed, pack-congr, rows-are}
+use Rattle.vole.specs.Hash.{hashBit}
 use Rattle.vole.specs.Sums.{SumsAre, CorrectionsAre}
-use Rattle.vole.proofs.SumsMeaning.{byteOf, byte-bit, u-lt, u-spare, sums-u}
+use Rattle.vole.proofs.HashLaws.{hash-split}
+use Rattle.vole.proofs.SumsMeaning.{byteOf, byte-bit, byte-scale, u-lt, u-spare, sums-u}
 
 abbrev Element : Type 0
 Element = bits256 .K .base .R .F
@@ -90,3 +98,32 @@ module _ (s : Shape) (leaves : List ℕ) where
       pack-congr (s .n) _ _ (λ c l.
       ap₂ bitXor (sym (byte-bit (bits256 .K) (bit x c) (bit-lt x c))) (is c (in-width s c (omega arith)))
       ∙ sym (sum-symbol (bits256 .K .elem (bit x c)) (u bits256 s leaves 0 c) (rw (byte-bit (bits256 .K) (bit x c) (bit-lt x c)) (bit-lt x c)) (u-lt s leaves 0 c)))
+
+  module _ (H′ row : List ℕ) (exact : hExact bits256 s H′ ≡ true) (zeros : hSpare bits256 s H′ ≡ true) (is : IsU s leaves row) where
+    abbrev k : ℕ
+    k = kOf bits256 s
+
+    abbrev rowAt : ℕ → List ℕ
+    rowAt ρ = blockAt H′ (bytesFor k) ρ
+
+    row-spare : (ρ c : ℕ) → ρ < s .t → k ≤ c → c < bytesFor k * 8 → bit (rowAt ρ) c ≡ 0
+    unfolding hExact hSpare rowsSpare
+    row-spare ρ c l low high =
+        let long : length H′ ≡ s .t * bytesFor k = eqb-eq _ _ exact in
+        spare-at k (rowAt ρ) (all-at (s .t) (λ i. spareZero (rowAt i) k) zeros ρ l) c low (rw (length-block H′ (bytesFor k) ρ (omega (arith, long, row-end ρ (s .t) (bytesFor k) l))) high)
+
+    -- the product with a row of H′ as the field has it
+    product-is : (ρ : ℕ) → ρ < s .t → product (bytesFor k * 8) (rowAt ρ) row ≡ byteOf (sum (bits256 .K .base .R) k (λ c. bits256 .K .base .R .mul (symbol bits256 (rowAt ρ) c) (u bits256 s leaves 0 c)))
+    unfolding symbol lOf bytesFor
+    product-is ρ l =
+        sum-short k (bytesFor k * 8) _ (omega arith) (λ c low high. ap (λ q. q * bit row c) (row-spare ρ c l low high) ∙ zero-mul (bit row c))
+        ∙ sum-same k _ _ (λ c h. ap (λ q. bit (rowAt ρ) c * q) (is c (in-width s c (omega arith))) ∙ sym (byte-scale (bits256 .K) (bit (rowAt ρ) c) (u bits256 s leaves 0 c) (bit-lt (rowAt ρ) c)))
+        ∙ sym (byte-sum (bits256 .K) k _)
+
+    pub hash-is : pack (s .t) (hashBit H′ row k) ≡ ũSection bits256 s leaves H′
+    unfolding ũSection lOf
+    hash-is =
+        pack-congr (s .t) _ _ (λ ρ l.
+        ap₂ bitXor (product-is ρ l) (is (k + ρ) (in-width s (k + ρ) (omega arith)))
+        ∙ sym (sum-symbol _ (u bits256 s leaves 0 (k + ρ)) (rw (← product-is ρ l) (product-lt (bytesFor k * 8) (rowAt ρ) row)) (u-lt s leaves 0 (k + ρ)))
+        ∙ ap (bits256 .symbolOf) (sym (hash-split bits256 s H′ ρ (u bits256 s leaves 0) l)))

@@ -4,7 +4,7 @@ use mathlib.Core.Path.{_≡_, refl, sym, ap, _∙_}
 use mathlib.Core.Bool.{Bool, true}
 use mathlib.Core.List.{List}
 use Prim.Native.Nat.{ℕ, zero, suc, _+_, _*_, _/_, _%_, _≤_, _<_}
-use native.Mathlib.Nat.{mul-zero, mul-one, mod-eq-of-lt}
+use native.Mathlib.Nat.{mul-zero, mul-one, mul-comm, mod-eq-of-lt}
 use native.Mathlib.Omega.{arith}
 use lib.Dec.{lit<}
 use lib.ListN.{length}
@@ -48,6 +48,10 @@ module _ (C : Coded) where
       none a = simp ring
   byte-times x (suc zero) h k = ap byte (ap (λ y. elem x ⊗ y) (C .elem-one) ∙ R .mul-one (elem x)) ∙ C .byte-elem x h ∙ sym (mul-one x)
   byte-times x (suc (suc q)) h k = absurd (omega arith)
+
+  pub byte-scale : (q : ℕ) (a : F) → q < 2 → byte (elem q ⊗ a) ≡ q * byte a
+  byte-scale q a h =
+      ap (λ y. byte (elem q ⊗ y)) (sym (C .elem-byte a)) ∙ ap byte (R .mul-comm (elem q) (elem (byte a))) ∙ byte-times (byte a) q (C .byte-lt a) h ∙ mul-comm (byte a) q
 
 pub per-tree : perTree bits256 ≡ 256
 unfolding perTree

@@ -7,6 +7,7 @@ ghost use lib.Bits.{bitXor};
 ghost use Rattle.protocol.specs.Lists.{blockAt};
 ghost use Rattle.protocol.specs.Strings.{bytesFor, bit, fromBits, pack};
 ghost use Rattle.strings.specs.Sums.{byteAt, bitOf, xorSum};
+ghost use Rattle.vole.specs.Hash.{hashBit};
 ghost use Rattle.vole.specs.Sums.{lanes, planeByte, uByte, vByte, SumsAre, TableIs, CorrectionsAre};
 
 // Repetitions side by side in a table: entry c of repetition e stands at c·LANES + e. The stride is fixed, so that loops over it have a constant length.
@@ -163,4 +164,27 @@ pub fn write_difference(out: &mut [u8], witness: &[u8], u: &[u8], n: usize)
     let count = out.len();
     strings::xor_of(out, witness, &u[..count]);
     strings::clear_spare(out, n);
+}
+
+// Row rho of H = [H′ | identity] times u: the product with row rho of H′, plus bit k + rho, where the identity has its 1.
+fn hash_bit(matrix: &[u8], u: &[u8], k: usize, rho: usize) -> u8
+    requires { ⌜ (rho * bytesFor k + bytesFor k ≤ length (now matrix)) × (k + rho < length (now u) * 8) × (length (now u) ≤ 100000) ⌝ }
+    ensures { λ r. ⌜ r ≡ hashBit (now (matrix .entry)) (now (u .entry)) k rho ⌝ }
+{
+    let width = (k + 7) / 8;
+    let row = strings::row_at(matrix, width, rho);
+    strings::row_product(row, &u[..width]) ^ strings::bit_at(u, k + rho)
+}
+
+// The section ũ = H·u, of t bits.
+pub fn write_hash_bits(out: &mut [u8], matrix: &[u8], u: &[u8], k: usize, t: usize)
+    requires { ⌜ (length (now out) ≡ bytesFor t) × (length (now matrix) ≡ t * bytesFor k) × (k + t ≤ length (now u) * 8) × (length (now u) ≤ 100000) ⌝ }
+    ensures { λ _. ⌜ now (out .exit) ≡ pack t (hashBit (now (matrix .entry)) (now (u .entry)) k) ⌝ }
+{
+    strings::clear(out);
+    let mut rho = 0;
+    while rho < t {
+        strings::xor_bit(out, rho, hash_bit(matrix, u, k, rho));
+        rho += 1;
+    }
 }
