@@ -1,3 +1,7 @@
+pub mod Computing
+pub mod SmallSitting
+pub mod SecondSitting
+pub mod Edges
 pub mod TestLaws
 pub mod ListLaws
 pub mod StringLaws
@@ -15,3 +19,4 @@ pub mod HonestLaws
 pub mod Published
 pub mod Theorems
 pub mod Demands
+pub mod SittingFactors

@@ -196,7 +196,7 @@ module _ (A : Alphabet) where
 
   -- the factors, of leaves of exact length
   module _ (key leaves H′ χ proof : List ℕ) (k7 : leavesExact A (shapeOf key) (perTree A) leaves ≡ true) where
-    factor-is : (e : ℕ) → e < shapeOf key .τ → factor A key leaves H′ χ proof e ≡ count (passing base (conditions A (shapeOf key) key leaves H′ χ (sectionsIn A (shapeOf key) proof) e)) elements
+    pub factor-is : (e : ℕ) → e < shapeOf key .τ → factor A key leaves H′ χ proof e ≡ count (passing base (conditions A (shapeOf key) key leaves H′ χ (sectionsIn A (shapeOf key) proof) e)) elements
     unfolding factor
     factor-is e le = count-congr _ _ (checks-passing A (shapeOf key) key leaves H′ χ (sectionsIn A (shapeOf key) proof) e (leaves-length A (shapeOf key) leaves k7) le) elements
 
