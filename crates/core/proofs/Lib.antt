@@ -2,3 +2,5 @@ pub mod Writes
 pub mod SectionLaws
 pub mod CellLaws
 pub mod HashMeaning
+pub mod FitLaws
+pub mod HashSections

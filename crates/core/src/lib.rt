@@ -1,5 +1,6 @@
 // The six calls.
 mod hash;
+mod steps;
 
 ghost use mathlib.Core.Path.{_≡_};
 ghost use mathlib.Core.List.{[], _∷_};

@@ -1,0 +1,28 @@
+-- What the steps of a call have in hand.
+--   LeavesForm s leaves == questions 7 and 8 got a yes;  HashForm s H′ == so did 5 and 6 of H′
+--   Loaded s leaves table sums == the rows of `sums` are u_e, and the lanes of `table` v_e, of every repetition e
+-- Assumes nothing.
+use mathlib.Core.Path.{_≡_}
+use mathlib.Core.Bool.{true}
+use mathlib.Core.List.{List}
+use Prim.Native.Nat.{ℕ, _*_}
+use lib.ListN.{length}
+use Rattle.protocol.specs.Binary.{bits256}
+use Rattle.protocol.specs.Shape.{Shape, perTree, wOf}
+use Rattle.protocol.specs.Questions.{leavesExact, leavesSpare, hExact, hSpare}
+use Rattle.lanes.specs.Lanes.{lanes}
+use Rattle.vole.specs.Sums.{SumsAre, TableIs}
+
+pub record LeavesForm (s : Shape) (leaves : List ℕ) : Type 0 where
+  pub leaves-exact : leavesExact bits256 s (perTree bits256) leaves ≡ true
+  pub leaves-spare : leavesSpare bits256 s (perTree bits256) leaves ≡ true
+
+pub record HashForm (s : Shape) (H′ : List ℕ) : Type 0 where
+  pub hash-exact : hExact bits256 s H′ ≡ true
+  pub hash-spare : hSpare bits256 s H′ ≡ true
+
+pub record Loaded (s : Shape) (leaves table sums : List ℕ) : Type 0 where
+  pub sums-length : length sums ≡ s .τ * wOf bits256 s
+  pub sums-are : SumsAre sums leaves (s .τ) (wOf bits256 s)
+  pub table-length : length table ≡ 8 * wOf bits256 s * lanes
+  pub table-is : TableIs table leaves (s .τ) (wOf bits256 s)

@@ -1,0 +1,73 @@
+// What the three steps of a proof are made of: from the sums and the table of a call's leaves, the sections.
+ghost use mathlib.Core.Path.{_≡_};
+ghost use mathlib.Core.Bool.{true};
+ghost use Prim.Native.Nat.{ℕ, _+_, _*_, _-_, _<_, _≤_};
+ghost use lib.ListN.{length, take};
+ghost use Rattle.protocol.specs.Strings.{bytesFor};
+ghost use Rattle.protocol.specs.Binary.{bits256};
+ghost use Rattle.protocol.specs.Shape.{limits, kOf, wOf};
+ghost use Rattle.protocol.specs.Prover.{cSection, dSection, ũSection, ṼSection};
+ghost use Rattle.lanes.specs.Lanes.{lanes, Tabled};
+ghost use Rattle.format.specs.Sizes.{shapeFor};
+ghost use Rattle.core.specs.Loaded.{LeavesForm, HashForm, Loaded};
+use super::hash::hash_lanes;
+use format::Sizes;
+use lanes::LANES;
+
+// C and d. The leaves are named by the contract only.
+pub fn fill_commit(
+    c: &mut [u8],
+    d: &mut [u8],
+    witness: &[u8],
+    leaves: &[u8],
+    table: &[u8],
+    sums: &[u8],
+    s: Sizes,
+)
+    requires { ⌜ (limits (shapeFor s) ≡ true) × LeavesForm (shapeFor s) (now leaves) × Loaded (shapeFor s) (now leaves) (now table) (now sums) ⌝ }
+    requires { ⌜ (length (now c) ≡ (s .tau - 1) * wOf bits256 (shapeFor s)) × (length (now d) ≡ bytesFor (s .n)) × (length (now witness) ≡ bytesFor (s .n)) ⌝ }
+    ensures { λ _. ⌜ now (c .exit) ≡ cSection bits256 (shapeFor s) (now (leaves .entry)) ⌝ }
+    ensures { λ _. ⌜ now (d .exit) ≡ dSection bits256 (shapeFor s) (now (leaves .entry)) (now (witness .entry)) ⌝ }
+{
+    let w = format::sizes::leaf_bytes(s);
+    let tau = s.tau;
+    let n = s.n;
+    vole::write_corrections(c, sums, tau, w);
+    vole::write_difference(d, witness, strings::row_at(sums, w, 0), n);
+}
+
+// The sums of each four coordinates that a row of H′, or of a matrix, can select.
+pub fn fill_entries(entries: &mut [u8], table: &[u8], s: Sizes)
+    requires { ⌜ (limits (shapeFor s) ≡ true) × (length (now table) ≡ 8 * wOf bits256 (shapeFor s) * lanes) ⌝ }
+    ensures { λ _. ⌜ Tabled (take (bytesFor (kOf bits256 (shapeFor s)) * 8 * lanes) (now (table .entry))) (now (entries .exit)) ⌝ }
+{
+    let width = format::sizes::bytes_for(format::sizes::hashed_bits(s));
+    let rows = width * 8;
+    lanes::fill_sums(entries, rows, &table[..rows * LANES]);
+}
+
+// ũ and Ṽ.
+pub fn fill_hash(
+    ut: &mut [u8],
+    vt: &mut [u8],
+    matrix: &[u8],
+    leaves: &[u8],
+    table: &[u8],
+    sums: &[u8],
+    entries: &[u8],
+    s: Sizes,
+)
+    requires { ⌜ (limits (shapeFor s) ≡ true) × HashForm (shapeFor s) (now matrix) × Loaded (shapeFor s) (now leaves) (now table) (now sums) ⌝ }
+    requires { ⌜ (length (now ut) ≡ bytesFor (s .t)) × (length (now vt) ≡ s .tau * s .t) ⌝ }
+    requires { ⌜ (bytesFor (kOf bits256 (shapeFor s)) * 32 * lanes ≤ length (now entries)) × Tabled (take (bytesFor (kOf bits256 (shapeFor s)) * 8 * lanes) (now table)) (now entries) ⌝ }
+    ensures { λ _. ⌜ now (ut .exit) ≡ ũSection bits256 (shapeFor s) (now (leaves .entry)) (now (matrix .entry)) ⌝ }
+    ensures { λ _. ⌜ now (vt .exit) ≡ ṼSection bits256 (shapeFor s) (now (leaves .entry)) (now (matrix .entry)) ⌝ }
+{
+    let w = format::sizes::leaf_bytes(s);
+    let k = format::sizes::hashed_bits(s);
+    let width = format::sizes::bytes_for(k);
+    let tau = s.tau;
+    let t = s.t;
+    vole::write_hash_bits(ut, matrix, strings::row_at(sums, w, 0), k, t);
+    hash_lanes(vt, matrix, width, k, t, tau, table, entries);
+}
