@@ -2,11 +2,13 @@
 -- Assumes nothing.
 use mathlib.Core.Path.{_≡_}
 use mathlib.Core.Bool.{true}
-use Prim.Native.Nat.{ℕ, _+_, _*_, _≤_, _<_}
+use Prim.Native.Nat.{ℕ, _+_, _*_, _-_, _≤_, _<_}
+use native.Mathlib.Nat.{mul-le-mul}
 use native.Mathlib.Omega.{arith}
 use Rattle.protocol.specs.Strings.{bytesFor}
 use Rattle.protocol.specs.Binary.{bits256}
 use Rattle.protocol.specs.Shape.{Shape, limits, kOf, lOf, wOf}
+use Rattle.format.proofs.SizeLaws.{in-limits, k-most, w-most, bytes-most, hashed-most, corrections-most, row-most}
 
 module _ (s : Shape) where
   -- the first n coordinates, and the first k, are in a leaf
@@ -22,3 +24,26 @@ module _ (s : Shape) where
   pub l-fits : kOf bits256 s + s .t ≤ wOf bits256 s * 8
   unfolding wOf lOf bytesFor
   l-fits = omega arith
+
+-- the buffers of a call, made for the largest key, hold this one
+pub record Room (s : Shape) : Type 0 where
+  pub table-room : 8 * wOf bits256 s * 48 ≤ 15744
+  pub sums-room : s .τ * wOf bits256 s ≤ 1968
+  pub packed-room : bytesFor (s .t) ≤ 21
+  pub hashed-room : s .τ * s .t ≤ 7680
+  pub corrections-room : (s .τ - 1) * wOf bits256 s ≤ 1968
+  pub row-room : bytesFor (s .n) ≤ 21
+  pub entries-room : bytesFor (kOf bits256 s) * 32 * 48 ≤ 32256
+
+pub room : (s : Shape) → limits s ≡ true → Room s
+room s h =
+    let b = in-limits s h in
+    record {
+      table-room = omega (arith, w-most s h);
+      sums-room = omega (arith, mul-le-mul (b .τ-most) (w-most s h));
+      packed-room = bytes-most (s .t) (omega arith);
+      hashed-room = omega (arith, hashed-most s h);
+      corrections-room = omega (arith, corrections-most s h);
+      row-room = row-most s h;
+      entries-room = omega (arith, bytes-most (kOf bits256 s) (k-most s h));
+    }

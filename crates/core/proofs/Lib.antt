@@ -4,3 +4,5 @@ pub mod CellLaws
 pub mod HashMeaning
 pub mod FitLaws
 pub mod HashSections
+pub mod LoadedLaws
+pub mod FactLaws

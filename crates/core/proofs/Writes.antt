@@ -1,11 +1,12 @@
 -- Lists that a run of stores makes: four bytes, and one part after another.
 -- Assumes nothing.
-use mathlib.Core.Path.{_≡_, refl}
+use mathlib.Core.Path.{_≡_, refl, _∙_}
 use mathlib.Core.List.{List, [], _∷_, _++_, append-nil}
 use Prim.Native.Nat.{ℕ, _-_, _≤_}
+use native.Mathlib.Nat.{min-eq-left}
 use native.Mathlib.Omega.{arith}
 use borrow.Rule.Slice.PartMut.{putMid}
-use lib.ListN.{length, set, take, drop, drop-of-length-le, length-append, length-take}
+use lib.ListN.{length, set, take, drop, drop-of-length-le, length-append, length-take, replicate, length-replicate}
 use lib.Seq.{take-at, drop-at}
 
 -- four stores to a list of four
@@ -26,3 +27,10 @@ seam a p q r e =
 -- a part that runs to the end
 pub mid-end : (a : ℕ) (p q : List ℕ) → length p ≡ a → length (take (length (p ++ q) - a) (drop a (p ++ q))) ≡ length q
 mid-end a p q e = rw (drop-at p q a e) (simp (length-take, length-append) (omega arith))
+
+-- the first part of a buffer of zeros
+abbrev pub zeros : ℕ → List ℕ
+zeros m = replicate m 0
+
+pub prefix-length : (n m : ℕ) → n ≤ m → length (take n (zeros m)) ≡ n
+prefix-length n m h = length-take n (zeros m) ∙ rw (length-replicate {A = ℕ} m 0) (min-eq-left h)

@@ -1,2 +1,3 @@
 pub mod Hashed
 pub mod Loaded
+pub mod Facts

@@ -1,4 +1,5 @@
 // The six calls.
+pub mod calls;
 mod hash;
 mod steps;
 

@@ -1,0 +1,96 @@
+// The calls: the questions in 01's order, and then the bytes.
+ghost use mathlib.Core.Path.{_≡_};
+ghost use mathlib.Core.Bool.{true};
+ghost use mathlib.Core.List.{[], _∷_};
+ghost use Prim.Native.Nat.{ℕ, _+_, _*_, _-_, _<_, _≤_};
+ghost use lib.ListN.{length};
+ghost use Rattle.protocol.specs.Strings.{bytesFor};
+ghost use Rattle.protocol.specs.Frames.{frame};
+ghost use Rattle.protocol.specs.Binary.{bits256};
+ghost use Rattle.protocol.specs.Shape.{limits, kOf, wOf};
+ghost use Rattle.protocol.specs.Prover.{cSection, dSection, ũSection, ṼSection, hashBytes};
+ghost use Rattle.protocol.specs.Answers.{written};
+ghost use Rattle.protocol.specs.Calls.{hashAnswer};
+ghost use Rattle.lanes.specs.Lanes.{lanes};
+ghost use Rattle.format.specs.Sizes.{shapeFor};
+ghost use Rattle.format.specs.Verdict.{answerOf};
+ghost use Rattle.core.specs.Loaded.{LeavesForm, HashForm};
+use super::put_two;
+use super::steps::fill_commit;
+use super::steps::fill_entries;
+use super::steps::fill_hash;
+use format::Sizes;
+use format::Verdict;
+use lanes::LANES;
+
+// Room for the largest key: bytes of a leaf, of a row of H′, hash rows, repetitions.
+const MOST_LEAF: usize = 41;
+
+const MOST_ROW: usize = 21;
+
+const MOST_HASH_ROWS: usize = 160;
+
+// The second step in buffers of exact length.
+fn hash_sections(
+    out: &mut [u8],
+    table: &mut [u8],
+    sums: &mut [u8],
+    entries: &mut [u8],
+    ut: &mut [u8],
+    vt: &mut [u8],
+    leaves: &[u8],
+    matrix: &[u8],
+    s: Sizes,
+)
+    requires { ⌜ (limits (shapeFor s) ≡ true) × LeavesForm (shapeFor s) (now leaves) × HashForm (shapeFor s) (now matrix) ⌝ }
+    requires { ⌜ (length (now table) ≡ 8 * wOf bits256 (shapeFor s) * lanes) × (length (now sums) ≡ s .tau * wOf bits256 (shapeFor s)) × (bytesFor (kOf bits256 (shapeFor s)) * 32 * lanes ≤ length (now entries)) ⌝ }
+    requires { ⌜ (length (now ut) ≡ bytesFor (s .t)) × (length (now vt) ≡ s .tau * s .t) × (length (now out) ≡ 8 + length (now ut) + length (now vt)) ⌝ }
+    ensures { λ _. ⌜ now (out .exit) ≡ frame (ũSection bits256 (shapeFor s) (now (leaves .entry)) (now (matrix .entry)) ∷ ṼSection bits256 (shapeFor s) (now (leaves .entry)) (now (matrix .entry)) ∷ []) ⌝ }
+{
+    let w = format::sizes::leaf_bytes(s);
+    let tau = s.tau;
+    vole::load_trees(table, sums, leaves, tau, w);
+    fill_entries(entries, table, s);
+    fill_hash(ut, vt, matrix, leaves, table, sums, entries, s);
+    put_two(out, ut, vt);
+}
+
+// The second step: ũ and Ṽ.
+fn write_hash(out: &mut [u8], leaves: &[u8], matrix: &[u8], s: Sizes)
+    requires { ⌜ (limits (shapeFor s) ≡ true) × LeavesForm (shapeFor s) (now leaves) × HashForm (shapeFor s) (now matrix) × (length (now out) ≡ 8 + bytesFor (s .t) + s .tau * s .t) ⌝ }
+    ensures { λ _. ⌜ now (out .exit) ≡ frame (ũSection bits256 (shapeFor s) (now (leaves .entry)) (now (matrix .entry)) ∷ ṼSection bits256 (shapeFor s) (now (leaves .entry)) (now (matrix .entry)) ∷ []) ⌝ }
+{
+    let w = format::sizes::leaf_bytes(s);
+    let tau = s.tau;
+    let t = s.t;
+    let packed = format::sizes::bytes_for(t);
+    let mut table = [0u8; 8 * MOST_LEAF * LANES];
+    let mut sums = [0u8; LANES * MOST_LEAF];
+    let mut entries = [0u8; MOST_ROW * 32 * LANES];
+    let mut ut = [0u8; MOST_ROW];
+    let mut vt = [0u8; LANES * MOST_HASH_ROWS];
+    hash_sections(
+        out,
+        &mut table[..8 * w * LANES],
+        &mut sums[..tau * w],
+        &mut entries,
+        &mut ut[..packed],
+        &mut vt[..tau * t],
+        leaves,
+        matrix,
+        s,
+    );
+}
+
+// The second step (01): hash with H′. It takes no witness, and writes the sections ũ and Ṽ.
+pub fn hash(key: &[u8], leaves: &[u8], matrix: &[u8], out: &mut [u8]) -> Verdict
+    ensures { λ r. ⌜ answerOf r ≡ hashAnswer bits256 (now (key .entry)) (now (leaves .entry)) (now (matrix .entry)) (now (out .entry)) ⌝ }
+    ensures { λ r. ⌜ now (out .exit) ≡ written (answerOf r) (now (out .entry)) (hashBytes bits256 (now (key .entry)) (now (leaves .entry)) (now (matrix .entry))) ⌝ }
+{
+    let form = format::calls::hash_form(key, leaves, matrix, out.len());
+    let Verdict::Accepted = form else {
+        return form;
+    };
+    write_hash(out, leaves, matrix, format::sizes::sizes_of(key));
+    form
+}
