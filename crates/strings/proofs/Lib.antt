@@ -6,3 +6,4 @@ pub mod Meaning
 pub mod Packed
 pub mod BitLaws
 pub mod ProductLaws
+pub mod WordLaws

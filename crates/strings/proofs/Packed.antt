@@ -2,17 +2,17 @@
 -- Assumes nothing.
 use Prim.Native.Nat.{ℕ, zero, suc, _+_, _*_, _-_, _≤_, _<_}
 use mathlib.Core.Path.{_≡_, refl, sym, ap, ap₂, _∙_}
-use mathlib.Core.Bool.{Bool, true, false, cond}
+use mathlib.Core.Bool.{true, cond}
 use mathlib.Core.List.{List, [], _∷_, _++_}
 use native.Mathlib.Nat.{zero-mul, suc-mul}
 use native.Mathlib.Decide.{decLt}
 use native.Mathlib.Omega.{arith}
 use lib.Dec.{ltb}
-use lib.ListN.{length, getD, take, drop, length-drop, take-append-drop}
+use lib.ListN.{length, take, drop, length-drop, take-append-drop}
 use lib.Seq.{drop-drop}
 use Rattle.protocol.specs.Lists.{table, concat, part, blockAt}
-use Rattle.protocol.specs.Strings.{bytesFor, bit, fromBits, spareZero, pack}
-use Rattle.protocol.proofs.TestLaws.{eqb-same, ltb-yes, ltb-no, all-of}
+use Rattle.protocol.specs.Strings.{bytesFor, bit, spareZero, pack}
+use Rattle.protocol.proofs.TestLaws.{eqb-same, ltb-no, all-of}
 use Rattle.protocol.proofs.StringLaws.{bits-congr, string-is}
 use Rattle.strings.specs.Sums.{byteAt}
 

@@ -12,7 +12,7 @@ use lib.Count.{ones, ones-step, ones-le}
 use lib.Dec.{lit<}
 use lib.ListN.{length}
 use lib.Pow.{shr-shr}
-use Rattle.protocol.specs.Strings.{bit, bytes}
+use Rattle.protocol.specs.Strings.{bit}
 use Rattle.protocol.proofs.StringLaws.{bit-lt}
 use Rattle.strings.specs.Sums.{byteAt, bitOf, xorSum}
 use Rattle.strings.specs.Products.{shared, product, RowProduct}

@@ -6,7 +6,7 @@ ghost use lib.Bits.{bitXor};
 ghost use Rattle.protocol.specs.Lists.{blockAt};
 ghost use Rattle.protocol.specs.Strings.{bytesFor, bit};
 ghost use Rattle.strings.specs.Sums.{byteAt};
-ghost use Rattle.strings.specs.Products.{shared, product};
+ghost use Rattle.strings.specs.Products.{shared, product, wordOf};
 
 // dst[i] ^= src[i], for each i.
 pub fn xor_into(dst: &mut [u8], src: &[u8])
@@ -115,6 +115,41 @@ pub fn clear_spare(s: &mut [u8], n: usize)
     }
 }
 
+fn wide(x: u8) -> u64
+    ensures { λ r. ⌜ r ≡ x ⌝ }
+{
+    x as u64
+}
+
+// Eight bytes as one number, lowest first: one load.
+fn word_at(s: &[u8], at: usize) -> u64
+    requires { ⌜ at + 8 ≤ length (now s) ⌝ }
+    ensures { λ r. ⌜ r ≡ wordOf (now (s .entry)) at 8 ⌝ }
+{
+    wide(s[at])
+        | wide(s[at + 1]) << 8
+        | wide(s[at + 2]) << 16
+        | wide(s[at + 3]) << 24
+        | wide(s[at + 4]) << 32
+        | wide(s[at + 5]) << 40
+        | wide(s[at + 6]) << 48
+        | wide(s[at + 7]) << 56
+}
+
+// The ones that two rows share in their first words of eight bytes.
+fn shared_words(row: &[u8], x: &[u8], words: usize) -> u32
+    requires { ⌜ (length (now x) ≡ length (now row)) × (length (now row) ≤ 100000) × (words * 8 ≤ length (now row)) ⌝ }
+    ensures { λ r. ⌜ r ≡ shared (words * 8) (now (row .entry)) (now (x .entry)) ⌝ }
+{
+    let mut count = 0u32;
+    let mut i = 0;
+    while i < words {
+        count += u64::count_ones(word_at(row, i * 8) & word_at(x, i * 8));
+        i += 1;
+    }
+    count
+}
+
 // The ones that two rows share from byte `from` on.
 fn shared_bytes(row: &[u8], x: &[u8], from: usize) -> u32
     requires { ⌜ (length (now x) ≡ length (now row)) × (length (now row) ≤ 100000) × (from ≤ length (now row)) ⌝ }
@@ -129,11 +164,12 @@ fn shared_bytes(row: &[u8], x: &[u8], from: usize) -> u32
     count
 }
 
-// The product of two rows of bits over GF(2): the parity of the ones that they share.
+// The product of two rows of bits over GF(2), as 01 has it: the parity of the ones that they share, counted in words and then in bytes.
 pub fn row_product(row: &[u8], x: &[u8]) -> u8
     requires { ⌜ (length (now x) ≡ length (now row)) × (length (now row) ≤ 100000) ⌝ }
     ensures { λ r. ⌜ (r ≡ product (length (now (row .entry)) * 8) (now (row .entry)) (now (x .entry))) × (r < 2) ⌝ }
 {
-    let count = shared_bytes(row, x, 0);
+    let words = row.len() / 8;
+    let count = shared_words(row, x, words) + shared_bytes(row, x, words * 8);
     (count % 2) as u8
 }

@@ -1,13 +1,13 @@
 -- The hash: H = [H′ | identity] taken apart, over any alphabet; and the bits that the code computes.
 -- Assumes nothing.
-use mathlib.Core.Path.{_≡_, refl, sym, ap, ap₂, _∙_}
+use mathlib.Core.Path.{_≡_, refl, ap, ap₂, _∙_}
 use mathlib.Core.Logic.{_≢_}
-use mathlib.Core.Bool.{Bool, true, false, cond}
+use mathlib.Core.Bool.{cond}
 use mathlib.Core.List.{List}
-use Prim.Native.Nat.{ℕ, zero, suc, _+_, _*_, _≤_, _<_}
+use Prim.Native.Nat.{ℕ, zero, _+_, _*_, _<_}
 use native.Mathlib.Omega.{arith}
-use lib.Bits.{bitXor, xor-lt}
-use lib.Dec.{eqb, ltb}
+use lib.Bits.{xor-lt}
+use lib.Dec.{eqb}
 use Rattle.algebra.specs.Ring.{Ring}
 use Rattle.algebra.specs.Field.{Field}
 use Rattle.algebra.specs.Coded.{Coded}
@@ -18,7 +18,7 @@ use Rattle.protocol.specs.Lists.{blockAt}
 use Rattle.protocol.specs.Alphabet.{Alphabet, sym as symbol}
 use Rattle.protocol.specs.Shape.{Shape, kOf, lOf}
 use Rattle.protocol.specs.Forms.{h, hash}
-use Rattle.protocol.specs.Strings.{bytesFor, bit}
+use Rattle.protocol.specs.Strings.{bytesFor}
 use Rattle.protocol.proofs.TestLaws.{ltb-yes, ltb-no, eqb-same, eqb-other}
 use Rattle.protocol.proofs.StringLaws.{bit-lt}
 use Rattle.strings.proofs.ProductLaws.{product-lt}

@@ -1,7 +1,7 @@
 -- What the sums and the table hold, in 01's terms: a row of the sums is u_e, a lane of the table is v_e.
 -- Assumes nothing.
 use mathlib.Core.Path.{_≡_, refl, sym, ap, _∙_}
-use mathlib.Core.Bool.{Bool, true}
+use mathlib.Core.Bool.{true}
 use mathlib.Core.List.{List}
 use Prim.Native.Nat.{ℕ, zero, suc, _+_, _*_, _/_, _%_, _≤_, _<_}
 use native.Mathlib.Nat.{mul-zero, mul-one, mul-comm, mod-eq-of-lt}
@@ -14,7 +14,7 @@ use Rattle.algebra.specs.Coded.{Coded}
 use Rattle.algebra.proofs.RingLaws.{ring}
 use Rattle.protocol.specs.Lists.{allBelow, blockAt}
 use Rattle.protocol.specs.Strings.{bit, spareZero}
-use Rattle.protocol.specs.Alphabet.{Alphabet, sym as symbol}
+use Rattle.protocol.specs.Alphabet.{sym as symbol}
 use Rattle.protocol.specs.Binary.{bits256}
 use Rattle.protocol.specs.Shape.{Shape, perTree, lOf, wOf}
 use Rattle.protocol.specs.Key.{rowsSpare}
@@ -28,7 +28,7 @@ use Rattle.strings.specs.Sums.{byteAt, bitOf, xorSum}
 use Rattle.strings.proofs.Rows.{row-byte}
 use Rattle.strings.proofs.SumLaws.{sum-same, sum-lt, sum-none}
 use Rattle.strings.proofs.Meaning.{bitOf-sum, bit-is, byte-sum}
-use Rattle.vole.specs.Sums.{lanes, uByte, vByte, SumsAre, TableIs}
+use Rattle.vole.specs.Sums.{lanes, vByte, SumsAre, TableIs}
 
 module _ (C : Coded) where
   open Coded C using (base, elem, byte)

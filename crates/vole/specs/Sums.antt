@@ -1,5 +1,6 @@
 -- Sums of leaves on bytes, and the table that holds v of every repetition, coordinate by coordinate.
 --   lanes == the entries of a coordinate in the table, one for each repetition; those past the last repetition are not read
+--   mostWidth == the widest leaf that is served, in bytes
 --   planeByte leaves count w p b == byte b of plane p: the sum of the leaves j below count with bit p of j set
 --   uByte leaves w e b == byte b of u_e;  vByte leaves w e c == coordinate c of v_e = Σ j·ℓ(e, j), as a byte
 --   SumsAre, TableIs == a string has the rows u_e, and a table the lanes v_e, for each repetition e below τ
@@ -15,6 +16,9 @@ use Rattle.strings.specs.Sums.{byteAt, bitOf, xorSum}
 
 abbrev pub lanes : ℕ
 lanes = 48
+
+abbrev pub mostWidth : ℕ
+mostWidth = 128
 
 abbrev pub planeByte : List ℕ → ℕ → ℕ → ℕ → ℕ → ℕ
 planeByte leaves count w p b = xorSum count (λ j. bitOf j p * byteAt leaves (j * w + b))

@@ -8,7 +8,7 @@ ghost use Rattle.protocol.specs.Lists.{blockAt};
 ghost use Rattle.protocol.specs.Strings.{bytesFor, bit, fromBits, pack};
 ghost use Rattle.strings.specs.Sums.{byteAt, bitOf, xorSum};
 ghost use Rattle.vole.specs.Hash.{hashBit};
-ghost use Rattle.vole.specs.Sums.{lanes, planeByte, uByte, vByte, SumsAre, TableIs, CorrectionsAre};
+ghost use Rattle.vole.specs.Sums.{lanes, mostWidth, planeByte, uByte, vByte, SumsAre, TableIs, CorrectionsAre};
 
 // Repetitions side by side in a table: entry c of repetition e stands at c·LANES + e. The stride is fixed, so that loops over it have a constant length.
 pub const LANES: usize = 48;
@@ -87,7 +87,7 @@ pub fn spread(table: &mut [u8], e: usize, planes: &[u8], w: usize)
     }
 }
 
-// The widest leaf that is served, in bytes.
+// The widest leaf that is served, in bytes: it bounds the planes, which stand on the stack.
 const MOST_WIDTH: usize = 128;
 
 // Writes u_e and v_e of repetition e.
@@ -120,7 +120,7 @@ fn load_tree(
 
 // 01's u_e and v_e for every repetition e below tau, from the full leaves: u_e is row e of the sums, v_e is lane e of the table.
 pub fn load_trees(table: &mut [u8], sums: &mut [u8], leaves: &[u8], tau: usize, w: usize)
-    requires { ⌜ (length (now table) ≡ 8 * w * lanes) × (length (now sums) ≡ tau * w) × (length (now leaves) ≡ tau * 256 * w) × (tau ≤ lanes) × (w ≤ 128) ⌝ }
+    requires { ⌜ (length (now table) ≡ 8 * w * lanes) × (length (now sums) ≡ tau * w) × (length (now leaves) ≡ tau * 256 * w) × (tau ≤ lanes) × (w ≤ mostWidth) ⌝ }
     ensures { λ _. ⌜ SumsAre (now (sums .exit)) (now (leaves .entry)) tau w ⌝ }
     ensures { λ _. ⌜ TableIs (now (table .exit)) (now (leaves .entry)) tau w ⌝ }
 {

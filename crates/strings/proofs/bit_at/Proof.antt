@@ -1,12 +1,10 @@
 -- `strings::bit_at` meets its contract, which is how a coordinate is defined.
 -- Assumes nothing.
-use mathlib.Core.Path.{_≡_, refl}
+use mathlib.Core.Path.{refl}
 use Rattle.protocol.specs.Strings.{bit}
 use borrow.Author.Needs.{needs}
 use Rattle.strings.proofs.bit_at.Statement.{statement}
 use Rattle.strings.proofs.bit_at.Tie as tie
-use Rattle.strings.proofs.bit_at.Reads as reads
-use Rattle.strings.proofs.bit_at.Lts as lts
 
 shared-slice-read-result : tie.Need-shared-slice-read-result
 shared-slice-read-result c = search needs

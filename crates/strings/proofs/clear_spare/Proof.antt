@@ -1,7 +1,7 @@
 -- `strings::clear_spare` meets its contract. The byte of coordinate n is cut to the bits below it; where n fills its bytes there is none.
 -- Assumes nothing.
-use Prim.Native.Nat.{ℕ, _+_, _/_, _%_, _-_, _^_, _*_}
-use mathlib.Core.Path.{_≡_, refl}
+use Prim.Native.Nat.{_/_, _%_, _^_}
+use mathlib.Core.Path.{refl}
 use native.Mathlib.Nat.{one-mul}
 use native.Mathlib.Omega.{arith}
 use denote.Ref.{now}
@@ -13,8 +13,6 @@ use Rattle.strings.proofs.BitLaws.{bit-shifted, mask-is, cut-low, cut-h
 use borrow.Author.Needs.{needs}
 use Rattle.strings.proofs.clear_spare.Statement.{statement}
 use Rattle.strings.proofs.clear_spare.Tie as tie
-use Rattle.strings.proofs.clear_spare.Reads as reads
-use Rattle.strings.proofs.clear_spare.Lts as lts
 
 cast-s : tie.Need-cast-s
 cast-s c = search needs

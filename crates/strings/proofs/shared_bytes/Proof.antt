@@ -1,8 +1,8 @@
 -- `strings::shared_bytes` meets its contract. The invariant: with those below `from`, the count is that of the first i bytes.
 -- Assumes nothing.
 use borrow.Author.Needs.{needs}
-use Prim.Native.Nat.{ℕ, _+_, _*_, _-_, _≤_, _<_}
-use mathlib.Core.Path.{_≡_, refl}
+use Prim.Native.Nat.{_+_, _-_, _≤_}
+use mathlib.Core.Path.{_≡_}
 use native.Mathlib.Omega.{arith}
 use denote.Ref.{now}
 use lib.ListN.{length}
@@ -10,8 +10,6 @@ use Rattle.strings.specs.Products.{shared}
 use Rattle.strings.proofs.ProductLaws.{shared-le, shared-more}
 use Rattle.strings.proofs.shared_bytes.Statement.{statement}
 use Rattle.strings.proofs.shared_bytes.Tie as tie
-use Rattle.strings.proofs.shared_bytes.Reads as reads
-use Rattle.strings.proofs.shared_bytes.Lts as lts
 
 abbrev Inv-loop : tie.InvT-loop
 Inv-loop row x from count₀ i₀ count i = (from ≤ i) × (i ≤ length row) × (count + shared from row x ≡ shared i row x)

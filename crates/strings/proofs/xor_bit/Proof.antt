@@ -1,6 +1,6 @@
 -- `strings::xor_bit` meets its contract. One byte is changed, at one place.
 -- Assumes nothing.
-use Prim.Native.Nat.{_/_, _%_, _^_, _*_}
+use Prim.Native.Nat.{_%_, _^_, _*_}
 use mathlib.Core.Path.{_≡_}
 use native.Mathlib.Omega.{arith}
 use denote.Ref.{now}
@@ -8,8 +8,6 @@ use Rattle.strings.proofs.BitLaws.{bit-shifted, added-same, added-other
 use borrow.Author.Needs.{needs}
 use Rattle.strings.proofs.xor_bit.Statement.{statement}
 use Rattle.strings.proofs.xor_bit.Tie as tie
-use Rattle.strings.proofs.xor_bit.Reads as reads
-use Rattle.strings.proofs.xor_bit.Lts as lts
 
 cast-s : tie.Need-cast-s
 cast-s c = search needs

@@ -2,13 +2,13 @@
 -- Assumes nothing.
 use borrow.Author.Needs.{needs}
 use Prim.Native.Nat.{ℕ, _+_, _*_, _-_, _≤_, _<_}
-use mathlib.Core.Path.{_≡_, refl, sym, ap, _∙_}
+use mathlib.Core.Path.{_≡_, refl, _∙_}
 use mathlib.Core.Logic.{⊎-elim}
 use denote.Ref.{now}
 use lib.ListN.{length}
-use lib.Bits.{bitXor, xor-zero-r}
+use lib.Bits.{bitXor}
 use native.Mathlib.Omega.{arith}
-use Rattle.strings.specs.Sums.{byteAt, bitOf, xorSum}
+use Rattle.strings.specs.Sums.{byteAt, bitOf}
 use native.Mathlib.Nat.{mod-lt}
 use lib.Dec.{lit<}
 use Rattle.strings.proofs.Rows.{row-end}

@@ -1,7 +1,7 @@
 -- `vole::gathered` meets its contract. The invariant: the sum has the bits of the planes below p, each at its place.
 -- Assumes nothing.
 use borrow.Author.Needs.{needs}
-use Prim.Native.Nat.{ℕ, _+_, _*_, _^_, _-_, _≤_}
+use Prim.Native.Nat.{_+_, _*_, _^_, _-_, _≤_}
 use mathlib.Core.Path.{_≡_, refl, sym, ap₂, _∙_}
 use denote.Ref.{now}
 use lib.Bits.{bitXor}
@@ -13,8 +13,6 @@ use Rattle.strings.proofs.Meaning.{bitOf-lt}
 use Rattle.strings.proofs.BitLaws.{bits-sum, bit-shifted}
 use Rattle.vole.proofs.gathered.Statement.{statement}
 use Rattle.vole.proofs.gathered.Tie as tie
-use Rattle.vole.proofs.gathered.Reads as reads
-use Rattle.vole.proofs.gathered.Lts as lts
 
 abbrev Inv-loop : tie.InvT-loop
 Inv-loop planes w b i sum₀ p₀ sum p = (p ≤ 8) × (sum ≡ xorSum p (λ q. bitOf (byteAt planes (q * w + b)) i * 2 ^ q))

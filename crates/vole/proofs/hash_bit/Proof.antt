@@ -1,12 +1,11 @@
 -- `vole::hash_bit` meets its contract. The row product reads no more of u than the row's bytes.
 -- Assumes nothing.
-use Prim.Native.Nat.{ℕ, _+_, _*_, _/_, _<_, _≤_}
-use mathlib.Core.Path.{_≡_, refl, ap, ap₂, _∙_}
-use mathlib.Core.List.{List}
+use Prim.Native.Nat.{_*_}
+use mathlib.Core.Path.{ap, ap₂, _∙_}
 use native.Mathlib.Omega.{arith}
 use denote.Ref.{now}
 use lib.Bits.{bitXor}
-use lib.ListN.{length, take, length-take}
+use lib.ListN.{take, length-take}
 use Rattle.protocol.specs.Lists.{blockAt}
 use Rattle.protocol.specs.Strings.{bytesFor, bit}
 use Rattle.strings.specs.Products.{product}
@@ -15,11 +14,6 @@ use Rattle.strings.proofs.BitLaws.{take-bit}
 use borrow.Author.Needs.{needs}
 use Rattle.vole.proofs.hash_bit.Statement.{statement}
 use Rattle.vole.proofs.hash_bit.Tie as tie
-use Rattle.vole.proofs.hash_bit.Reads as reads
-use Rattle.vole.proofs.hash_bit.Lts as lts
-use Rattle.strings.proofs.bit_at.Reads as bit-at-reads
-use Rattle.strings.proofs.row_at.Reads as row-at-reads
-use Rattle.strings.proofs.row_product.Reads as row-product-reads
 
 add-width : tie.Need-add-width
 add-width c = search needs

@@ -1,7 +1,7 @@
 -- `vole::load_tree` meets its contract. The sums of one tree (`leaf_sums`) stand in row e, and its planes are spread over lane e.
 -- Assumes nothing.
 use Prim.Native.Nat.{ℕ, _+_, _*_, _-_, _≤_, _<_}
-use mathlib.Core.Path.{_≡_, sym, ap, _∙_}
+use mathlib.Core.Path.{_≡_, ap, _∙_}
 use mathlib.Core.List.{List}
 use native.Mathlib.Nat.{add-sub-cancel-left}
 use native.Mathlib.Omega.{arith}
@@ -16,11 +16,6 @@ use Rattle.vole.proofs.TreeLaws.{tree-u, tree-v}
 use borrow.Author.Needs.{needs}
 use Rattle.vole.proofs.load_tree.Statement.{statement}
 use Rattle.vole.proofs.load_tree.Tie as tie
-use Rattle.vole.proofs.load_tree.Reads as reads
-use Rattle.vole.proofs.load_tree.Lts as lts
-use Rattle.strings.proofs.row_at.Reads as row-at-reads
-use Rattle.vole.proofs.leaf_sums.Reads as leaf-sums-reads
-use Rattle.vole.proofs.spread.Reads as spread-reads
 
 mul-row-at : tie.Need-mul-row-at
 mul-row-at c = search needs

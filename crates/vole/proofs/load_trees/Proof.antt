@@ -1,8 +1,8 @@
 -- `vole::load_trees` meets its contract. The invariant: the rows and lanes of the repetitions below e are done.
 -- Assumes nothing.
 use borrow.Author.Needs.{needs}
-use Prim.Native.Nat.{ℕ, _+_, _*_, _-_, _≤_, _<_}
-use mathlib.Core.Path.{_≡_, refl, sym, ap, _∙_}
+use Prim.Native.Nat.{_*_, _-_, _≤_}
+use mathlib.Core.Path.{_≡_, refl, _∙_}
 use native.Mathlib.Nat.{mul-assoc}
 use native.Mathlib.Omega.{arith}
 use denote.Ref.{now}
@@ -12,9 +12,6 @@ use Rattle.strings.proofs.Rows.{row-end, rows-more}
 use Rattle.vole.proofs.TreeLaws.{table-more}
 use Rattle.vole.proofs.load_trees.Statement.{statement}
 use Rattle.vole.proofs.load_trees.Tie as tie
-use Rattle.vole.proofs.load_trees.Reads as reads
-use Rattle.vole.proofs.load_trees.Lts as lts
-use Rattle.vole.proofs.load_tree.Reads as load-tree-reads
 
 abbrev Inv-loop : tie.InvT-loop
 Inv-loop table₀ sums₀ leaves tau w planes₀ e₀ table sums planes e = (e ≤ tau) × (length table ≡ length table₀) × (length sums ≡ length sums₀) × (length planes ≡ 1024) × SumsAre sums leaves e w × TableIs table leaves e w

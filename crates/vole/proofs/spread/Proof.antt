@@ -16,9 +16,6 @@ use Rattle.vole.specs.Sums.{lanes}
 use Rattle.vole.proofs.LaneLaws.{Lane, lane-more}
 use Rattle.vole.proofs.spread.Statement.{statement}
 use Rattle.vole.proofs.spread.Tie as tie
-use Rattle.vole.proofs.spread.Reads as reads
-use Rattle.vole.proofs.spread.Lts as lts
-use Rattle.vole.proofs.spread_byte.Reads as spread-byte-reads
 
 abbrev Inv-loop : tie.InvT-loop
 Inv-loop table₀ e planes w b₀ table b = (b ≤ w) × (length table ≡ length table₀) × Lane (λ c. fromBits 8 (λ p. bit (blockAt planes w p) c)) table e (b * 8) × ((c q : ℕ) → q < lanes → (q ≡ e → ⊥) → byteAt table (c * lanes + q) ≡ byteAt table₀ (c * lanes + q))

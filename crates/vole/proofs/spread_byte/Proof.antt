@@ -1,20 +1,16 @@
 -- `vole::spread_byte` meets its contract. The invariant: the first i coordinates of the byte have their lane, the other lanes and the coordinates before are as they were.
 -- Assumes nothing.
 use borrow.Author.Needs.{needs}
-use Prim.Native.Nat.{ℕ, _+_, _*_, _-_, _≤_, _<_}
-use mathlib.Core.Path.{_≡_, refl, sym, ap, _∙_}
+use Prim.Native.Nat.{_+_, _*_, _-_, _≤_}
+use mathlib.Core.Path.{_≡_, refl}
 use denote.Ref.{now}
 use lib.ListN.{length, length-set}
 use native.Mathlib.Omega.{arith}
 use Rattle.protocol.specs.Strings.{fromBits}
 use Rattle.strings.specs.Sums.{byteAt, bitOf}
-use Rattle.vole.specs.Sums.{lanes}
 use Rattle.vole.proofs.LaneLaws.{Filled, Others, filled-more, others-still}
 use Rattle.vole.proofs.spread_byte.Statement.{statement}
 use Rattle.vole.proofs.spread_byte.Tie as tie
-use Rattle.vole.proofs.spread_byte.Reads as reads
-use Rattle.vole.proofs.spread_byte.Lts as lts
-use Rattle.vole.proofs.gathered.Reads as gathered-reads
 
 abbrev Inv-loop : tie.InvT-loop
 Inv-loop table₀ e planes w b i₀ table i = (i ≤ 8) × (length table ≡ length table₀) × Filled (λ k. fromBits 8 (λ p. bitOf (byteAt planes (p * w + b)) k)) table e (b * 8) i × Others table₀ table e (b * 8)

@@ -14,10 +14,6 @@ use Rattle.strings.proofs.Rows.{row-byte, put-in, put-other}
 use borrow.Author.Needs.{needs}
 use Rattle.vole.proofs.write_correction.Statement.{statement}
 use Rattle.vole.proofs.write_correction.Tie as tie
-use Rattle.vole.proofs.write_correction.Reads as reads
-use Rattle.vole.proofs.write_correction.Lts as lts
-use Rattle.strings.proofs.row_at.Reads as row-at-reads
-use Rattle.strings.proofs.xor_of.Reads as xor-of-reads
 
 add-row-at : tie.Need-add-row-at
 add-row-at c = search needs

@@ -1,9 +1,8 @@
 -- `vole::write_corrections` meets its contract. The invariant: the rows below e are done.
 -- Assumes nothing.
 use borrow.Author.Needs.{needs}
-use Prim.Native.Nat.{ℕ, _+_, _*_, _-_, _≤_, _<_}
+use Prim.Native.Nat.{_+_, _*_, _-_, _≤_}
 use mathlib.Core.Path.{_≡_, refl, _∙_}
-use native.Mathlib.Nat.{suc-mul}
 use native.Mathlib.Omega.{arith}
 use denote.Ref.{now}
 use lib.Bits.{bitXor}
@@ -13,9 +12,6 @@ use Rattle.strings.proofs.Rows.{row-end, rows-more}
 use Rattle.vole.specs.Sums.{CorrectionsAre}
 use Rattle.vole.proofs.write_corrections.Statement.{statement}
 use Rattle.vole.proofs.write_corrections.Tie as tie
-use Rattle.vole.proofs.write_corrections.Reads as reads
-use Rattle.vole.proofs.write_corrections.Lts as lts
-use Rattle.vole.proofs.write_correction.Reads as write-correction-reads
 
 abbrev Inv-loop : tie.InvT-loop
 Inv-loop out₀ sums tau w e₀ out e = (e ≤ tau - 1) × (length out ≡ length out₀) × CorrectionsAre out sums e w

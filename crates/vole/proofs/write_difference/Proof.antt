@@ -1,7 +1,6 @@
 -- `vole::write_difference` meets its contract. The bits of the sum below n are kept, and those from n on are 0, so that it is packed.
 -- Assumes nothing.
-use Prim.Native.Nat.{ℕ, _+_, _*_, _<_, _≤_}
-use mathlib.Core.Path.{_≡_, refl, ap, _∙_}
+use mathlib.Core.Path.{_≡_, ap, _∙_}
 use native.Mathlib.Omega.{arith}
 use denote.Ref.{now}
 use lib.Bits.{bitXor}
@@ -12,10 +11,6 @@ use Rattle.strings.proofs.Packed.{packed}
 use borrow.Author.Needs.{needs}
 use Rattle.vole.proofs.write_difference.Statement.{statement}
 use Rattle.vole.proofs.write_difference.Tie as tie
-use Rattle.vole.proofs.write_difference.Reads as reads
-use Rattle.vole.proofs.write_difference.Lts as lts
-use Rattle.strings.proofs.clear_spare.Reads as clear-spare-reads
-use Rattle.strings.proofs.xor_of.Reads as xor-of-reads
 
 slice-aggregate-xor-of : tie.Need-slice-aggregate-xor-of
 slice-aggregate-xor-of c = simp length-take (omega arith)

@@ -2,11 +2,11 @@
 -- Assumes nothing.
 use borrow.Author.Needs.{needs}
 use borrow.Author.Count.{below-more}
-use Prim.Native.Nat.{ℕ, _+_, _*_, _-_, _/_, _%_, _≤_, _<_}
-use mathlib.Core.Path.{_≡_, refl, sym, ap, _∙_}
+use Prim.Native.Nat.{ℕ, _*_, _-_, _/_, _%_, _≤_, _<_}
+use mathlib.Core.Path.{_≡_, refl, ap, _∙_}
 use native.Mathlib.Omega.{arith}
 use denote.Ref.{now}
-use lib.Bits.{bitXor, xor-zero-l}
+use lib.Bits.{bitXor}
 use lib.ListN.{length}
 use Rattle.protocol.specs.Strings.{bytesFor, bit}
 use Rattle.strings.specs.Sums.{byteAt, bitOf}
@@ -17,11 +17,6 @@ use Rattle.vole.specs.Hash.{hashBit}
 use Rattle.vole.proofs.HashLaws.{hash-bit-lt}
 use Rattle.vole.proofs.write_hash_bits.Statement.{statement}
 use Rattle.vole.proofs.write_hash_bits.Tie as tie
-use Rattle.vole.proofs.write_hash_bits.Reads as reads
-use Rattle.vole.proofs.write_hash_bits.Lts as lts
-use Rattle.strings.proofs.clear.Reads as clear-reads
-use Rattle.strings.proofs.xor_bit.Reads as xor-bit-reads
-use Rattle.vole.proofs.hash_bit.Reads as hash-bit-reads
 
 abbrev Inv-loop : tie.InvT-loop
 Inv-loop out₀ matrix u k t rho₀ out rho = (rho ≤ t) × (length out ≡ length out₀) × ((c : ℕ) → c < rho → bit out c ≡ hashBit matrix u k c) × ((i : ℕ) → byteAt out i < 256) × ((c : ℕ) → rho ≤ c → c < length out * 8 → bit out c ≡ 0)
