@@ -69,12 +69,11 @@ fn fill_row(sums: &mut [u8], k: usize, n: usize, table: &[u8])
     fill_entry(&mut sums[at..at + LANES], k, n, table);
 }
 
-// The table of sums, sixteen entries for each four of the n coordinates. Made once, it serves every row of every matrix.
-pub fn fill_sums(sums: &mut [u8], n: usize, table: &[u8])
-    requires { ⌜ length (now table) ≡ n * lanes ⌝ }
-    ensures { λ _. ⌜ Tabled (now (table .entry)) (now (sums .exit)) ⌝ }
+// The first entries of the table of sums: sixteen for each four of the n coordinates. Made once, they serve every row of every matrix.
+pub fn fill_sums(sums: &mut [u8], count: usize, n: usize, table: &[u8])
+    requires { ⌜ (count * lanes ≤ length (now sums)) × (length (now table) ≡ n * lanes) ⌝ }
+    ensures { λ _. ⌜ Tabled (now (table .entry)) (now (sums .exit)) count ⌝ }
 {
-    let count = sums.len() / LANES;
     let mut k = 0;
     while k < count {
         fill_row(sums, k, n, table);
@@ -126,7 +125,7 @@ fn copy_lanes(out: &mut [u8], src: &[u8; LANES])
 // out[e] = Σ row(c)·T[c][e] over the n coordinates of the table T that was summed: two additions for eight coordinates.
 pub fn look_up_row(out: &mut [u8], row: &[u8], sums: &[u8])
     requires { ⌜ (length (now out) ≡ lanes) × (length (now row) * 32 * lanes ≤ length (now sums)) ⌝ }
-    ensures { λ _. ⌜ ((table : List ℕ) (n e : ℕ) → Tabled table (now (sums .entry)) → length table ≡ n * lanes → n ≤ length (now (row .entry)) * 8 → e < lanes → byteAt (now (out .exit)) e ≡ selected n (now (row .entry)) table lanes e) ⌝ }
+    ensures { λ _. ⌜ ((table : List ℕ) (n e : ℕ) → Tabled table (now (sums .entry)) (length (now (row .entry)) * 32) → length table ≡ n * lanes → n ≤ length (now (row .entry)) * 8 → e < lanes → byteAt (now (out .exit)) e ≡ selected n (now (row .entry)) table lanes e) ⌝ }
 {
     let mut sum = [0u8; LANES];
     let mut b = 0;

@@ -1,0 +1,4 @@
+pub mod BitLaws
+pub mod BlockLaws
+pub mod ElementLaws
+pub mod EquationsMeaning

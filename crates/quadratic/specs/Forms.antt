@@ -1,5 +1,4 @@
 -- The forms of one equation, on bytes: of the vectors of all repetitions side by side in a table T, and of the bits of a witness.
---   rowOf n A ρ == row ρ of a matrix of n variables
 --   formByte n A T e == Σ_ρ T[ρ][e] · Σ_c A(ρ, c)·T[c][e], the form of repetition e at its vector
 --   crossByte n A xs ys T e == Σ_ρ xs_ρ · Σ_c A(ρ, c)·T[c][e] + ys_ρ · T[ρ][e], xs and ys being bits, one to a byte
 -- Assumes nothing.
@@ -8,13 +7,9 @@ use Prim.Native.Nat.{ℕ, _*_}
 use lib.Bits.{bitXor}
 use Rattle.algebra.specs.Coded.{mulByte}
 use Rattle.field.specs.Gf256.{gf256}
-use Rattle.protocol.specs.Lists.{blockAt}
-use Rattle.protocol.specs.Strings.{bytesFor}
 use Rattle.strings.specs.Sums.{byteAt, xorSum, selected}
 use Rattle.lanes.specs.Lanes.{lanes, laneAt}
-
-abbrev pub rowOf : ℕ → List ℕ → ℕ → List ℕ
-rowOf n A ρ = blockAt A (bytesFor n) ρ
+use Rattle.quadratic.specs.Equations.{rowOf}
 
 abbrev pub formByte : ℕ → List ℕ → List ℕ → ℕ → ℕ
 formByte n A T e = xorSum n (λ ρ. mulByte gf256 (laneAt T ρ e) (selected n (rowOf n A ρ) T lanes e))

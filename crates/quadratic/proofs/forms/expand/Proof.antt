@@ -14,8 +14,8 @@ use Rattle.protocol.specs.Strings.{bytesFor}
 use Rattle.strings.specs.Sums.{byteAt, xorSum, selected}
 use Rattle.strings.proofs.Rows.{row-end, row-byte}
 use Rattle.strings.proofs.SumLaws.{sum-step}
-use Rattle.lanes.specs.Lanes.{lanes, laneAt}
-use Rattle.quadratic.specs.Forms.{rowOf}
+use Rattle.lanes.specs.Lanes.{lanes, laneAt, Tabled}
+use Rattle.quadratic.specs.Equations.{rowOf}
 use Rattle.quadratic.proofs.forms.expand.Statement.{statement}
 use Rattle.quadratic.proofs.forms.expand.Tie as tie
 
@@ -80,16 +80,17 @@ loop-again c =
     let factor = c .before .before .before .before .before .before .before .before .before .row-at2 in
     let added = c .before .before .before .before .expand-row in
     let enough : a .n ≤ length (now (row .result)) * 8 = omega arith in
+    let tabled : Tabled T (now (a .sums)) (length (now (row .result)) * 32) = λ k i l. start .pre .0 .5 k i (omega (arith, row .ensures .1)) in
     let lane : (e : ℕ) → e < lanes → byteAt (now (factor .result)) e ≡ laneAt T (l .i) e = λ e h. ap (λ (r : List ℕ). byteAt r e) (factor .ensures .0) ∙ row-byte T lanes (l .i) e h in (
       omega (arith, c .before .before .before .before .before .before .before .before .before .before .before .loop-test .taken),
       added .kept .0 ∙ l .inv .1,
       added .kept .1 .0 ∙ l .inv .2,
       (λ e h.
-          added .ensures .0 T (a .n) e (start .pre .0 .5) (start .pre .0 .3) enough h
+          added .ensures .0 T (a .n) e tabled (start .pre .0 .3) enough h
           ∙ ap₂ (λ (x : ℕ) (r : List ℕ). bitXor (byteAt (l .a0) e) (mulByte gf256 x (selected (a .n) r T lanes e))) (lane e h) (row .ensures .0)
           ∙ sum-step (byteAt (now (a .a0)) e) (byteAt (l .a0) e) (l .i) (λ ρ. formTerm (a .n) (now (a .matrix)) T e ρ) (l .inv .3 e h)),
       (λ e h.
-          added .ensures .1 T (a .n) e (start .pre .0 .5) (start .pre .0 .3) enough h
+          added .ensures .1 T (a .n) e tabled (start .pre .0 .3) enough h
           ∙ ap₂ (λ (x : ℕ) (r : List ℕ). bitXor (byteAt (l .a1) e) (bitXor (byteAt (now (a .xs)) (l .i) * selected (a .n) r T lanes e) (byteAt (now (a .products)) (l .i) * x))) (lane e h) (row .ensures .0)
           ∙ sum-step (byteAt (now (a .a1)) e) (byteAt (l .a1) e) (l .i) (λ ρ. crossTerm (a .n) (now (a .matrix)) T e ρ (now (a .xs)) (now (a .products))) (l .inv .4 e h)),
     )

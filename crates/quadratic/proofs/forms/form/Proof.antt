@@ -15,7 +15,7 @@ use Rattle.strings.specs.Sums.{byteAt, xorSum, selected}
 use Rattle.strings.proofs.Rows.{row-end, row-byte}
 use Rattle.strings.proofs.SumLaws.{sum-step}
 use Rattle.lanes.specs.Lanes.{lanes, laneAt}
-use Rattle.quadratic.specs.Forms.{rowOf}
+use Rattle.quadratic.specs.Equations.{rowOf}
 use Rattle.quadratic.proofs.forms.form.Statement.{statement}
 use Rattle.quadratic.proofs.forms.form.Tie as tie
 
@@ -64,7 +64,7 @@ loop-again c =
       omega arith,
       added .kept .0 ∙ l .inv .1,
       (λ e h.
-          added .ensures (now (a .table)) (a .n) e (start .pre .4) (start .pre .2) (omega arith) h
+          added .ensures (now (a .table)) (a .n) e (λ k i l. start .pre .4 k i (omega (arith, row .ensures .1))) (start .pre .2) (omega arith) h
           ∙ ap₂ (λ (x : ℕ) (r : List ℕ). bitXor (byteAt (l .acc) e) (mulByte gf256 x (selected (a .n) r (now (a .table)) lanes e)))
           (ap (λ (r : List ℕ). byteAt r e) (factor .ensures .0) ∙ row-byte (now (a .table)) lanes (l .i) e h) (row .ensures .0)
           ∙ sum-step (byteAt (now (a .acc)) e) (byteAt (l .acc) e) (l .i) (term e) (l .inv .2 e h)),
