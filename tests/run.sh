@@ -35,6 +35,7 @@ case $verdict in
 *) fail "rt ci: $verdict" ;;
 esac
 
+step "line counts of the audit guide" sh tests/counts.sh
 step "the Rust rendering" cargo test --quiet --release --offline --manifest-path tests/reference/Cargo.toml -- --test-threads=1
 
 echo "$verdict"

@@ -1,7 +1,16 @@
 // The answers of the calls, and where a section stands, in the forms that 01 names.
+pub mod calls;
+pub mod inputs;
+pub mod key;
+pub mod numbers;
+pub mod sections;
+pub mod sizes;
+pub mod spare;
+
+pub use sizes::Sizes;
 ghost use mathlib.Core.Path.{_≡_};
 ghost use Prim.Native.Nat.{_<_};
-ghost use Rattle.protocol.specs.Answers.{word};
+ghost use Rattle.protocol.specs.Answers.{refused, word};
 ghost use Rattle.format.specs.Verdict.{numberFor, answerOf};
 
 // Why a call refuses: one case for each question of 01.
@@ -62,6 +71,13 @@ pub fn number(reason: Reason) -> u32
         Reason::Inconsistent => 14,
         Reason::ProductDiffers => 15,
     }
+}
+
+// A refusal that names a place; 0 where 01 gives none.
+pub fn refuse(reason: Reason, place: u16) -> Verdict
+    ensures { λ r. ⌜ answerOf r ≡ refused (numberFor reason) place ⌝ }
+{
+    Verdict::Refused(Refusal { reason, place })
 }
 
 // What the schools' server receives: number × 65,536 + place, 0 for accepted.

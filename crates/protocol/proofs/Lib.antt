@@ -1,3 +1,7 @@
+pub mod Computing
+pub mod SmallSitting
+pub mod SecondSitting
+pub mod Edges
 pub mod TestLaws
 pub mod ListLaws
 pub mod StringLaws
@@ -6,10 +10,13 @@ pub mod BinaryLaws
 pub mod LeafLaws
 pub mod VoleLaws
 pub mod FormLaws
+pub mod HashLaws
 pub mod CoefficientLaws
 pub mod AnswerLaws
+pub mod ReplyLaws
 pub mod CountingLaws
 pub mod HonestLaws
 pub mod Published
 pub mod Theorems
 pub mod Demands
+pub mod SittingFactors

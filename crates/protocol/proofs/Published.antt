@@ -21,7 +21,8 @@ use Rattle.protocol.specs.Questions.{ΔExact, hExact, χExact, solves, f
 use Rattle.protocol.specs.Calls.{testQuestions, commitQuestions, hashQuestions, batchQuestions, proveQuestions, verifyQuestions, testAnswer, commitAnswer, hashAnswer, batchAnswer, proveAnswer, verifyAnswer, testForm, commitForm, batchForm, proveForm, TestReply, CommitReply, BatchReply, ProveReply}
 use Rattle.protocol.specs.Statements.{AllPublished, SomeFails, RefusesExactly}
 use Rattle.protocol.proofs.TestLaws.{all-at, first-not}
-use Rattle.protocol.proofs.AnswerLaws.{Listed, published-ask, on-form, refuses-exactly, reply-exists}
+use Rattle.protocol.proofs.AnswerLaws.{Listed, published-ask, on-form}
+use Rattle.protocol.proofs.ReplyLaws.{refuses-exactly, reply-exists}
 
 module _ (A : Alphabet) where
   open Alphabet A using (K)

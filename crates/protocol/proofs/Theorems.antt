@@ -39,7 +39,8 @@ use Rattle.protocol.proofs.LeafLaws.{open-place}
 use Rattle.protocol.proofs.VoleLaws.{vole}
 use Rattle.protocol.proofs.FormLaws.{expand, quad-congr, lin-congr}
 use Rattle.protocol.proofs.CoefficientLaws.{checks-passing}
-use Rattle.protocol.proofs.AnswerLaws.{ask-none, ask-no, ask-yes, accepted-all, accepted-of, all-yes, yes-all, ask-after, Without, not-number}
+use Rattle.protocol.proofs.AnswerLaws.{ask-none, ask-no, ask-yes, accepted-all, accepted-of, all-yes, yes-all, ask-after}
+use Rattle.protocol.proofs.ReplyLaws.{Without, not-number}
 use Rattle.protocol.proofs.CountingLaws.{Form, form-of, leaves-length, opened-exact, opened-spare, tree-is, splits, count-product}
 use Rattle.protocol.proofs.HonestLaws.{sym-symbol, pack-sym, u-symbol, bounds-of, passing-all, exact, sections-back, spare}
 
@@ -195,7 +196,7 @@ module _ (A : Alphabet) where
 
   -- the factors, of leaves of exact length
   module _ (key leaves H′ χ proof : List ℕ) (k7 : leavesExact A (shapeOf key) (perTree A) leaves ≡ true) where
-    factor-is : (e : ℕ) → e < shapeOf key .τ → factor A key leaves H′ χ proof e ≡ count (passing base (conditions A (shapeOf key) key leaves H′ χ (sectionsIn A (shapeOf key) proof) e)) elements
+    pub factor-is : (e : ℕ) → e < shapeOf key .τ → factor A key leaves H′ χ proof e ≡ count (passing base (conditions A (shapeOf key) key leaves H′ χ (sectionsIn A (shapeOf key) proof) e)) elements
     unfolding factor
     factor-is e le = count-congr _ _ (checks-passing A (shapeOf key) key leaves H′ χ (sectionsIn A (shapeOf key) proof) e (leaves-length A (shapeOf key) leaves k7) le) elements
 

@@ -19,3 +19,6 @@ pub mod Coefficients
 pub mod Check
 pub mod Statements
 pub mod Demands
+pub mod SmallSitting
+pub mod SecondSitting
+pub mod Edges

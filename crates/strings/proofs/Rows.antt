@@ -3,7 +3,9 @@
 use Prim.Native.Nat.{ℕ, zero, suc, _+_, _*_, _-_, _≤_, _<_}
 use mathlib.Core.Path.{_≡_, refl, sym, ap, _∙_}
 use mathlib.Core.List.{List, [], _∷_, _++_}
-use native.Mathlib.Nat.{mul-le-mul-right, suc-mul}
+use mathlib.Core.Logic.{⊎-elim}
+use native.Mathlib.Nat.{mul-le-mul-right, suc-mul, eq-or-lt-of-le, le-of-suc-le-suc}
+use native.Mathlib.Numerals.{add-one}
 use native.Mathlib.Omega.{arith, ne-cases}
 use lib.ListN.{length, take, drop, length-append, List·getD-append}
 use lib.Seq.{length-take-le, getD-take, getD-drop, getD-append-add}
@@ -57,3 +59,13 @@ put-other i w l r fits same q b other hb =
     (λ (h : i < q).
     let e : q * w + b ≡ i * w + (w + (q * w + b - (i * w + w))) = omega (arith, row-end i q w h) in
     rw e (put-after (i * w) w l r fits same (q * w + b - (i * w + w))))
+
+-- the first n rows of w bytes of l are g 0, .., g (n - 1)
+abbrev pub RowsAre : (ℕ → ℕ → ℕ) → List ℕ → ℕ → ℕ → Type 0
+RowsAre g l n w = (i b : ℕ) → i < n → b < w → byteAt l (i * w + b) ≡ g i b
+
+-- the rows below n are done, and now row n
+pub rows-more : (g : ℕ → ℕ → ℕ) (l l′ : List ℕ) (n w : ℕ) → RowsAre g l n w → ((b : ℕ) → b < w → byteAt l′ (n * w + b) ≡ g n b)
+    → ((q b : ℕ) → (q ≡ n → ⊥) → b < w → byteAt l′ (q * w + b) ≡ byteAt l (q * w + b)) → RowsAre g l′ (n + 1) w
+rows-more g l l′ n w done row others i b h k =
+    ⊎-elim (λ (e : i ≡ n). rw e (row b k)) (λ (lt : i < n). others i b (λ x. omega arith) k ∙ done i b lt k) (eq-or-lt-of-le (le-of-suc-le-suc (rw add-one at h)))

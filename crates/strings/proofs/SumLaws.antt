@@ -1,11 +1,11 @@
--- Laws of sums: one term more, a part after a part, terms that agree, terms past an end that are 0; and a term times a bit, which a loop adds under a test.
+-- Laws of sums: one term more, a part after a part, terms that agree, terms that are 0, the bound of a sum; and a term times a bit, which a loop adds under a test.
 -- Assumes nothing.
-use Prim.Native.Nat.{ℕ, zero, suc, _+_, _*_, _≤_, _<_}
+use Prim.Native.Nat.{ℕ, zero, suc, _+_, _*_, _-_, _^_, _≤_, _<_}
 use mathlib.Core.Path.{_≡_, refl, sym, ap, ap₂, _∙_}
 use native.Mathlib.Nat.{add-suc, add-zero, one-mul, zero-mul}
 use native.Mathlib.Numerals.{add-one}
 use native.Mathlib.Omega.{arith}
-use lib.Bits.{bitXor, xor-zero-r}
+use lib.Bits.{bitXor, xor-zero-r, xor-lt}
 use Rattle.strings.specs.Sums.{xorSum}
 use Rattle.strings.proofs.XorLaws.{xor-assoc}
 
@@ -28,6 +28,24 @@ pub sum-past : (n k : ℕ) (f : ℕ → ℕ) → ((s : ℕ) → f (n + s) ≡ 0)
 unfolding xorSum
 sum-past n zero f h = rw add-zero
 sum-past n (suc k) f h = rw add-suc (ap₂ bitXor (sum-past n k f h) (h k) ∙ xor-zero-r (xorSum n f))
+
+pub sum-none : (n : ℕ) → xorSum n (λ i. 0) ≡ 0
+unfolding xorSum
+sum-none zero = refl
+sum-none (suc n) = xor-zero-r (xorSum n (λ i. 0)) ∙ sum-none n
+
+-- terms from n on that are 0
+pub sum-short : (n m : ℕ) (f : ℕ → ℕ) → n ≤ m → ((i : ℕ) → n ≤ i → i < m → f i ≡ 0) → xorSum m f ≡ xorSum n f
+sum-short n m f h zeros =
+    let e : m ≡ n + (m - n) = omega arith in
+    ap (λ k. xorSum k f) e ∙ sum-parts n (m - n) f
+    ∙ ap (bitXor (xorSum n f)) (sum-same (m - n) _ (λ i. 0) (λ i l. zeros (n + i) (omega arith) (omega arith)) ∙ sum-none (m - n)) ∙ xor-zero-r (xorSum n f)
+
+-- a sum of numbers of k bits has k bits
+pub sum-lt : (k n : ℕ) (f : ℕ → ℕ) → 0 < 2 ^ k → ((i : ℕ) → i < n → f i < 2 ^ k) → xorSum n f < 2 ^ k
+unfolding xorSum
+sum-lt k zero f pos h = pos
+sum-lt k (suc n) f pos h = xor-lt k (xorSum n f) (f n) (sum-lt k n f pos (λ i l. h i (omega arith))) (h n (omega arith))
 
 -- a sum in a running total, and one term more
 pub sum-step : (a v n : ℕ) (f : ℕ → ℕ) → v ≡ bitXor a (xorSum n f) → bitXor v (f n) ≡ bitXor a (xorSum (n + 1) f)

@@ -4,7 +4,9 @@ ghost use Prim.Native.Nat.{ℕ, _+_, _*_, _<_, _≤_};
 ghost use lib.ListN.{length};
 ghost use lib.Bits.{bitXor};
 ghost use Rattle.protocol.specs.Lists.{blockAt};
+ghost use Rattle.protocol.specs.Strings.{bytesFor, bit};
 ghost use Rattle.strings.specs.Sums.{byteAt};
+ghost use Rattle.strings.specs.Products.{shared, product};
 
 // dst[i] ^= src[i], for each i.
 pub fn xor_into(dst: &mut [u8], src: &[u8])
@@ -26,6 +28,18 @@ pub fn xor_two_into(dst: &mut [u8], a: &[u8], b: &[u8])
     let mut i = 0;
     while i < dst.len() {
         dst[i] ^= a[i] ^ b[i];
+        i += 1;
+    }
+}
+
+// dst[i] = a[i] ^ b[i], for each i.
+pub fn xor_of(dst: &mut [u8], a: &[u8], b: &[u8])
+    requires { ⌜ (length (now a) ≡ length (now dst)) × (length (now b) ≡ length (now dst)) ⌝ }
+    ensures { λ _. ⌜ ((i : ℕ) → i < length (now (dst .entry)) → byteAt (now (dst .exit)) i ≡ bitXor (byteAt (now (a .entry)) i) (byteAt (now (b .entry)) i)) ⌝ }
+{
+    let mut i = 0;
+    while i < dst.len() {
+        dst[i] = a[i] ^ b[i];
         i += 1;
     }
 }
@@ -71,4 +85,55 @@ pub fn xor_row(table: &mut [u8], i: usize, src: &[u8])
     let w = src.len();
     let at = i * w;
     xor_into(&mut table[at..at + w], src);
+}
+
+// Coordinate c of a bit string.
+pub fn bit_at(s: &[u8], c: usize) -> u8
+    requires { ⌜ c < length (now s) * 8 ⌝ }
+    ensures { λ r. ⌜ r ≡ bit (now (s .entry)) c ⌝ }
+{
+    (s[c / 8] >> (c % 8)) % 2
+}
+
+// Adds a bit to coordinate c of a bit string.
+pub fn xor_bit(s: &mut [u8], c: usize, q: u8)
+    requires { ⌜ (c < length (now s) * 8) × (q < 2) ⌝ }
+    ensures { λ _. ⌜ bit (now (s .exit)) c ≡ bitXor (bit (now (s .entry)) c) q ⌝ }
+    ensures { λ _. ⌜ ((d : ℕ) → (d ≡ c → ⊥) → bit (now (s .exit)) d ≡ bit (now (s .entry)) d) ⌝ }
+{
+    s[c / 8] ^= q << (c % 8);
+}
+
+// Makes the spare bits of a string of n coordinates 0, by a mask: n alone decides whether there are any.
+pub fn clear_spare(s: &mut [u8], n: usize)
+    requires { ⌜ length (now s) ≡ bytesFor n ⌝ }
+    ensures { λ _. ⌜ ((c : ℕ) → c < n → bit (now (s .exit)) c ≡ bit (now (s .entry)) c) ⌝ }
+    ensures { λ _. ⌜ ((c : ℕ) → n ≤ c → c < length (now (s .entry)) * 8 → bit (now (s .exit)) c ≡ 0) ⌝ }
+{
+    if n % 8 != 0 {
+        s[n / 8] &= (1u8 << (n % 8)) - 1;
+    }
+}
+
+// The ones that two rows share from byte `from` on.
+fn shared_bytes(row: &[u8], x: &[u8], from: usize) -> u32
+    requires { ⌜ (length (now x) ≡ length (now row)) × (length (now row) ≤ 100000) × (from ≤ length (now row)) ⌝ }
+    ensures { λ r. ⌜ r + shared from (now (row .entry)) (now (x .entry)) ≡ shared (length (now (row .entry))) (now (row .entry)) (now (x .entry)) ⌝ }
+{
+    let mut count = 0u32;
+    let mut i = from;
+    while i < row.len() {
+        count += u8::count_ones(row[i] & x[i]);
+        i += 1;
+    }
+    count
+}
+
+// The product of two rows of bits over GF(2): the parity of the ones that they share.
+pub fn row_product(row: &[u8], x: &[u8]) -> u8
+    requires { ⌜ (length (now x) ≡ length (now row)) × (length (now row) ≤ 100000) ⌝ }
+    ensures { λ r. ⌜ (r ≡ product (length (now (row .entry)) * 8) (now (row .entry)) (now (x .entry))) × (r < 2) ⌝ }
+{
+    let count = shared_bytes(row, x, 0);
+    (count % 2) as u8
 }

@@ -1,0 +1,4 @@
+pub mod Writes
+pub mod SectionLaws
+pub mod CellLaws
+pub mod HashMeaning

@@ -1,0 +1,7 @@
+pub mod SizeLaws
+pub mod AllLaws
+pub mod SectionLaws
+pub mod SpanLaws
+pub mod SpareLaws
+pub mod AskLaws
+pub mod KeyLaws

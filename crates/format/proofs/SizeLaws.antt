@@ -1,0 +1,119 @@
+-- What the limits bound: the sizes, what is derived from them, and so each length that the code computes.
+-- Assumes nothing.
+use mathlib.Core.Path.{_≡_}
+use mathlib.Core.Bool.{Bool, true}
+use mathlib.Core.List.{List, [], _∷_}
+use Prim.Native.Nat.{ℕ, _+_, _*_, _-_, _≤_, _<_}
+use native.Mathlib.Nat.{mul-le-mul}
+use native.Mathlib.Omega.{arith}
+use lib.Dec.{leb}
+use Rattle.algebra.proofs.CountLaws.{and-left, and-right}
+use Rattle.protocol.specs.Strings.{bytesFor}
+use Rattle.protocol.specs.Binary.{bits256}
+use Rattle.protocol.specs.Frames.{framedLength}
+use Rattle.protocol.specs.Key.{keyLengths}
+use Rattle.protocol.specs.Sections.{lengths, commitLengths, hashLengths, batchLengths}
+use Rattle.protocol.specs.Shape.{Shape, within, limits, kOf, lOf, wOf}
+use Rattle.protocol.proofs.TestLaws.{leb-le, all-true}
+
+pub record InLimits (s : Shape) : Type 0 where
+  pub n-least : 1 ≤ s .n
+  pub n-most : s .n ≤ 160
+  pub m-least : 1 ≤ s .m
+  pub m-most : s .m ≤ 160
+  pub τ-least : 1 ≤ s .τ
+  pub τ-most : s .τ ≤ 48
+  pub t-least : 1 ≤ s .t
+  pub t-most : s .t ≤ 160
+
+least : (most x : ℕ) → within most x ≡ true → 1 ≤ x
+unfolding within
+least most x h = leb-le 1 x (and-left (leb 1 x) (leb x most) h)
+
+most : (most x : ℕ) → within most x ≡ true → x ≤ most
+unfolding within
+most m x h = leb-le x m (and-right (leb 1 x) (leb x m) h)
+
+pub in-limits : (s : Shape) → limits s ≡ true → InLimits s
+unfolding limits
+in-limits s h =
+    let a = all-true (within 160 (s .n) ∷ within 160 (s .m) ∷ within 48 (s .τ) ∷ within 160 (s .t) ∷ []) h in
+    record {
+      n-least = least 160 (s .n) (a .0);
+      n-most = most 160 (s .n) (a .0);
+      m-least = least 160 (s .m) (a .1 .0);
+      m-most = most 160 (s .m) (a .1 .0);
+      τ-least = least 48 (s .τ) (a .1 .1 .0);
+      τ-most = most 48 (s .τ) (a .1 .1 .0);
+      t-least = least 160 (s .t) (a .1 .1 .1 .0);
+      t-most = most 160 (s .t) (a .1 .1 .1 .0);
+    }
+
+pub bytes-most : (bits : ℕ) → bits ≤ 168 → bytesFor bits ≤ 21
+unfolding bytesFor
+bytes-most bits h = omega arith
+
+module _ (s : Shape) (h : limits s ≡ true) where
+  pub k-most : kOf bits256 s ≤ 168
+  unfolding kOf
+  k-most = let b = in-limits s h in omega arith
+
+  pub l-most : lOf bits256 s ≤ 328
+  unfolding lOf
+  l-most = let b = in-limits s h in omega (arith, k-most)
+
+  pub w-most : wOf bits256 s ≤ 41
+  unfolding wOf bytesFor
+  w-most = omega (arith, l-most)
+
+  -- products of sizes
+  pub corrections-most : (s .τ - 1) * wOf bits256 s ≤ 47 * 41
+  corrections-most = let b = in-limits s h in let e : s .τ - 1 ≤ 47 = omega arith in mul-le-mul e w-most
+
+  pub hash-matrix-most : s .t * bytesFor (kOf bits256 s) ≤ 160 * 21
+  hash-matrix-most = mul-le-mul (in-limits s h .t-most) (bytes-most (kOf bits256 s) k-most)
+
+  pub batching-most : s .τ * s .m ≤ 48 * 160
+  batching-most = mul-le-mul (in-limits s h .τ-most) (in-limits s h .m-most)
+
+  pub hashed-most : s .τ * s .t ≤ 48 * 160
+  hashed-most = mul-le-mul (in-limits s h .τ-most) (in-limits s h .t-most)
+
+  pub row-most : bytesFor (s .n) ≤ 21
+  row-most = let b = in-limits s h in bytes-most (s .n) (omega arith)
+
+  pub matrix-rows-most : s .m * s .n ≤ 160 * 160
+  matrix-rows-most = mul-le-mul (in-limits s h .m-most) (in-limits s h .n-most)
+
+  pub matrices-most : s .m * s .n * bytesFor (s .n) ≤ 160 * 160 * 21
+  matrices-most = mul-le-mul matrix-rows-most row-most
+
+  pub linear-most : s .m * bytesFor (s .n) ≤ 160 * 21
+  linear-most = mul-le-mul (in-limits s h .m-most) row-most
+
+  pub trees-most : (per : ℕ) → per ≤ 256 → s .τ * per ≤ 48 * 256
+  trees-most per l = mul-le-mul (in-limits s h .τ-most) l
+
+  pub leaves-most : (per : ℕ) → per ≤ 256 → s .τ * per * wOf bits256 s ≤ 48 * 256 * 41
+  leaves-most per l = mul-le-mul (trees-most per l) w-most
+
+  -- strings of sections
+  pub commit-most : framedLength (commitLengths bits256 s) < 65536
+  unfolding framedLength commitLengths
+  commit-most = omega (arith, corrections-most, row-most)
+
+  pub hash-most : framedLength (hashLengths bits256 s) < 65536
+  unfolding framedLength hashLengths
+  hash-most = let b = in-limits s h in omega (arith, bytes-most (s .t) (omega arith), hashed-most)
+
+  pub batch-most : framedLength (batchLengths bits256 s) < 65536
+  unfolding framedLength batchLengths
+  batch-most = let b = in-limits s h in omega arith
+
+  pub proof-most : framedLength (lengths bits256 s) < 65536
+  unfolding framedLength lengths
+  proof-most = let b = in-limits s h in omega (arith, corrections-most, row-most, bytes-most (s .t) (omega arith), hashed-most)
+
+  pub key-most : framedLength (keyLengths bits256 s) < 1048576
+  unfolding framedLength keyLengths
+  key-most = let b = in-limits s h in omega (arith, matrices-most, linear-most, bytes-most (s .m) (omega arith))

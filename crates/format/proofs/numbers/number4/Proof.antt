@@ -1,0 +1,31 @@
+-- `format::numbers::number4` meets its contract. Two numbers of two bytes.
+-- Assumes nothing.
+use native.Mathlib.Omega.{arith}
+use borrow.Author.Needs.{needs}
+use Rattle.protocol.specs.Frames.{num4}
+use Rattle.format.proofs.numbers.number4.Statement.{statement}
+use Rattle.format.proofs.numbers.number4.Tie as tie
+
+number2-requires : tie.Need-number2-requires
+number2-requires c κs = search needs
+
+add-number2 : tie.Need-add-number2
+add-number2 c = search needs
+
+number2-requires-2 : tie.Need-number2-requires-2
+number2-requires-2 c κs = search needs
+
+mul-result : tie.Need-mul-result
+mul-result c = search needs
+
+add-result : tie.Need-add-result
+add-result c = search needs
+
+returns : tie.Need-returns
+unfolding num4
+returns c = (rw (c .number22 .ensures .0, c .before .number2 .ensures .0), omega arith)
+
+pub number4-spec : {M : Type 1} → statement M
+number4-spec =
+    tie.close
+    (tie.spec number2-requires add-number2 number2-requires-2 mul-result add-result returns)

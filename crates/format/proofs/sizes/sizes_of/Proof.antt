@@ -1,0 +1,25 @@
+-- `format::sizes::sizes_of` meets its contract. Four numbers of two bytes.
+-- Assumes nothing.
+use borrow.Author.Needs.{needs}
+use Rattle.format.proofs.sizes.sizes_of.Statement.{statement}
+use Rattle.format.proofs.sizes.sizes_of.Tie as tie
+
+number2-requires : tie.Need-number2-requires
+number2-requires c κs = search needs
+
+number2-requires-2 : tie.Need-number2-requires-2
+number2-requires-2 c κs = search needs
+
+number2-requires-3 : tie.Need-number2-requires-3
+number2-requires-3 c κs = search needs
+
+number2-requires-4 : tie.Need-number2-requires-4
+number2-requires-4 c κs = search needs
+
+returns : tie.Need-returns
+returns c = rw (c .before .before .before .number2 .ensures .0, c .before .before .number22 .ensures .0, c .before .number23 .ensures .0, c .number24 .ensures .0)
+
+pub sizes-of-spec : {M : Type 1} → statement M
+sizes-of-spec =
+    tie.close
+    (tie.spec number2-requires number2-requires-2 number2-requires-3 number2-requires-4 returns)

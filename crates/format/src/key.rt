@@ -1,0 +1,107 @@
+// The key: questions 1 to 4 of 01, and its sections.
+ghost use mathlib.Core.Path.{_≡_};
+ghost use mathlib.Core.Bool.{true};
+ghost use Prim.Native.Nat.{_*_, _<_, _≤_};
+ghost use lib.ListN.{length, getD, drop};
+ghost use Rattle.protocol.specs.Strings.{bytesFor};
+ghost use Rattle.protocol.specs.Frames.{sectionNo};
+ghost use Rattle.protocol.specs.Binary.{bits256};
+ghost use Rattle.protocol.specs.Shape.{shapeOf, limits};
+ghost use Rattle.protocol.specs.Key.{keyLengths, keyExact, keySpare, sectionA, sectionB, sectionY};
+ghost use Rattle.protocol.specs.Answers.{ask};
+ghost use Rattle.format.specs.Sizes.{shapeFor};
+ghost use Rattle.format.specs.Verdict.{answerOf};
+ghost use Rattle.format.specs.Asking.{keyQuestions, KeyForm};
+use super::Reason;
+use super::Span;
+use super::Verdict;
+use super::refuse;
+use super::sections::follow;
+use super::sections::section_no;
+use super::sizes::Sizes;
+use super::sizes::in_limits;
+use super::sizes::key_lengths;
+use super::sizes::sizes_of;
+use super::spare::row_spare;
+use super::spare::rows_spare;
+
+// The bytes of n, m, τ, t.
+const HEADER: usize = 8;
+
+// Question 3: are the counts of A, b, y and the key's length exact?
+pub fn key_exact(key: &[u8], s: Sizes) -> bool
+    requires { ⌜ (8 ≤ length (now key)) × (limits (shapeFor s) ≡ true) ⌝ }
+    ensures { λ r. ⌜ r ≡ keyExact bits256 (shapeFor s) (now (key .entry)) ⌝ }
+{
+    let lengths = key_lengths(s);
+    let Span::At { start: _, end } = follow(key, HEADER, &lengths) else {
+        return false;
+    };
+    end == key.len()
+}
+
+// Section i of a key whose sections are exact, as part of it.
+fn key_section(key: &[u8], i: usize) -> &[u8]
+    requires { ⌜ (KeyForm (now key)) × (i < 3) ⌝ }
+    ensures { λ r. ⌜ (now r ≡ sectionNo (keyLengths bits256 (shapeOf (now (key .entry)))) i (drop 8 (now (key .entry)))) × (length (now r) ≡ getD (keyLengths bits256 (shapeOf (now (key .entry)))) i 0) ⌝ }
+{
+    let lengths = key_lengths(sizes_of(key));
+    section_no(&key[HEADER..], &lengths, i)
+}
+
+// The matrices A.
+pub fn section_a(key: &[u8]) -> &[u8]
+    requires { ⌜ KeyForm (now key) ⌝ }
+    ensures { λ r. ⌜ (now r ≡ sectionA bits256 (shapeOf (now (key .entry))) (now (key .entry))) × (length (now r) ≡ shapeOf (now (key .entry)) .m * shapeOf (now (key .entry)) .n * bytesFor (shapeOf (now (key .entry)) .n)) ⌝ }
+{
+    key_section(key, 0)
+}
+
+// The linear parts b.
+pub fn section_b(key: &[u8]) -> &[u8]
+    requires { ⌜ KeyForm (now key) ⌝ }
+    ensures { λ r. ⌜ (now r ≡ sectionB bits256 (shapeOf (now (key .entry))) (now (key .entry))) × (length (now r) ≡ shapeOf (now (key .entry)) .m * bytesFor (shapeOf (now (key .entry)) .n)) ⌝ }
+{
+    key_section(key, 1)
+}
+
+// The right sides y.
+pub fn section_y(key: &[u8]) -> &[u8]
+    requires { ⌜ KeyForm (now key) ⌝ }
+    ensures { λ r. ⌜ (now r ≡ sectionY bits256 (shapeOf (now (key .entry))) (now (key .entry))) × (length (now r) ≡ bytesFor (shapeOf (now (key .entry)) .m)) ⌝ }
+{
+    key_section(key, 2)
+}
+
+// Question 4: are the key's spare bits 0?
+pub fn key_spare(key: &[u8]) -> bool
+    requires { ⌜ KeyForm (now key) ⌝ }
+    ensures { λ r. ⌜ r ≡ keySpare bits256 (shapeOf (now (key .entry))) (now (key .entry)) ⌝ }
+{
+    let s = sizes_of(key);
+    let n = s.n;
+    let m = s.m;
+    rows_spare(section_a(key), n, m * n)
+        & rows_spare(section_b(key), n, m)
+        & row_spare(section_y(key), m)
+}
+
+// Questions 1 to 4.
+pub fn key_form(key: &[u8]) -> Verdict
+    ensures { λ r. ⌜ answerOf r ≡ ask (keyQuestions (now (key .entry))) ⌝ }
+{
+    if key.len() < HEADER {
+        return refuse(Reason::ShortHeader, 0);
+    }
+    let s = sizes_of(key);
+    if !in_limits(s) {
+        return refuse(Reason::SizeOutOfRange, 0);
+    }
+    if !key_exact(key, s) {
+        return refuse(Reason::KeyLength, 0);
+    }
+    if !key_spare(key) {
+        return refuse(Reason::KeySpareBit, 0);
+    }
+    Verdict::Accepted
+}

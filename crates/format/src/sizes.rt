@@ -1,0 +1,211 @@
+// The sizes of a key, their limits, and the lengths that follow from them.
+ghost use mathlib.Core.Path.{_≡_};
+ghost use mathlib.Core.Bool.{true};
+ghost use Prim.Native.Nat.{_+_, _*_, _<_, _≤_, _^_};
+ghost use lib.ListN.{length};
+ghost use Rattle.protocol.specs.Strings.{bytesFor};
+ghost use Rattle.protocol.specs.Binary.{bits256};
+ghost use Rattle.protocol.specs.Shape.{shapeOf, within, limits, kOf, lOf, wOf};
+ghost use Rattle.protocol.specs.Frames.{framedLength};
+ghost use Rattle.protocol.specs.Key.{keyLengths};
+ghost use Rattle.protocol.specs.Sections.{lengths, commitLengths, hashLengths, batchLengths};
+ghost use Rattle.format.specs.Sizes.{shapeFor};
+use super::numbers::number2;
+use super::sections::framed_length;
+use field::Gf256;
+
+// n variables, m equations, τ repetitions, t hash rows.
+pub struct Sizes {
+    pub n: usize,
+    pub m: usize,
+    pub tau: usize,
+    pub t: usize,
+}
+
+pub const MOST_VARIABLES: usize = 160;
+
+pub const MOST_EQUATIONS: usize = 160;
+
+pub const MOST_REPETITIONS: usize = 48;
+
+pub const MOST_HASH_ROWS: usize = 160;
+
+// The sizes in a key's header.
+pub fn sizes_of(key: &[u8]) -> Sizes
+    requires { ⌜ 8 ≤ length (now key) ⌝ }
+    ensures { λ r. ⌜ shapeFor r ≡ shapeOf (now (key .entry)) ⌝ }
+{
+    Sizes {
+        n: number2(key, 0),
+        m: number2(key, 2),
+        tau: number2(key, 4),
+        t: number2(key, 6),
+    }
+}
+
+fn in_range(most: usize, x: usize) -> bool
+    ensures { λ r. ⌜ r ≡ within most x ⌝ }
+{
+    (1 <= x) & (x <= most)
+}
+
+// Question 2: are the sizes in range?
+pub fn in_limits(s: Sizes) -> bool
+    ensures { λ r. ⌜ r ≡ limits (shapeFor s) ⌝ }
+{
+    let n = s.n;
+    let m = s.m;
+    let tau = s.tau;
+    let t = s.t;
+    in_range(MOST_VARIABLES, n)
+        & in_range(MOST_EQUATIONS, m)
+        & in_range(MOST_REPETITIONS, tau)
+        & in_range(MOST_HASH_ROWS, t)
+}
+
+// ⌈bits/8⌉, the bytes of a string of bits.
+pub fn bytes_for(bits: usize) -> usize
+    requires { ⌜ bits + 7 < 2 ^ 64 ⌝ }
+    ensures { λ r. ⌜ r ≡ bytesFor bits ⌝ }
+{
+    (bits + 7) / 8
+}
+
+// k = n + 8: the coordinates that a row of H′ covers.
+pub fn hashed_bits(s: Sizes) -> usize
+    requires { ⌜ limits (shapeFor s) ≡ true ⌝ }
+    ensures { λ r. ⌜ r ≡ kOf bits256 (shapeFor s) ⌝ }
+{
+    s.n + Gf256::DEGREE
+}
+
+// L = k + t: the coordinates of a leaf.
+pub fn leaf_bits(s: Sizes) -> usize
+    requires { ⌜ limits (shapeFor s) ≡ true ⌝ }
+    ensures { λ r. ⌜ r ≡ lOf bits256 (shapeFor s) ⌝ }
+{
+    hashed_bits(s) + s.t
+}
+
+// w = ⌈L/8⌉: the bytes of a leaf.
+pub fn leaf_bytes(s: Sizes) -> usize
+    requires { ⌜ limits (shapeFor s) ≡ true ⌝ }
+    ensures { λ r. ⌜ r ≡ wOf bits256 (shapeFor s) ⌝ }
+{
+    bytes_for(leaf_bits(s))
+}
+
+// ⌈n/8⌉: the bytes of a witness, of d, and of a row of A or b.
+pub fn witness_bytes(s: Sizes) -> usize
+    requires { ⌜ limits (shapeFor s) ≡ true ⌝ }
+    ensures { λ r. ⌜ r ≡ bytesFor (s .n) ⌝ }
+{
+    let n = s.n;
+    bytes_for(n)
+}
+
+// The bytes of H′: t rows of k bits.
+pub fn hash_matrix_bytes(s: Sizes) -> usize
+    requires { ⌜ limits (shapeFor s) ≡ true ⌝ }
+    ensures { λ r. ⌜ r ≡ s .t * bytesFor (kOf bits256 (shapeFor s)) ⌝ }
+{
+    s.t * bytes_for(hashed_bits(s))
+}
+
+// The bytes of χ: a column of m for each repetition.
+pub fn batching_bytes(s: Sizes) -> usize
+    requires { ⌜ limits (shapeFor s) ≡ true ⌝ }
+    ensures { λ r. ⌜ r ≡ s .tau * s .m ⌝ }
+{
+    s.tau * s.m
+}
+
+// The bytes of so many leaves for each repetition: 256 for the prover, 255 for the verifier.
+pub fn leaves_bytes(s: Sizes, per: usize) -> usize
+    requires { ⌜ (limits (shapeFor s) ≡ true) × (per ≤ 256) ⌝ }
+    ensures { λ r. ⌜ r ≡ s .tau * per * wOf bits256 (shapeFor s) ⌝ }
+{
+    s.tau * per * leaf_bytes(s)
+}
+
+// The lengths of the key's sections A, b, y.
+pub fn key_lengths(s: Sizes) -> [usize; 3]
+    requires { ⌜ limits (shapeFor s) ≡ true ⌝ }
+    ensures { λ r. ⌜ r ≡ keyLengths bits256 (shapeFor s) ⌝ }
+{
+    let m = s.m;
+    let row = witness_bytes(s);
+    [m * s.n * row, m * row, bytes_for(m)]
+}
+
+// The lengths of the sections that the first step writes: C, d.
+pub fn commit_lengths(s: Sizes) -> [usize; 2]
+    requires { ⌜ limits (shapeFor s) ≡ true ⌝ }
+    ensures { λ r. ⌜ r ≡ commitLengths bits256 (shapeFor s) ⌝ }
+{
+    [(s.tau - 1) * leaf_bytes(s), witness_bytes(s)]
+}
+
+// The lengths of the sections that the second step writes: ũ, Ṽ.
+pub fn hash_lengths(s: Sizes) -> [usize; 2]
+    requires { ⌜ limits (shapeFor s) ≡ true ⌝ }
+    ensures { λ r. ⌜ r ≡ hashLengths bits256 (shapeFor s) ⌝ }
+{
+    let t = s.t;
+    [bytes_for(t), s.tau * t]
+}
+
+// The lengths of the sections that the third step writes: QS0, QS1.
+pub fn batch_lengths(s: Sizes) -> [usize; 2]
+    requires { ⌜ limits (shapeFor s) ≡ true ⌝ }
+    ensures { λ r. ⌜ r ≡ batchLengths bits256 (shapeFor s) ⌝ }
+{
+    [s.tau, s.tau]
+}
+
+// The lengths of a proof's six sections.
+pub fn proof_lengths(s: Sizes) -> [usize; 6]
+    requires { ⌜ limits (shapeFor s) ≡ true ⌝ }
+    ensures { λ r. ⌜ r ≡ lengths bits256 (shapeFor s) ⌝ }
+{
+    let first = commit_lengths(s);
+    let second = hash_lengths(s);
+    let tau = s.tau;
+    [first[0], first[1], second[0], second[1], tau, tau]
+}
+
+// What the first step writes, counts included.
+pub fn commit_bytes(s: Sizes) -> usize
+    requires { ⌜ limits (shapeFor s) ≡ true ⌝ }
+    ensures { λ r. ⌜ r ≡ framedLength (commitLengths bits256 (shapeFor s)) ⌝ }
+{
+    let lengths = commit_lengths(s);
+    framed_length(&lengths)
+}
+
+// What the second step writes, counts included.
+pub fn hash_bytes(s: Sizes) -> usize
+    requires { ⌜ limits (shapeFor s) ≡ true ⌝ }
+    ensures { λ r. ⌜ r ≡ framedLength (hashLengths bits256 (shapeFor s)) ⌝ }
+{
+    let lengths = hash_lengths(s);
+    framed_length(&lengths)
+}
+
+// What the third step writes, counts included.
+pub fn batch_bytes(s: Sizes) -> usize
+    requires { ⌜ limits (shapeFor s) ≡ true ⌝ }
+    ensures { λ r. ⌜ r ≡ framedLength (batchLengths bits256 (shapeFor s)) ⌝ }
+{
+    let lengths = batch_lengths(s);
+    framed_length(&lengths)
+}
+
+// A whole proof, counts included.
+pub fn proof_bytes(s: Sizes) -> usize
+    requires { ⌜ limits (shapeFor s) ≡ true ⌝ }
+    ensures { λ r. ⌜ r ≡ framedLength (lengths bits256 (shapeFor s)) ⌝ }
+{
+    let lengths = proof_lengths(s);
+    framed_length(&lengths)
+}

@@ -1,0 +1,71 @@
+-- Where a no begins: at the sizes, at spare bits and exact lengths, and where two questions get a no. proofs/Edges computes each statement.
+-- Key, leaves and proof are those of SmallSitting with bytes changed; where a spare bit is set, it is one of the last row.
+--   allowed n m τ t == the limits admit these sizes
+-- Assumes nothing.
+use mathlib.Core.Path.{_≡_}
+use mathlib.Core.Bool.{Bool, true, false}
+use mathlib.Core.List.{List, [], _∷_, _++_}
+use Prim.Native.Nat.{ℕ}
+use lib.ListN.{replicate}
+use Rattle.protocol.specs.Shape.{limits, perTree, perOpened}
+use Rattle.protocol.specs.Key.{keyExact, keySpare}
+use Rattle.protocol.specs.Sections.{sectionsIn}
+use Rattle.protocol.specs.Answers.{Answer, accepted, refused, word}
+use Rattle.protocol.specs.Questions.{hSpare, leavesSpare, witnessForm, solves, proofSpare}
+use Rattle.protocol.specs.Calls.{proveAnswer, verifyAnswer}
+use Rattle.protocol.specs.SmallSitting.{bits16, changed, sizes, key, witness, leaves, H′, χ, Δ, proof, opened}
+
+abbrev pub allowed : ℕ → ℕ → ℕ → ℕ → Bool
+allowed n m τ t = limits (record { n = n; m = m; τ = τ; t = t })
+
+pub record Limits : Type 0 where
+  pub least : allowed 1 1 1 1 ≡ true
+  pub most : allowed 160 160 48 160 ≡ true
+  pub n-none : allowed 0 1 1 1 ≡ false
+  pub m-none : allowed 1 0 1 1 ≡ false
+  pub τ-none : allowed 1 1 0 1 ≡ false
+  pub t-none : allowed 1 1 1 0 ≡ false
+  pub n-over : allowed 161 160 48 160 ≡ false
+  pub m-over : allowed 160 161 48 160 ≡ false
+  pub τ-over : allowed 160 160 49 160 ≡ false
+  pub t-over : allowed 160 160 48 161 ≡ false
+
+pub record Forms : Type 0 where
+  pub key-exact : keyExact bits16 sizes key ≡ true
+  pub count-wrong : keyExact bits16 sizes (changed key 8 0x01) ≡ false
+  pub key-long : keyExact bits16 sizes (key ++ (0x00 ∷ [])) ≡ false
+  pub key-spare : keySpare bits16 sizes key ≡ true
+  pub A-spare-set : keySpare bits16 sizes (changed key 47 0x02) ≡ false
+  pub b-spare-set : keySpare bits16 sizes (changed key 55 0x02) ≡ false
+  pub y-spare-set : keySpare bits16 sizes (changed key 60 0x04) ≡ false
+  pub H-spare : hSpare bits16 sizes H′ ≡ true
+  pub H-spare-set : hSpare bits16 sizes (changed H′ 3 0x20) ≡ false
+  pub leaves-spare : leavesSpare bits16 sizes (perTree bits16) leaves ≡ true
+  pub leaves-spare-set : leavesSpare bits16 sizes (perTree bits16) (changed leaves 63 0x80) ≡ false
+  pub opened-spare : leavesSpare bits16 sizes (perOpened bits16) opened ≡ true
+  pub opened-spare-set : leavesSpare bits16 sizes (perOpened bits16) (changed opened 59 0x80) ≡ false
+  pub witness-form : witnessForm bits16 sizes witness ≡ true
+  pub witness-spare-set : witnessForm bits16 sizes (changed witness 1 0x02) ≡ false
+  pub proof-spare : proofSpare bits16 sizes (sectionsIn bits16 sizes proof) ≡ true
+  pub C-spare-set : proofSpare bits16 sizes (sectionsIn bits16 sizes (changed proof 5 0x80)) ≡ false
+  pub d-spare-set : proofSpare bits16 sizes (sectionsIn bits16 sizes (changed proof 11 0x02)) ≡ false
+  pub ũ-spare-set : proofSpare bits16 sizes (sectionsIn bits16 sizes (changed proof 16 0x04)) ≡ false
+  pub solved : solves bits16 sizes key witness ≡ true
+  pub not-solved : solves bits16 sizes key (changed witness 0 0x01) ≡ false
+
+-- Two questions get a no, and the first in 01's order refuses.
+pub record Order : Type 0 where
+  pub two-three : verifyAnswer bits16 (changed key 0 0xA8) Δ H′ χ opened proof ≡ refused 2 0
+  pub three-four : verifyAnswer bits16 (changed (changed key 8 0x01) 47 0x02) Δ H′ χ opened proof ≡ refused 3 0
+  pub five-six : verifyAnswer bits16 key Δ (changed H′ 3 0x20) (χ ++ (0x00 ∷ [])) opened proof ≡ refused 5 0
+  pub seven-eight : verifyAnswer bits16 key Δ H′ χ (changed leaves 63 0x80) proof ≡ refused 7 0
+  pub twelve-thirteen : verifyAnswer bits16 key Δ H′ χ opened (changed (changed proof 0 0x01) 11 0x02) ≡ refused 12 0
+  pub nine-ten : proveAnswer bits16 key leaves (changed witness 1 0x02) H′ χ [] 0 ≡ refused 9 0
+  pub ten-eleven : proveAnswer bits16 key leaves (changed witness 0 0x01) H′ χ [] 1 ≡ refused 10 0
+  pub eleven : proveAnswer bits16 key leaves (changed witness 0 0x01) H′ χ (replicate 37 0x00) 1 ≡ refused 11 1
+  pub none : proveAnswer bits16 key leaves witness H′ χ (replicate 37 0x00) 0 ≡ accepted
+
+-- What C receives.
+pub record Words : Type 0 where
+  pub accepted-is : word accepted ≡ 0
+  pub refused-is : word (refused 14 1) ≡ 917505

@@ -1,0 +1,9 @@
+pub mod Computing
+pub mod FewLeaves
+pub mod Prover
+pub mod Verifier
+pub mod Witness
+pub mod Challenges
+pub mod Forged
+pub mod Table
+pub mod Hypotheses

@@ -1,0 +1,3 @@
+pub mod Toy
+pub mod Table
+pub mod Hypotheses

@@ -1,0 +1,62 @@
+-- One tree: its leaves among all leaves, and the bits of v from its planes; and the trees one after the other.
+-- Assumes nothing.
+use Prim.Native.Nat.{ℕ, zero, suc, _+_, _*_, _/_, _%_, _^_, _<_}
+use mathlib.Core.Path.{_≡_, refl, sym, ap, _∙_}
+use mathlib.Core.List.{List}
+use mathlib.Core.Logic.{⊎-elim}
+use native.Mathlib.Nat.{mul-assoc, add-mul, eq-or-lt-of-le, le-of-suc-le-suc}
+use native.Mathlib.Numerals.{add-one}
+use native.Mathlib.Omega.{arith}
+use lib.Dec.{lit<}
+use Rattle.protocol.specs.Lists.{blockAt}
+use Rattle.protocol.specs.Strings.{bit, fromBits}
+use Rattle.protocol.proofs.StringLaws.{bit-lt, bits-congr, bits-of}
+use Rattle.strings.specs.Sums.{byteAt, bitOf, xorSum}
+use Rattle.strings.proofs.Rows.{row-end, row-byte}
+use Rattle.strings.proofs.SumLaws.{sum-same, sum-lt}
+use Rattle.strings.proofs.Meaning.{bitOf-lt, bitOf-sum, bit-times, times-bit, bit-is}
+use Rattle.vole.specs.Sums.{lanes, planeByte, uByte, vByte, TableIs}
+
+module _ (leaves : List ℕ) (w e : ℕ) where
+  tree-byte : (j b : ℕ) → j < 256 → b < w → byteAt (blockAt leaves (256 * w) e) (j * w + b) ≡ byteAt leaves ((e * 256 + j) * w + b)
+  tree-byte j b h l =
+      let place : e * (256 * w) + (j * w + b) ≡ (e * 256 + j) * w + b = omega (arith, mul-assoc e 256 w, add-mul (e * 256) j w) in
+      row-byte leaves (256 * w) e (j * w + b) (omega (arith, row-end j 256 w h)) ∙ ap (byteAt leaves) place
+
+  pub tree-u : (b : ℕ) → b < w → xorSum 256 (λ j. byteAt (blockAt leaves (256 * w) e) (j * w + b)) ≡ uByte leaves w e b
+  tree-u b l = sum-same 256 _ _ (λ j h. tree-byte j b h l)
+
+  times-lt : (j q : ℕ) → j < 256 → q < 2 → j * q < 256
+  times-lt j zero h k = omega arith
+  times-lt j (suc zero) h k = omega arith
+  times-lt j (suc (suc q)) h k = absurd (omega arith)
+
+  pub v-lt : (c : ℕ) → vByte leaves w e c < 256
+  v-lt c = sum-lt 8 256 _ (lit< tt) (λ j h. times-lt j (bit (blockAt leaves w (e * 256 + j)) c) h (bit-lt (blockAt leaves w (e * 256 + j)) c))
+
+  -- bit p of coordinate c of v is coordinate c of plane p
+  plane-bit : (p c : ℕ) → c < 8 * w → bitOf (planeByte (blockAt leaves (256 * w) e) 256 w p (c / 8)) (c % 8) ≡ bitOf (vByte leaves w e c) p
+  plane-bit p c h =
+      let l : c / 8 < w = omega arith in
+      bitOf-sum 256 _ (c % 8)
+      ∙ sum-same 256 _ _ (λ j k.
+      bit-times (bitOf j p) _ (c % 8) (bitOf-lt j p)
+      ∙ ap (λ y. bitOf j p * bitOf y (c % 8)) (tree-byte j (c / 8) k l ∙ sym (row-byte leaves w (e * 256 + j) (c / 8) l))
+      ∙ ap (λ y. bitOf j p * y) (sym (bit-is (blockAt leaves w (e * 256 + j)) c))
+      ∙ sym (times-bit (bit (blockAt leaves w (e * 256 + j)) c) j p (bit-lt (blockAt leaves w (e * 256 + j)) c)))
+      ∙ sym (bitOf-sum 256 (λ j. j * bit (blockAt leaves w (e * 256 + j)) c) p)
+
+  pub tree-v : (planes : List ℕ) → ((p b : ℕ) → p < 8 → b < w → byteAt planes (p * w + b) ≡ planeByte (blockAt leaves (256 * w) e) 256 w p b)
+      → (c : ℕ) → c < 8 * w → fromBits 8 (λ p. bit (blockAt planes w p) c) ≡ vByte leaves w e c
+  unfolding bitOf
+  tree-v planes is c h =
+      let l : c / 8 < w = omega arith in
+      bits-congr 8 _ (λ p. bitOf (vByte leaves w e c) p)
+      (λ p k. bit-is (blockAt planes w p) c ∙ ap (λ y. bitOf y (c % 8)) (row-byte planes w p (c / 8) l ∙ is p (c / 8) k l) ∙ plane-bit p c h)
+      ∙ bits-of 8 (vByte leaves w e c) (v-lt c)
+
+  -- the lanes below e are done, and now lane e
+  pub table-more : (l l′ : List ℕ) → e < lanes → TableIs l leaves e w → ((c : ℕ) → c < 8 * w → byteAt l′ (c * lanes + e) ≡ vByte leaves w e c)
+      → ((c q : ℕ) → q < lanes → (q ≡ e → ⊥) → byteAt l′ (c * lanes + q) ≡ byteAt l (c * lanes + q)) → TableIs l′ leaves (e + 1) w
+  table-more l l′ el done lane others q c h k =
+      ⊎-elim (λ (eq : q ≡ e). rw eq (lane c k)) (λ (lt : q < e). others c q (omega arith) (λ x. omega arith) ∙ done q c lt k) (eq-or-lt-of-le (le-of-suc-le-suc (rw add-one at h)))
