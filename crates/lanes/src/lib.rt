@@ -7,7 +7,6 @@ ghost use lib.ListN.{length};
 ghost use lib.Bits.{bitXor};
 ghost use Rattle.algebra.specs.Coded.{mulByte};
 ghost use Rattle.field.specs.Gf256.{gf256, maskElement};
-ghost use Rattle.protocol.specs.Strings.{bit};
 ghost use Rattle.strings.specs.Sums.{byteAt, bitOf, xorSum, selected};
 ghost use Rattle.lanes.specs.Lanes.{lanes, laneAt, entryByte, Tabled, lookedUp, maskLane, maskBits};
 use field::Gf256;
@@ -162,14 +161,6 @@ pub fn add_masked(acc: &mut [u8], bit: u8, src: &[u8])
     }
 }
 
-// Coordinate c of a string of bits (01: bit c mod 8 of byte ⌊c/8⌋), with no branch on it.
-pub fn bit_at(s: &[u8], c: usize) -> u8
-    requires { ⌜ c / 8 < length (now s) ⌝ }
-    ensures { λ r. ⌜ (r ≡ bit (now (s .entry)) c) × (r < 2) ⌝ }
-{
-    (s[c / 8] >> (c % 8)) % 2
-}
-
 // acc[e] ^= Σ α^s·T[n + s][e]: the mask A*₀ of each repetition (01, prover's rules).
 pub fn add_mask(acc: &mut [u8], table: &[u8], n: usize)
     requires { ⌜ (length (now acc) ≡ lanes) × ((n + gf256 .degree) * lanes ≤ length (now table)) ⌝ }
@@ -191,7 +182,7 @@ pub fn mask_byte(u: &[u8], n: usize) -> u8
     let mut sum: u8 = 0;
     let mut s = 0;
     while s < Gf256::DEGREE {
-        sum ^= Gf256::multiply(Gf256::mask_element(s), bit_at(u, n + s));
+        sum ^= Gf256::multiply(Gf256::mask_element(s), strings::bit_at(u, n + s));
         s += 1;
     }
     sum

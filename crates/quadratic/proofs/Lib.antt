@@ -1,4 +1,3 @@
-pub mod BitLaws
 pub mod BlockLaws
 pub mod ElementLaws
 pub mod EquationsMeaning

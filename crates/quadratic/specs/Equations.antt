@@ -1,5 +1,5 @@
 -- The equations of a key at the bits of a witness, on bytes.
---   rowProduct row x == the product of a row with x over GF(2);  rowOf n A ρ == row ρ of a matrix of n variables
+--   rowProduct row x == the product over GF(2) of the whole of a row with x;  rowOf n A ρ == row ρ of a matrix of n variables
 --   errorBit n A b y x == xᵀ·A·x + b·x + y;  errorOf n A b y x i == the error of equation i of the sections A, b, y at x
 --   FirstIn errors found == found is the first of the errors that is not 0, or that there is none
 -- Assumes nothing.
@@ -12,11 +12,12 @@ use lib.Bits.{bitXor}
 use Rattle.protocol.specs.Lists.{blockAt}
 use Rattle.protocol.specs.Strings.{bytesFor, bit}
 use Rattle.strings.specs.Sums.{byteAt, xorSum}
+use Rattle.strings.specs.Products.{product}
 use Rattle.quadratic.specs.declared.equations.Found.{Found}
 use Rattle.quadratic.specs.declared.equations.Found.the-variants.{At, Nothing}
 
 abbrev pub rowProduct : List ℕ → List ℕ → ℕ
-rowProduct row x = xorSum (length row * 8) (λ c. bit row c * bit x c)
+rowProduct row x = product (length row * 8) row x
 
 abbrev pub rowOf : ℕ → List ℕ → ℕ → List ℕ
 rowOf n A ρ = blockAt A (bytesFor n) ρ

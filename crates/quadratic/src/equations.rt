@@ -5,7 +5,7 @@ ghost use Prim.Native.Nat.{ℕ, _+_, _*_, _/_, _<_, _≤_};
 ghost use lib.ListN.{length};
 ghost use Rattle.protocol.specs.Lists.{blockAt};
 ghost use Rattle.protocol.specs.Strings.{bytesFor, bit};
-ghost use Rattle.strings.specs.Sums.{byteAt, bitOf, xorSum};
+ghost use Rattle.strings.specs.Sums.{byteAt, xorSum};
 ghost use Rattle.quadratic.specs.Equations.{rowProduct, errorBit, errorOf, FirstIn};
 use super::VARIABLES;
 
@@ -15,33 +15,6 @@ pub enum Found {
     Nothing,
 }
 
-// Σ a_p·b_p of the bits of two bytes.
-fn byte_product(a: u8, b: u8) -> u8
-    ensures { λ r. ⌜ (r ≡ xorSum 8 (λ p. bitOf a p * bitOf b p)) × (r < 2) ⌝ }
-{
-    let mut sum: u8 = 0;
-    let mut p: usize = 0;
-    while p < 8 {
-        sum ^= ((a >> p) % 2) & ((b >> p) % 2);
-        p += 1;
-    }
-    sum
-}
-
-// The product of a row with x over GF(2).
-fn parity(row: &[u8], x: &[u8]) -> u8
-    requires { ⌜ length (now row) ≡ length (now x) ⌝ }
-    ensures { λ r. ⌜ (r ≡ rowProduct (now (row .entry)) (now (x .entry))) × (r < 2) ⌝ }
-{
-    let mut sum: u8 = 0;
-    let mut b = 0;
-    while b < row.len() {
-        sum ^= byte_product(row[b], x[b]);
-        b += 1;
-    }
-    sum
-}
-
 // out[c] = bit c of x, for the first n.
 pub fn unpack(out: &mut [u8], x: &[u8], n: usize)
     requires { ⌜ (n ≤ length (now out)) × (n ≤ length (now x) * 8) ⌝ }
@@ -49,20 +22,20 @@ pub fn unpack(out: &mut [u8], x: &[u8], n: usize)
 {
     let mut c = 0;
     while c < n {
-        out[c] = lanes::bit_at(x, c);
+        out[c] = strings::bit_at(x, c);
         c += 1;
     }
 }
 
 // A·x, for a matrix of n rows as long as x: out[ρ] = row ρ times x.
 pub fn multiply_rows(out: &mut [u8], matrix: &[u8], x: &[u8], n: usize)
-    requires { ⌜ (n ≤ length (now out)) × (length (now matrix) ≡ n * length (now x)) ⌝ }
+    requires { ⌜ (n ≤ length (now out)) × (length (now matrix) ≡ n * length (now x)) × (length (now x) ≤ 100000) ⌝ }
     ensures { λ _. ⌜ ((ρ : ℕ) → ρ < n → byteAt (now (out .exit)) ρ ≡ rowProduct (blockAt (now (matrix .entry)) (length (now (x .entry))) ρ) (now (x .entry))) ⌝ }
 {
     let width = x.len();
     let mut i = 0;
     while i < n {
-        out[i] = parity(strings::row_at(matrix, width, i), x);
+        out[i] = strings::row_product(strings::row_at(matrix, width, i), x);
         i += 1;
     }
 }
@@ -92,12 +65,12 @@ fn equation_error(
     xs: &[u8],
     n: usize,
 ) -> u8
-    requires { ⌜ (n ≤ length (now products)) × (length (now x) ≡ bytesFor n) × (length (now row) ≡ length (now x)) × (length (now matrix) ≡ n * length (now x)) ⌝ }
+    requires { ⌜ (n ≤ length (now products)) × (length (now x) ≡ bytesFor n) × (length (now row) ≡ length (now x)) × (length (now matrix) ≡ n * length (now x)) × (n ≤ 160) ⌝ }
     requires { ⌜ (n ≤ length (now xs)) × ((c : ℕ) → c < n → byteAt (now xs) c ≡ bit (now x) c) ⌝ }
     ensures { λ r. ⌜ r ≡ errorBit n (now (matrix .entry)) (now (row .entry)) y (now (x .entry)) ⌝ }
 {
     multiply_rows(products, matrix, x, n);
-    dot(xs, products, n) ^ parity(row, x) ^ y
+    dot(xs, products, n) ^ strings::row_product(row, x) ^ y
 }
 
 // errors[i] = the error of equation i. Every equation is looked at, whatever the others gave.
@@ -121,7 +94,7 @@ fn fill_errors(
     while i < errors.len() {
         let matrix = strings::row_at(a, size, i);
         let row = strings::row_at(b, width, i);
-        errors[i] = equation_error(products, matrix, row, lanes::bit_at(y, i), x, xs, n);
+        errors[i] = equation_error(products, matrix, row, strings::bit_at(y, i), x, xs, n);
         i += 1;
     }
 }

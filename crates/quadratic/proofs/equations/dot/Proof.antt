@@ -1,17 +1,24 @@
 -- `quadratic::equations::dot` meets its contract. The invariant: the bits passed are added.
 -- Assumes nothing.
 use borrow.Author.Needs.{needs}
-use Prim.Native.Nat.{ℕ, _*_, _-_, _≤_}
+use Prim.Native.Nat.{ℕ, zero, suc, _*_, _-_, _≤_, _<_}
+use native.Mathlib.Nat.{zero-mul}
 use mathlib.Core.Path.{_≡_, refl, sym, ap₂, _∙_}
 use native.Mathlib.Omega.{arith}
 use denote.Ref.{now}
 use lib.ListN.{length}
-use lib.Bits.{bitXor}
+use lib.Bits.{bitAnd, bitXor}
 use Rattle.strings.specs.Sums.{byteAt, xorSum}
 use Rattle.strings.proofs.SumLaws.{sum-more}
-use Rattle.quadratic.proofs.BitLaws.{and-bits}
 use Rattle.quadratic.proofs.equations.dot.Statement.{statement}
 use Rattle.quadratic.proofs.equations.dot.Tie as tie
+
+and-bits : (a b : ℕ) → a < 2 → b < 2 → bitAnd a b ≡ a * b
+and-bits zero b ha hb = sym (zero-mul b)
+and-bits (suc zero) zero ha hb = refl
+and-bits (suc zero) (suc zero) ha hb = refl
+and-bits (suc zero) (suc (suc b)) ha hb = absurd (omega arith)
+and-bits (suc (suc a)) b ha hb = absurd (omega arith)
 
 abbrev Inv-loop : tie.InvT-loop
 Inv-loop xs ys n sum₀ i₀ sum i = (i ≤ n) × (sum ≡ xorSum i (λ k. byteAt xs k * byteAt ys k))

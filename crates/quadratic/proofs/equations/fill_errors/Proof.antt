@@ -56,7 +56,7 @@ bit-at-requires c κs =
 equation-error-requires : tie.Need-equation-error-requires Inv-loop μ-loop
 equation-error-requires c κs =
     let start = c .before .before .before .before .before .before .before .before .before .before .before .before .before in
-    ((omega arith, start .pre .0 .1, c .before .before .row-at2 .ensures .1, c .before .before .before .row-at .ensures .1), (start .pre .1 .1, start .pre .1 .2))
+    ((omega arith, start .pre .0 .1, c .before .before .row-at2 .ensures .1, c .before .before .before .row-at .ensures .1, start .pre .0 .0), (start .pre .1 .1, start .pre .1 .2))
 
 slice-write-errors : tie.Need-slice-write-errors Inv-loop μ-loop
 slice-write-errors c = search needs
@@ -80,7 +80,7 @@ loop-again c =
     let row : now (c .before .before .before .before .before .row-at2 .result) ≡ blockAt (now (a .b)) (bytesFor n) (l .i) = c .before .before .before .before .before .row-at2 .ensures .0 ∙ ap (λ (w : ℕ). blockAt (now (a .b)) w (l .i)) width in (
       omega (arith, c .before .before .before .before .before .before .before .loop-test .taken),
       changed-more (change (now (a .a)) (now (a .b)) (now (a .y)) (now (a .x)) n) (now (a .errors)) (l .errors) (l .i) _ (l .inv .1)
-          (made .ensures ∙ rw (matrix, row, c .before .before .before .bit-at .ensures .0)),
+          (made .ensures ∙ rw (matrix, row, c .before .before .before .bit-at .ensures)),
       simp length-set (l .inv .2),
       made .kept .0 ∙ l .inv .3,
     )

@@ -32,8 +32,8 @@ row-at-requires c κs =
     let a = c .before .before .before .before .before .args in
     omega (arith, row-end (c .before .loop .i) (a .n) (length (now (a .x))) (omega arith))
 
-parity-requires : tie.Need-parity-requires Inv-loop μ-loop
-parity-requires c κs = search needs
+row-product-requires : tie.Need-row-product-requires Inv-loop μ-loop
+row-product-requires c κs = search needs
 
 slice-write-out : tie.Need-slice-write-out Inv-loop μ-loop
 slice-write-out c = search needs
@@ -50,7 +50,7 @@ loop-again c =
     let l = c .before .before .before .loop in (
       omega arith,
       changed-more (change (now (a .matrix)) (now (a .x))) (now (a .out)) (l .out) (l .i) _ (l .inv .1)
-          (c .parity .ensures .0 ∙ ap (λ (r : List ℕ). rowProduct r (now (a .x))) (c .before .row-at .ensures .0)),
+          (c .row-product .ensures .0 ∙ ap (λ (r : List ℕ). rowProduct r (now (a .x))) (c .before .row-at .ensures .0)),
       simp length-set (l .inv .2),
     )
 
@@ -72,7 +72,7 @@ multiply-rows-spec =
     μ-loop
     loop-holds
     row-at-requires
-    parity-requires
+    row-product-requires
     slice-write-out
     add-i
     loop-less

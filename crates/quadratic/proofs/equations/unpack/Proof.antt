@@ -38,7 +38,7 @@ loop-again c =
     let a = c .before .before .before .before .before .args in
     let l = c .before .before .loop in (
       omega arith,
-      changed-more (λ k y. bit (now (a .x)) k) (now (a .out)) (l .out) (l .c) _ (l .inv .1) (c .bit-at .ensures .0),
+      changed-more (λ k y. bit (now (a .x)) k) (now (a .out)) (l .out) (l .c) _ (l .inv .1) (c .bit-at .ensures),
       simp length-set (l .inv .2),
     )
 
