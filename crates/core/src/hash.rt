@@ -11,7 +11,7 @@ use lanes::LANES;
 // What a row of H′ selects, and one coordinate more, for each lane.
 fn hash_row(out: &mut [u8], row: &[u8], identity: usize, table: &[u8], sums: &[u8])
     requires { ⌜ (length (now out) ≡ lanes) × (length (now row) * 32 * lanes ≤ length (now sums)) × (identity * lanes + lanes ≤ length (now table)) × (length (now row) * 8 * lanes ≤ length (now table)) ⌝ }
-    requires { ⌜ Tabled (take (length (now row) * 8 * lanes) (now table)) (now sums) ⌝ }
+    requires { ⌜ Tabled (take (length (now row) * 8 * lanes) (now table)) (now sums) (length (now row) * 32) ⌝ }
     ensures { λ _. ⌜ ((e : ℕ) → e < lanes → byteAt (now (out .exit)) e ≡ bitXor (selected (length (now (row .entry)) * 8) (now (row .entry)) (now (table .entry)) lanes e) (laneAt (now (table .entry)) identity e)) ⌝ }
 {
     lanes::look_up_row(out, row, sums);
@@ -43,7 +43,7 @@ pub fn hash_lanes(
     sums: &[u8],
 )
     requires { ⌜ (length (now out) ≡ tau * t) × (length (now matrix) ≡ t * width) × (tau ≤ lanes) × (width * 32 * lanes ≤ length (now sums)) × ((k + t) * lanes ≤ length (now table)) × (width * 8 * lanes ≤ length (now table)) ⌝ }
-    requires { ⌜ Tabled (take (width * 8 * lanes) (now table)) (now sums) ⌝ }
+    requires { ⌜ Tabled (take (width * 8 * lanes) (now table)) (now sums) (width * 32) ⌝ }
     ensures { λ _. ⌜ ((e r : ℕ) → e < tau → r < t → byteAt (now (out .exit)) (e * t + r) ≡ hashLane (now (matrix .entry)) width k (now (table .entry)) r e) ⌝ }
 {
     let mut rho = 0;

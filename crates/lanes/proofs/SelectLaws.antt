@@ -71,22 +71,22 @@ module _ (row T : List ℕ) (e : ℕ) where
       let past : length T ≤ (n + s) * lanes + e = omega arith in
       ap (λ (y : ℕ). bit row (n + s) * y) (List·getD-eq-default T 0 past) ∙ mul-zero (bit row (n + s)))
 
-  module _ (sums : List ℕ) (he : e < lanes) (tabled : Tabled T sums) (bytes : (i : ℕ) → byteAt row i < 256) where
+  module _ (sums : List ℕ) (he : e < lanes) (size : ℕ) (tabled : Tabled T sums (size * 32)) (bytes : (i : ℕ) → byteAt row i < 256) where
     -- the two entries of a byte are its eight places
-    byte-entries : (b : ℕ) → (b * 32 + 32) * lanes ≤ length sums
+    byte-entries : (b : ℕ) → b < size
         → bitXor (laneAt sums (b * 32 + byteAt row b % 16) e) (laneAt sums (b * 32 + 16 + byteAt row b / 16) e) ≡ xorSum 8 (place T e (byteAt row b) (b * 8))
     byte-entries b h =
         ap₂ bitXor (tabled (b * 32 + byteAt row b % 16) e (omega arith) he ∙ entry-low T e b (byteAt row b))
         (tabled (b * 32 + 16 + byteAt row b / 16) e (omega (arith, bytes b)) he ∙ entry-high T e b (byteAt row b) (bytes b))
         ∙ sym (sum-parts 4 4 (place T e (byteAt row b) (b * 8)))
 
-    chosen-selects : (count : ℕ) → count * 32 * lanes ≤ length sums → lookedUp count row sums e ≡ selected (count * 8) row T lanes e
+    chosen-selects : (count : ℕ) → count ≤ size → lookedUp count row sums e ≡ selected (count * 8) row T lanes e
     unfolding xorSum
     chosen-selects zero h = refl
     chosen-selects (suc b) h =
         ap (bitXor (lookedUp b row sums e)) (byte-entries b (omega arith)) ∙ select-more b (lookedUp b row sums e) (chosen-selects b (omega arith))
 
-    pub look-up-selects : (count n : ℕ) → count * 32 * lanes ≤ length sums → length T ≡ n * lanes → n ≤ count * 8 → lookedUp count row sums e ≡ selected n row T lanes e
-    look-up-selects count n h long most =
-        let whole : count * 8 ≡ n + (count * 8 - n) = omega arith in
-        chosen-selects count h ∙ ap (λ (k : ℕ). selected k row T lanes e) whole ∙ select-end n (count * 8 - n) long
+    pub look-up-selects : (n : ℕ) → length T ≡ n * lanes → n ≤ size * 8 → lookedUp size row sums e ≡ selected n row T lanes e
+    look-up-selects n long most =
+        let whole : size * 8 ≡ n + (size * 8 - n) = omega arith in
+        chosen-selects size (omega arith) ∙ ap (λ (k : ℕ). selected k row T lanes e) whole ∙ select-end n (size * 8 - n) long

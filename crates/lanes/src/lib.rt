@@ -7,7 +7,6 @@ ghost use lib.ListN.{length};
 ghost use lib.Bits.{bitXor};
 ghost use Rattle.algebra.specs.Coded.{mulByte};
 ghost use Rattle.field.specs.Gf256.{gf256, maskElement};
-ghost use Rattle.protocol.specs.Strings.{bit};
 ghost use Rattle.strings.specs.Sums.{byteAt, bitOf, xorSum, selected};
 ghost use Rattle.lanes.specs.Lanes.{lanes, laneAt, entryByte, Tabled, lookedUp, maskLane, maskBits};
 use field::Gf256;
@@ -69,12 +68,11 @@ fn fill_row(sums: &mut [u8], k: usize, n: usize, table: &[u8])
     fill_entry(&mut sums[at..at + LANES], k, n, table);
 }
 
-// The table of sums, sixteen entries for each four of the n coordinates. Made once, it serves every row of every matrix.
-pub fn fill_sums(sums: &mut [u8], n: usize, table: &[u8])
-    requires { ⌜ length (now table) ≡ n * lanes ⌝ }
-    ensures { λ _. ⌜ Tabled (now (table .entry)) (now (sums .exit)) ⌝ }
+// The first entries of the table of sums: sixteen for each four of the n coordinates. Made once, they serve every row of every matrix.
+pub fn fill_sums(sums: &mut [u8], count: usize, n: usize, table: &[u8])
+    requires { ⌜ (count * lanes ≤ length (now sums)) × (length (now table) ≡ n * lanes) ⌝ }
+    ensures { λ _. ⌜ Tabled (now (table .entry)) (now (sums .exit)) count ⌝ }
 {
-    let count = sums.len() / LANES;
     let mut k = 0;
     while k < count {
         fill_row(sums, k, n, table);
@@ -126,7 +124,7 @@ fn copy_lanes(out: &mut [u8], src: &[u8; LANES])
 // out[e] = Σ row(c)·T[c][e] over the n coordinates of the table T that was summed: two additions for eight coordinates.
 pub fn look_up_row(out: &mut [u8], row: &[u8], sums: &[u8])
     requires { ⌜ (length (now out) ≡ lanes) × (length (now row) * 32 * lanes ≤ length (now sums)) ⌝ }
-    ensures { λ _. ⌜ ((table : List ℕ) (n e : ℕ) → Tabled table (now (sums .entry)) → length table ≡ n * lanes → n ≤ length (now (row .entry)) * 8 → e < lanes → byteAt (now (out .exit)) e ≡ selected n (now (row .entry)) table lanes e) ⌝ }
+    ensures { λ _. ⌜ ((table : List ℕ) (n e : ℕ) → Tabled table (now (sums .entry)) (length (now (row .entry)) * 32) → length table ≡ n * lanes → n ≤ length (now (row .entry)) * 8 → e < lanes → byteAt (now (out .exit)) e ≡ selected n (now (row .entry)) table lanes e) ⌝ }
 {
     let mut sum = [0u8; LANES];
     let mut b = 0;
@@ -163,14 +161,6 @@ pub fn add_masked(acc: &mut [u8], bit: u8, src: &[u8])
     }
 }
 
-// Coordinate c of a string of bits (01: bit c mod 8 of byte ⌊c/8⌋), with no branch on it.
-pub fn bit_at(s: &[u8], c: usize) -> u8
-    requires { ⌜ c / 8 < length (now s) ⌝ }
-    ensures { λ r. ⌜ (r ≡ bit (now (s .entry)) c) × (r < 2) ⌝ }
-{
-    (s[c / 8] >> (c % 8)) % 2
-}
-
 // acc[e] ^= Σ α^s·T[n + s][e]: the mask A*₀ of each repetition (01, prover's rules).
 pub fn add_mask(acc: &mut [u8], table: &[u8], n: usize)
     requires { ⌜ (length (now acc) ≡ lanes) × ((n + gf256 .degree) * lanes ≤ length (now table)) ⌝ }
@@ -192,7 +182,7 @@ pub fn mask_byte(u: &[u8], n: usize) -> u8
     let mut sum: u8 = 0;
     let mut s = 0;
     while s < Gf256::DEGREE {
-        sum ^= Gf256::multiply(Gf256::mask_element(s), bit_at(u, n + s));
+        sum ^= Gf256::multiply(Gf256::mask_element(s), strings::bit_at(u, n + s));
         s += 1;
     }
     sum

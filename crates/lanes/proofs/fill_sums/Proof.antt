@@ -14,10 +14,10 @@ use Rattle.lanes.proofs.fill_sums.Statement.{statement}
 use Rattle.lanes.proofs.fill_sums.Tie as tie
 
 abbrev Inv-loop : tie.InvT-loop
-Inv-loop sums₀ n table count k₀ sums k = (k ≤ count) × (length sums ≡ length sums₀) × ((q e : ℕ) → q < k → e < lanes → laneAt sums q e ≡ entryByte table q e)
+Inv-loop sums₀ count n table k₀ sums k = (k ≤ count) × (length sums ≡ length sums₀) × ((q e : ℕ) → q < k → e < lanes → laneAt sums q e ≡ entryByte table q e)
 
 abbrev μ-loop : tie.MeasureT-loop
-μ-loop sums₀ n table count k₀ sums k = count - k
+μ-loop sums₀ count n table k₀ sums k = count - k
 
 loop-holds : tie.Need-loop-holds Inv-loop μ-loop
 loop-holds c = (search needs, refl, λ q e h. absurd (omega arith))

@@ -61,7 +61,7 @@ returns c table n e tabled long most h =
     let row = now (a .row) in
     let end : l .b ≡ length row = omega arith in
     c .before .before .copy-lanes .ensures e h ∙ (rw end at (l .inv .2)) e h
-    ∙ look-up-selects row table e (now (a .sums)) h tabled (λ i. c .before .before .before .before .before .before .before .before .shared-slice-known .given i .fits) (length row) n (start .pre .1) long most
+    ∙ look-up-selects row table e (now (a .sums)) h (length row) tabled (λ i. c .before .before .before .before .before .before .before .before .shared-slice-known .given i .fits) n long most
 
 pub look-up-row-spec : {M : Type 1} → statement M
 look-up-row-spec =

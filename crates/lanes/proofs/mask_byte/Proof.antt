@@ -48,7 +48,7 @@ loop-again c =
     let l = c .before .before .before .before .loop in
     let f : ℕ → ℕ = λ i. mulByte gf256 (maskElement i) (bit (now (a .u)) (a .n + i)) in (
       omega arith,
-      ap₂ bitXor (l .inv .1) (c .multiply .ensures ∙ ap₂ (mulByte gf256) (c .before .before .mask-element .ensures) (c .before .bit-at .ensures .0)) ∙ sym (sum-more (l .s) f),
+      ap₂ bitXor (l .inv .1) (c .multiply .ensures ∙ ap₂ (mulByte gf256) (c .before .before .mask-element .ensures) (c .before .bit-at .ensures)) ∙ sym (sum-more (l .s) f),
     )
 
 returns : tie.Need-returns Inv-loop μ-loop

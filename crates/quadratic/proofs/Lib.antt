@@ -1,0 +1,3 @@
+pub mod BlockLaws
+pub mod ElementLaws
+pub mod EquationsMeaning

@@ -1,0 +1,33 @@
+-- The equations of a key at the bits of a witness, on bytes.
+--   rowProduct row x == the product over GF(2) of the whole of a row with x;  rowOf n A ρ == row ρ of a matrix of n variables
+--   errorBit n A b y x == xᵀ·A·x + b·x + y;  errorOf n A b y x i == the error of equation i of the sections A, b, y at x
+--   FirstIn errors found == found is the first of the errors that is not 0, or that there is none
+-- Assumes nothing.
+use mathlib.Core.Path.{_≡_}
+use mathlib.Core.Logic.{_≢_}
+use mathlib.Core.List.{List}
+use Prim.Native.Nat.{ℕ, _*_, _<_}
+use lib.ListN.{length}
+use lib.Bits.{bitXor}
+use Rattle.protocol.specs.Lists.{blockAt}
+use Rattle.protocol.specs.Strings.{bytesFor, bit}
+use Rattle.strings.specs.Sums.{byteAt, xorSum}
+use Rattle.strings.specs.Products.{product}
+use Rattle.quadratic.specs.declared.equations.Found.{Found}
+use Rattle.quadratic.specs.declared.equations.Found.the-variants.{At, Nothing}
+
+abbrev pub rowProduct : List ℕ → List ℕ → ℕ
+rowProduct row x = product (length row * 8) row x
+
+abbrev pub rowOf : ℕ → List ℕ → ℕ → List ℕ
+rowOf n A ρ = blockAt A (bytesFor n) ρ
+
+unfoldable pub errorBit : ℕ → List ℕ → List ℕ → ℕ → List ℕ → ℕ
+errorBit n A b y x = bitXor (bitXor (xorSum n (λ ρ. bit x ρ * rowProduct (rowOf n A ρ) x)) (rowProduct b x)) y
+
+unfoldable pub errorOf : ℕ → List ℕ → List ℕ → List ℕ → List ℕ → ℕ → ℕ
+errorOf n A b y x i = errorBit n (blockAt A (n * bytesFor n) i) (blockAt b (bytesFor n) i) (bit y i) x
+
+abbrev pub FirstIn : List ℕ → Found → Type 0
+FirstIn errors (At i) = (i < length errors) × (byteAt errors i ≢ 0) × ((k : ℕ) → k < i → byteAt errors k ≡ 0)
+FirstIn errors Nothing = (k : ℕ) → k < length errors → byteAt errors k ≡ 0
