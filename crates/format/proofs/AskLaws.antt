@@ -4,12 +4,11 @@ use mathlib.Core.Path.{_≡_, refl, sym, ap, ap₂, _∙_}
 use mathlib.Core.Bool.{Bool, true, false, not}
 use mathlib.Core.List.{List, [], _∷_, _++_}
 use Prim.Native.Nat.{ℕ}
-use lib.Dec.{eqb}
-use Rattle.protocol.specs.Frames.{framedLength}
 use borrow.Author.Tests.{not-true, not-false}
+use Rattle.algebra.proofs.CountLaws.{and-left}
 use Rattle.protocol.specs.Answers.{Answer, accepted, refused, Question, question, ask}
-use Rattle.protocol.proofs.AnswerLaws.{ask-none, ask-no, ask-yes}
-use Rattle.format.specs.Asking.{andThen, outputQuestion}
+use Rattle.protocol.proofs.AnswerLaws.{ask-none, ask-no, ask-yes, ask-accepts}
+use Rattle.format.specs.Asking.{andThen}
 use Rattle.format.specs.Verdict.{answerOf}
 use Rattle.format.specs.declared.Verdict.{Verdict}
 use Rattle.format.specs.declared.Verdict.the-variants.{Accepted, Refused}
@@ -29,6 +28,9 @@ says-no b i p qs h e = e ∙ sym (ask-no (question b i p) qs h)
 
 pub says-yes : (b : Bool) (i p : ℕ) (qs : List Question) {r : Answer} → b ≡ true → r ≡ ask qs → r ≡ ask (question b i p ∷ qs)
 says-yes b i p qs h e = e ∙ sym (ask-yes (question b i p) qs h)
+
+pub said-yes : (b : Bool) (i p : ℕ) → ask (question b i p ∷ []) ≡ accepted → b ≡ true
+said-yes b i p h = and-left b true (ask-accepts (question b i p ∷ []) .0 h)
 
 pub says-all : accepted ≡ ask []
 says-all = sym ask-none
@@ -62,5 +64,5 @@ stop-at x p = rw p
 pub same-first : {b c : Bool} (i p : ℕ) (qs : List Question) {r : Answer} → b ≡ c → r ≡ ask (question b i p ∷ qs) → r ≡ ask (question c i p ∷ qs)
 same-first i p qs e h = h ∙ ap (λ b. ask (question b i p ∷ qs)) e
 
-pub output-also : (v : Answer) (n : ℕ) (ls : List ℕ) {m : ℕ} {r : Answer} → m ≡ framedLength ls → r ≡ andThen v (ask (question (eqb n m) 10 0 ∷ [])) → r ≡ andThen v (ask (outputQuestion ls n ∷ []))
-output-also v n ls e h = h ∙ ap (λ k. andThen v (ask (question (eqb n k) 10 0 ∷ []))) e
+pub same-also : {b c : Bool} (i : ℕ) (v : Answer) {r : Answer} → b ≡ c → r ≡ andThen v (ask (question b i 0 ∷ [])) → r ≡ andThen v (ask (question c i 0 ∷ []))
+same-also i v e h = h ∙ ap (λ b. andThen v (ask (question b i 0 ∷ []))) e

@@ -1,11 +1,8 @@
 -- What each case of a span stands for.
 --   extentOf span == from its start up to its end, or missing;  Inside s span == a section that is there lies within the string s
---   endsAt n span == it is there, and ends at n
 -- Assumes nothing.
-use mathlib.Core.Bool.{Bool, false}
 use mathlib.Core.List.{List}
 use Prim.Native.Nat.{ℕ, _≤_}
-use lib.Dec.{eqb}
 use lib.ListN.{length}
 use Rattle.protocol.specs.Reader.{Extent, between, missing}
 use Rattle.format.specs.declared.Span.{Span}
@@ -18,7 +15,3 @@ extentOf Missing = missing
 abbrev pub Inside : List ℕ → Span → Type 0
 Inside s (At start end) = (start ≤ end) × (end ≤ length s)
 Inside s Missing = Unit {0}
-
-abbrev pub endsAt : ℕ → Span → Bool
-endsAt n (At start end) = eqb end n
-endsAt n Missing = false

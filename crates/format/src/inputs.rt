@@ -6,9 +6,9 @@ ghost use Prim.Native.Nat.{_≤_};
 ghost use Rattle.protocol.specs.Binary.{bits256};
 ghost use Rattle.protocol.specs.Shape.{limits};
 ghost use Rattle.protocol.specs.Answers.{question, ask};
-ghost use Rattle.protocol.specs.Questions.{ΔExact, hExact, χExact, hSpare, leavesSpare, witnessForm, q6, q7, q8, q9};
+ghost use Rattle.protocol.specs.Questions.{ΔExact, hExact, χExact, q6, q7, q8, q9};
 ghost use Rattle.format.specs.Sizes.{shapeFor};
-ghost use Rattle.format.specs.Verdict.{numberFor, answerOf};
+ghost use Rattle.format.specs.Verdict.{answerOf};
 ghost use Rattle.format.specs.Asking.{andThen};
 use super::Reason;
 use super::Verdict;
@@ -22,19 +22,6 @@ use super::sizes::leaves_bytes;
 use super::sizes::witness_bytes;
 use super::spare::row_spare;
 use super::spare::rows_spare;
-
-// One question more, with its answer at hand.
-pub fn also(so_far: Verdict, yes: bool, reason: Reason) -> Verdict
-    ensures { λ r. ⌜ answerOf r ≡ andThen (answerOf «so_far») (ask (question yes (numberFor reason) 0 ∷ [])) ⌝ }
-{
-    let Verdict::Accepted = so_far else {
-        return so_far;
-    };
-    if yes {
-        return Verdict::Accepted;
-    }
-    refuse(reason, 0)
-}
 
 // Has Δ a byte for each repetition?
 pub fn challenge_exact(delta: &[u8], s: Sizes) -> bool

@@ -1,24 +1,21 @@
 // The key: questions 1 to 4 of 01, and its sections.
 ghost use mathlib.Core.Path.{_≡_};
-ghost use mathlib.Core.Bool.{true};
-ghost use Prim.Native.Nat.{_*_, _<_, _≤_};
+ghost use Prim.Native.Nat.{_*_, _<_};
 ghost use lib.ListN.{length, getD, drop};
 ghost use Rattle.protocol.specs.Strings.{bytesFor};
 ghost use Rattle.protocol.specs.Frames.{sectionNo};
 ghost use Rattle.protocol.specs.Binary.{bits256};
-ghost use Rattle.protocol.specs.Shape.{shapeOf, limits};
-ghost use Rattle.protocol.specs.Key.{keyLengths, keyExact, keySpare, sectionA, sectionB, sectionY};
+ghost use Rattle.protocol.specs.Shape.{shapeOf};
+ghost use Rattle.protocol.specs.Key.{keyLengths, keySpare, sectionA, sectionB, sectionY};
 ghost use Rattle.protocol.specs.Answers.{ask};
-ghost use Rattle.format.specs.Sizes.{shapeFor};
 ghost use Rattle.format.specs.Verdict.{answerOf};
 ghost use Rattle.format.specs.Asking.{keyQuestions, KeyForm};
 use super::Reason;
-use super::Span;
 use super::Verdict;
+use super::also;
 use super::refuse;
-use super::sections::follow;
 use super::sections::section_no;
-use super::sizes::Sizes;
+use super::sections::sections_form;
 use super::sizes::in_limits;
 use super::sizes::key_lengths;
 use super::sizes::sizes_of;
@@ -27,18 +24,6 @@ use super::spare::rows_spare;
 
 // The bytes of n, m, τ, t.
 const HEADER: usize = 8;
-
-// Question 3: are the counts of A, b, y and the key's length exact?
-pub fn key_exact(key: &[u8], s: Sizes) -> bool
-    requires { ⌜ (8 ≤ length (now key)) × (limits (shapeFor s) ≡ true) ⌝ }
-    ensures { λ r. ⌜ r ≡ keyExact bits256 (shapeFor s) (now (key .entry)) ⌝ }
-{
-    let lengths = key_lengths(s);
-    let Span::At { start: _, end } = follow(key, HEADER, &lengths) else {
-        return false;
-    };
-    end == key.len()
-}
 
 // Section i of a key whose sections are exact, as part of it.
 fn key_section(key: &[u8], i: usize) -> &[u8]
@@ -97,11 +82,10 @@ pub fn key_form(key: &[u8]) -> Verdict
     if !in_limits(s) {
         return refuse(Reason::SizeOutOfRange, 0);
     }
-    if !key_exact(key, s) {
-        return refuse(Reason::KeyLength, 0);
-    }
-    if !key_spare(key) {
-        return refuse(Reason::KeySpareBit, 0);
-    }
-    Verdict::Accepted
+    let lengths = key_lengths(s);
+    let exact = sections_form(key, HEADER, &lengths, Reason::KeyLength);
+    let Verdict::Accepted = exact else {
+        return exact;
+    };
+    also(exact, key_spare(key), Reason::KeySpareBit)
 }

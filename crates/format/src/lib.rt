@@ -3,15 +3,18 @@ pub mod calls;
 pub mod inputs;
 pub mod key;
 pub mod numbers;
+pub mod proof;
 pub mod sections;
 pub mod sizes;
 pub mod spare;
 
 pub use sizes::Sizes;
 ghost use mathlib.Core.Path.{_≡_};
+ghost use mathlib.Core.List.{[], _∷_};
 ghost use Prim.Native.Nat.{_<_};
-ghost use Rattle.protocol.specs.Answers.{refused, word};
+ghost use Rattle.protocol.specs.Answers.{refused, question, ask, word};
 ghost use Rattle.format.specs.Verdict.{numberFor, answerOf};
+ghost use Rattle.format.specs.Asking.{andThen};
 
 // Why a call refuses: one case for each question of 01.
 pub enum Reason {
@@ -78,6 +81,19 @@ pub fn refuse(reason: Reason, place: u16) -> Verdict
     ensures { λ r. ⌜ answerOf r ≡ refused (numberFor reason) place ⌝ }
 {
     Verdict::Refused(Refusal { reason, place })
+}
+
+// One question more, after the answer so far: where that is accepted, and this gets a no, the refusal.
+pub fn also(so_far: Verdict, yes: bool, reason: Reason) -> Verdict
+    ensures { λ r. ⌜ answerOf r ≡ andThen (answerOf «so_far») (ask (question yes (numberFor reason) 0 ∷ [])) ⌝ }
+{
+    let Verdict::Accepted = so_far else {
+        return so_far;
+    };
+    if yes {
+        return Verdict::Accepted;
+    }
+    refuse(reason, 0)
 }
 
 // What the schools' server receives: number × 65,536 + place, 0 for accepted.

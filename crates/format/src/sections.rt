@@ -1,13 +1,19 @@
 // Sections, each after its byte count of four bytes: how one is found, and how a string of them is read.
 ghost use mathlib.Core.Path.{_≡_};
+ghost use mathlib.Core.List.{[], _∷_};
 ghost use Prim.Native.Nat.{_+_, _-_, _<_, _≤_, _^_};
 ghost use lib.ListN.{length, getD, take, drop};
 ghost use Rattle.protocol.specs.Lists.{part};
 ghost use Rattle.protocol.specs.Frames.{framed, sectionNo, framedLength};
 ghost use Rattle.protocol.specs.Reader.{sectionAt};
-ghost use Rattle.format.specs.Span.{extentOf, Inside, endsAt};
+ghost use Rattle.protocol.specs.Answers.{question, ask};
+ghost use Rattle.format.specs.Span.{extentOf, Inside};
+ghost use Rattle.format.specs.Verdict.{numberFor, answerOf};
+use super::Reason;
 use super::Span;
+use super::Verdict;
 use super::numbers::number4;
+use super::refuse;
 
 // The bytes of a count.
 const COUNT: usize = 4;
@@ -43,27 +49,28 @@ pub fn section<'a>(s: &'a [u8], start: usize, end: usize) -> &'a [u8]
     &s[start..end]
 }
 
-// Sections of exactly these lengths, one after the other from index at on: from there up to their end, or missing.
-pub fn follow(s: &[u8], at: usize, lengths: &[usize]) -> Span
+// Takes one section after the other, from index at on: are they of exactly these lengths, and is the last at the end of s?
+// Where one is not there whole, or is of another length, it leaves with the refusal and reads no further.
+pub fn sections_form(s: &[u8], at: usize, lengths: &[usize], reason: Reason) -> Verdict
     requires { ⌜ at ≤ length (now s) ⌝ }
-    ensures { λ r. ⌜ framed (now (lengths .entry)) (drop at (now (s .entry))) ≡ endsAt (length (now (s .entry))) r ⌝ }
+    ensures { λ r. ⌜ answerOf r ≡ ask (question (framed (now (lengths .entry)) (drop at (now (s .entry)))) (numberFor reason) 0 ∷ []) ⌝ }
 {
     let mut next = at;
     let mut i = 0;
     while i < lengths.len() {
         let Span::At { start, end } = find(s, next) else {
-            return Span::Missing;
+            return refuse(reason, 0);
         };
         if end - start != lengths[i] {
-            return Span::Missing;
+            return refuse(reason, 0);
         }
         next = end;
         i += 1;
     }
-    Span::At {
-        start: at,
-        end: next,
+    if next != s.len() {
+        return refuse(reason, 0);
     }
+    Verdict::Accepted
 }
 
 // Where the count of section i stands, in a string of sections of these lengths.

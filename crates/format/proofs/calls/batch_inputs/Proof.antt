@@ -1,9 +1,11 @@
 -- `format::calls::batch_inputs` meets its contract. The questions on each input, one after the other.
 -- Assumes nothing.
+use mathlib.Core.Path.{ap}
 use borrow.Author.Needs.{needs}
+use lib.Dec.{eqb}
 use Rattle.protocol.specs.Shape.{perTree}
 use Rattle.format.proofs.AllLaws.{all-one}
-use Rattle.format.proofs.AskLaws.{says-all, same-first, then-ask, output-also}
+use Rattle.format.proofs.AskLaws.{says-all, same-first, then-ask, same-also}
 use Rattle.format.proofs.calls.batch_inputs.Statement.{statement}
 use Rattle.format.proofs.calls.batch_inputs.Tie as tie
 
@@ -32,7 +34,7 @@ returns c =
     let l = x .before in
     let b = l .before in
     let q = same-first 5 0 _ (all-one (b .before .batching-exact .ensures)) (then-ask _ _ says-all (b .also .ensures)) in
-    then-ask _ _ (then-ask _ _ (then-ask _ _ q (l .leaves-form .ensures)) (x .witness-form .ensures)) (output-also _ _ _ (c .before .batch-bytes .ensures) (c .also2 .ensures))
+    then-ask _ _ (then-ask _ _ (then-ask _ _ q (l .leaves-form .ensures)) (x .witness-form .ensures)) (same-also 10 _ (ap (eqb _) (c .before .batch-bytes .ensures)) (c .also2 .ensures))
 
 pub batch-inputs-spec : {M : Type 1} → statement M
 batch-inputs-spec =

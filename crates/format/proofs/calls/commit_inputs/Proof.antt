@@ -1,8 +1,10 @@
 -- `format::calls::commit_inputs` meets its contract. The questions on each input, one after the other.
 -- Assumes nothing.
+use mathlib.Core.Path.{ap}
 use borrow.Author.Needs.{needs}
+use lib.Dec.{eqb}
 use Rattle.protocol.specs.Shape.{perTree}
-use Rattle.format.proofs.AskLaws.{says-all, then-ask, output-also}
+use Rattle.format.proofs.AskLaws.{says-all, then-ask, same-also}
 use Rattle.format.proofs.calls.commit_inputs.Statement.{statement}
 use Rattle.format.proofs.calls.commit_inputs.Tie as tie
 
@@ -23,7 +25,7 @@ unfolding perTree
 returns c =
     let x = c .before .before in
     let l = x .before in
-    then-ask _ _ (then-ask _ _ (then-ask _ _ says-all (l .leaves-form .ensures)) (x .witness-form .ensures)) (output-also _ _ _ (c .before .commit-bytes .ensures) (c .also .ensures))
+    then-ask _ _ (then-ask _ _ (then-ask _ _ says-all (l .leaves-form .ensures)) (x .witness-form .ensures)) (same-also 10 _ (ap (eqb _) (c .before .commit-bytes .ensures)) (c .also .ensures))
 
 pub commit-inputs-spec : {M : Type 1} → statement M
 commit-inputs-spec =

@@ -1,10 +1,11 @@
 -- `format::calls::hash_inputs` meets its contract. The questions on each input, one after the other.
 -- Assumes nothing.
-use mathlib.Core.Path.{sym, _∙_}
+use mathlib.Core.Path.{ap, sym, _∙_}
 use borrow.Author.Needs.{needs}
+use lib.Dec.{eqb}
 use Rattle.protocol.specs.Shape.{perTree}
 use Rattle.format.proofs.AllLaws.{all-one}
-use Rattle.format.proofs.AskLaws.{same-first, then-ask, output-also}
+use Rattle.format.proofs.AskLaws.{same-first, then-ask, same-also}
 use Rattle.format.proofs.calls.hash_inputs.Statement.{statement}
 use Rattle.format.proofs.calls.hash_inputs.Tie as tie
 
@@ -29,7 +30,7 @@ returns c =
     let l = c .before .before in
     let h = l .before in
     let q = same-first 5 0 _ (all-one (h .before .hash-matrix-exact .ensures)) (h .hash-matrix-form .ensures) in
-    then-ask _ _ (then-ask _ _ q (l .leaves-form .ensures)) (output-also _ _ _ (c .before .hash-bytes .ensures) (c .also .ensures))
+    then-ask _ _ (then-ask _ _ q (l .leaves-form .ensures)) (same-also 10 _ (ap (eqb _) (c .before .hash-bytes .ensures)) (c .also .ensures))
 
 pub hash-inputs-spec : {M : Type 1} → statement M
 hash-inputs-spec =

@@ -1,11 +1,12 @@
 -- `format::calls::prove_inputs` meets its contract. The questions on each input, one after the other.
 -- Assumes nothing.
-use mathlib.Core.Path.{sym, _∙_}
+use mathlib.Core.Path.{ap, sym, _∙_}
 use borrow.Author.Needs.{needs}
+use lib.Dec.{eqb}
 use Rattle.algebra.proofs.CountLaws.{and-left}
 use Rattle.protocol.specs.Shape.{perTree}
 use Rattle.format.proofs.AllLaws.{all-two}
-use Rattle.format.proofs.AskLaws.{same-first, then-ask, output-also}
+use Rattle.format.proofs.AskLaws.{same-first, then-ask, same-also}
 use Rattle.format.proofs.calls.prove_inputs.Statement.{statement}
 use Rattle.format.proofs.calls.prove_inputs.Tie as tie
 
@@ -39,7 +40,7 @@ returns c =
     let l = x .before in
     let h = l .before in
     let q = same-first 5 0 _ (all-two (h .before .before .hash-matrix-exact .ensures) (h .before .batching-exact .ensures)) (h .hash-matrix-form .ensures) in
-    then-ask _ _ (then-ask _ _ (then-ask _ _ q (l .leaves-form .ensures)) (x .witness-form .ensures)) (output-also _ _ _ (c .before .proof-bytes .ensures) (c .also .ensures))
+    then-ask _ _ (then-ask _ _ (then-ask _ _ q (l .leaves-form .ensures)) (x .witness-form .ensures)) (same-also 10 _ (ap (eqb _) (c .before .proof-bytes .ensures)) (c .also .ensures))
 
 pub prove-inputs-spec : {M : Type 1} → statement M
 prove-inputs-spec =

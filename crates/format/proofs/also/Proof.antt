@@ -1,9 +1,9 @@
--- `format::inputs::also` meets its contract. The answer so far, then the question's.
+-- `format::also` meets its contract. The answer so far, then the question's.
 -- Assumes nothing.
 use borrow.Author.Needs.{needs}
 use Rattle.format.proofs.AskLaws.{go-on, stop-at, says-no, says-yes, says-all}
-use Rattle.format.proofs.inputs.also.Statement.{statement}
-use Rattle.format.proofs.inputs.also.Tie as tie
+use Rattle.format.proofs.also.Statement.{statement}
+use Rattle.format.proofs.also.Tie as tie
 
 enum-told : tie.Need-enum-told
 enum-told c = search needs
