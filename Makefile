@@ -1,8 +1,16 @@
 # make demo: the main job on a built-in example.  make test: every proof and every test, from nothing.
-.PHONY: demo test
+# make compare: the library against the Rust rendering; words for the comparison in ARGS.
+# make bench: the library's times beside the same job in C and Rust, and its stack.
+.PHONY: demo test compare bench
 
 demo:
 	@sh tests/demo.sh
 
 test:
 	@sh tests/run.sh
+
+compare:
+	@. tests/need.sh; lib=$$(library) && sh tests/compare.sh "$$lib" $(ARGS)
+
+bench:
+	@sh bench/run.sh $(ARGS)

@@ -1,6 +1,10 @@
 #!/bin/sh
-# Proves the field and what it rests on, builds the program over it, and runs it on the published products.
+# Proves the library and builds it, compiles the example in C against it, and runs the example.
 set -eu
 cd "$(dirname "$0")/.."
-rt check products >/dev/null || { rt check products; exit 1; }
-target/bin/products
+. tests/need.sh
+need gcc gcc
+lib=$(library)
+mkdir -p target
+gcc -std=c99 -O2 -Wall -Wextra -pedantic -Werror -Iinclude examples/demo.c "$lib/libsolfadrus.a" -o target/demo
+exec target/demo

@@ -1,0 +1,125 @@
+/*
+ * A case for the programs of this folder: a key with a known solution, leaves and challenges, all from a small
+ * generator that is no good for secrets.
+ */
+#ifndef CASE_H
+#define CASE_H
+
+#include <stdint.h>
+#include <stdlib.h>
+#include <string.h>
+
+#include "solfadrus.h"
+
+struct lent {
+    uint8_t *at;
+    size_t len;
+};
+
+struct sizes {
+    size_t n, m, tau, t;
+};
+
+struct made {
+    struct sizes sizes;
+    struct lent key, witness, leaves, hash_matrix, batching;
+};
+
+/* splitmix64 */
+static uint64_t draw(uint64_t *state)
+{
+    uint64_t z = *state += UINT64_C(0x9E3779B97F4A7C15);
+    z = (z ^ z >> 30) * UINT64_C(0xBF58476D1CE4E5B9);
+    z = (z ^ z >> 27) * UINT64_C(0x94D049BB133111EB);
+    return z ^ z >> 31;
+}
+
+static struct lent lend(size_t len)
+{
+    struct lent lent = { calloc(len, 1), len };
+    if (!lent.at)
+        abort();
+    return lent;
+}
+
+/* So many random strings of so many bits, spare bits 0. */
+static void draw_strings(uint64_t *state, uint8_t *at, size_t count, size_t bits)
+{
+    const size_t len = MQ_STRING_SIZE(bits);
+    for (size_t i = 0; i < count; i++, at += len) {
+        for (size_t b = 0; b < len; b++)
+            at[b] = (uint8_t)draw(state);
+        if (bits % 8)
+            at[len - 1] &= (uint8_t)((1 << bits % 8) - 1);
+    }
+}
+
+static uint8_t *put(uint8_t *at, size_t number, int bytes)
+{
+    for (int i = 0; i < bytes; i++)
+        *at++ = (uint8_t)(number >> 8 * i);
+    return at;
+}
+
+static int bit(const uint8_t *string, size_t c)
+{
+    return string[c / 8] >> c % 8 & 1;
+}
+
+/* The left side of an equation at x. */
+static int left_side(const uint8_t *a, const uint8_t *b, const uint8_t *x, size_t n)
+{
+    int sum = 0;
+    for (size_t r = 0; r < n; r++) {
+        for (size_t c = 0; c < n; c++)
+            sum ^= bit(x, r) & bit(a + r * MQ_STRING_SIZE(n), c) & bit(x, c);
+        sum ^= bit(b, r) & bit(x, r);
+    }
+    return sum;
+}
+
+/* A and b at random, and y so that the witness solves. */
+static void make_key(uint64_t *state, struct made *made)
+{
+    const size_t n = made->sizes.n, m = made->sizes.m, row = MQ_STRING_SIZE(n);
+    uint8_t *at = made->key.at, *a, *b, *y;
+    at = put(put(at, n, 2), m, 2);
+    at = put(put(at, made->sizes.tau, 2), made->sizes.t, 2);
+    a = put(at, m * n * row, 4);
+    b = put(a + m * n * row, m * row, 4);
+    y = put(b + m * row, MQ_STRING_SIZE(m), 4);
+    draw_strings(state, a, m * n, n);
+    draw_strings(state, b, m, n);
+    for (size_t i = 0; i < m; i++)
+        y[i / 8] |= (uint8_t)(left_side(a + i * n * row, b + i * row, made->witness.at, n) << i % 8);
+}
+
+static struct made make_case(uint64_t seed, struct sizes sizes)
+{
+    const size_t n = sizes.n, m = sizes.m, tau = sizes.tau, t = sizes.t;
+    struct made made = {
+        sizes,
+        lend(MQ_KEY_SIZE(n, m, tau, t)),
+        lend(MQ_WITNESS_SIZE(n, m, tau, t)),
+        lend(MQ_LEAVES_SIZE(n, m, tau, t)),
+        lend(MQ_HASH_MATRIX_SIZE(n, m, tau, t)),
+        lend(MQ_BATCHING_SIZE(n, m, tau, t)),
+    };
+    draw_strings(&seed, made.witness.at, 1, n);
+    make_key(&seed, &made);
+    draw_strings(&seed, made.leaves.at, MQ_FIELD_SIZE * tau, n + MQ_FIELD_DEGREE + t);
+    draw_strings(&seed, made.hash_matrix.at, t, n + MQ_FIELD_DEGREE);
+    draw_strings(&seed, made.batching.at, tau * m, 8);
+    return made;
+}
+
+static void drop_case(struct made *made)
+{
+    free(made->key.at);
+    free(made->witness.at);
+    free(made->leaves.at);
+    free(made->hash_matrix.at);
+    free(made->batching.at);
+}
+
+#endif

@@ -1,0 +1,261 @@
+/*
+ * The prover in C by the algorithm that the library is designed for, so that the two differ in language
+ * and compiler alone. (baseline.c has a faster algorithm.) No branch and no address depends on leaves or
+ * witness, but for what the answer tells.
+ *
+ * Leaf sums: three exclusive ors for a leaf, into bit planes. Forms: all repetitions side by side, a
+ * byte each, with a stride of 48; a row's sum is looked up, four coordinates at a time, in a table of
+ * the sixteen sums of these, indexed by the row, which is public. H v by the same tables. With
+ * g = A x + A^T x + b, a1 is a masked sum.
+ */
+#include "form.h"
+
+enum {
+    LANES = MQ_MAX_REPETITIONS,
+    VECTORS = LANES / 16,
+    MAX_ROW = MQ_STRING_SIZE(MQ_MAX_VARIABLES),
+    MAX_HASH_ROW = MQ_STRING_SIZE(MQ_MAX_VARIABLES + MQ_FIELD_DEGREE),
+    MAX_W = MQ_STRING_SIZE(MQ_MAX_VARIABLES + MQ_FIELD_DEGREE + MQ_MAX_HASH_ROWS)
+};
+
+/* Sixteen bytes, in the vectors that gcc and clang share. */
+typedef uint8_t vector __attribute__((vector_size(16)));
+typedef int8_t signed_vector __attribute__((vector_size(16)));
+
+/* An element of K for each repetition. */
+union lanes {
+    vector part[VECTORS];
+    uint8_t byte[LANES];
+};
+
+/* What the steps work on: u of each repetition, v by coordinate, and the sums of each four coordinates. */
+struct work {
+    union lanes v[8 * MAX_W], table[2 * MAX_HASH_ROW * 16];
+    uint8_t u[MQ_MAX_REPETITIONS][MAX_W];
+};
+
+static inline void add(uint8_t *restrict to, const uint8_t *restrict from, size_t len)
+{
+    for (size_t i = 0; i < len; i++)
+        to[i] ^= from[i];
+}
+
+/* Bytes of ones where the highest bit is set. */
+static inline vector top(vector x)
+{
+    return (vector)((signed_vector)x < 0);
+}
+
+/* to += a b in K, in every lane, by Horner from the highest bit of a. */
+static inline void add_products(union lanes *to, const union lanes *a, const union lanes *b)
+{
+    const vector modulus = (vector){ 0 } + (MQ_FIELD_MODULUS & 0xFF);
+    for (int i = 0; i < VECTORS; i++) {
+        vector rest = a->part[i], product = { 0 };
+        for (int bit = 0; bit < MQ_FIELD_DEGREE; bit++) {
+            product = (product + product) ^ (top(product) & modulus) ^ (top(rest) & b->part[i]);
+            rest += rest;
+        }
+        to->part[i] ^= product;
+    }
+}
+
+/* ---- Leaf sums and tables ----------------------------------------------------------------- */
+
+static void sum_leaves(const uint8_t *leaves, size_t w, uint8_t *u, uint8_t *planes)
+{
+    memset(u, 0, w);
+    memset(planes, 0, 8 * w);
+    for (size_t j = 0; j < MQ_FIELD_SIZE; j++) {
+        add(u, leaves + j * w, w);
+        for (size_t p = 0; p < 8; p++)
+            if ((j ^ (j + 1)) >> p & 1)
+                add(planes + p * w, u, w);
+    }
+}
+
+/* Puts the bit planes of one repetition into its lane: byte b of the eight planes gives eight coordinates. */
+static void put_lane(const uint8_t *planes, size_t w, union lanes *v, size_t e)
+{
+    for (size_t b = 0; b < w; b++)
+        for (size_t s = 0; s < 8; s++) {
+            uint8_t element = 0;
+            for (size_t p = 0; p < 8; p++)
+                element |= (uint8_t)((planes[p * w + b] >> s & 1) << p);
+            v[8 * b + s].byte[e] = element;
+        }
+}
+
+static void sum_all(const struct key *key, const uint8_t *leaves, struct work *work)
+{
+    uint8_t planes[8 * MAX_W];
+    memset(work->v, 0, sizeof work->v);
+    for (size_t e = 0; e < key->tau; e++) {
+        sum_leaves(leaves + e * MQ_FIELD_SIZE * key->w, key->w, work->u[e], planes);
+        put_lane(planes, key->w, work->v, e);
+    }
+}
+
+static void make_all(const struct key *key, const uint8_t *leaves, size_t bytes, struct work *work)
+{
+    sum_all(key, leaves, work);
+    for (size_t q = 0; q < 2 * bytes; q++) {
+        union lanes *sum = work->table + 16 * q;
+        memset(sum, 0, sizeof *sum);
+        for (size_t s = 0; s < 4; s++)
+            for (size_t i = 0; i < (size_t)1 << s; i++)
+                for (int k = 0; k < VECTORS; k++)
+                    sum[i + ((size_t)1 << s)].part[k] = sum[i].part[k] ^ work->v[4 * q + s].part[k];
+    }
+}
+
+/* The sum over the coordinates that are set in a public row. */
+static inline union lanes look_up(const struct work *work, const uint8_t *row, size_t bytes)
+{
+    const union lanes *at = work->table;
+    union lanes sum = { { { 0 } } };
+    for (size_t b = 0; b < bytes; b++, at += 32) {
+        const union lanes *low = at + (row[b] & 15), *high = at + 16 + (row[b] >> 4);
+        for (int k = 0; k < VECTORS; k++)
+            sum.part[k] ^= low->part[k] ^ high->part[k];
+    }
+    return sum;
+}
+
+/* ---- Equations ---------------------------------------------------------------------------- */
+
+/* A row of at most 24 bytes, as words. */
+struct row {
+    uint64_t word[3];
+};
+
+static inline struct row take_row(const uint8_t *at, size_t len)
+{
+    struct row row = { { 0 } };
+    memcpy(&row, at, len);
+    return row;
+}
+
+static inline uint8_t parity_of_word(uint64_t x)
+{
+    x ^= x >> 32;
+    x ^= x >> 16;
+    return parity((uint8_t)(x ^ x >> 8));
+}
+
+/* g = A x + A^T x + b. Answers the equation's error. Rows are read as whole words from a copy, with what lies
+ * behind them: x has zeros there, and g is not used there. */
+static uint8_t try_witness(const struct key *key, size_t i, const uint8_t *x, uint8_t *g)
+{
+    const struct row b = take_row(key->b + i * key->row, key->row), all = take_row(x, key->row);
+    struct row sum = b;
+    uint64_t ax[3] = { 0 }, error = 0;
+    uint8_t copy[MQ_MAX_VARIABLES * MAX_ROW + sizeof(struct row)];
+    memcpy(copy, key->a + i * key->n * key->row, key->n * key->row);
+    memset(copy + key->n * key->row, 0, sizeof(struct row));
+    for (size_t r = 0; r < key->n; r++) {
+        const uint64_t mask = -(all.word[r / 64] >> r % 64 & 1);
+        uint64_t shared = 0, own[3];
+        memcpy(own, copy + r * key->row, sizeof own);
+        for (size_t k = 0; k < 3; k++) {
+            shared ^= own[k] & all.word[k];
+            sum.word[k] ^= own[k] & mask;
+        }
+        ax[r / 64] |= (uint64_t)parity_of_word(shared) << r % 64;
+    }
+    for (size_t k = 0; k < 3; k++) {
+        error ^= (ax[k] ^ b.word[k]) & all.word[k];
+        sum.word[k] ^= ax[k];
+    }
+    memcpy(g, &sum, key->row);
+    return parity_of_word(error) ^ (key->y[i / 8] >> i % 8 & 1);
+}
+
+static uint32_t ask_solves(const struct key *key, const uint8_t *x)
+{
+    for (size_t i = 0; i < key->m; i++) {
+        uint8_t g[MAX_ROW], error = try_witness(key, i, x, g);
+        PUBLISH(error);
+        if (error)
+            return MQ_REFUSED_EQUATION_FAILS * 65536 + (uint32_t)i;
+    }
+    return MQ_ACCEPTED;
+}
+
+/* a0 and a1 of one equation, in all repetitions. */
+static void forms(const struct key *key, const struct work *work, const uint8_t *a, const uint8_t *g, union lanes *a0,
+                  union lanes *a1)
+{
+    memset(a0, 0, sizeof *a0);
+    memset(a1, 0, sizeof *a1);
+    for (size_t r = 0; r < key->n; r++) {
+        const vector mask = (vector){ 0 } - (uint8_t)(g[r / 8] >> r % 8 & 1);
+        const union lanes sum = look_up(work, a + r * key->row, key->row);
+        add_products(a0, &work->v[r], &sum);
+        for (int k = 0; k < VECTORS; k++)
+            a1->part[k] ^= work->v[r].part[k] & mask;
+    }
+}
+
+static uint32_t make_batch(const struct key *key, const struct work *work, const uint8_t *x, const uint8_t *batching,
+                           struct batched *made)
+{
+    union lanes qs0 = { { { 0 } } }, qs1;
+    memset(&qs1, mask_of_u(key, work->u[0]), sizeof qs1);
+    for (size_t s = 0; s < MQ_FIELD_DEGREE; s++) {
+        union lanes alpha;
+        memset(&alpha, 1 << s, sizeof alpha);
+        add_products(&qs0, &alpha, &work->v[key->n + s]);
+    }
+    for (size_t i = 0; i < key->m; i++) {
+        union lanes chi = { { { 0 } } }, a0, a1;
+        uint8_t g[MAX_ROW], error = try_witness(key, i, x, g);
+        PUBLISH(error);
+        if (error)
+            return MQ_REFUSED_EQUATION_FAILS * 65536 + (uint32_t)i;
+        for (size_t e = 0; e < key->tau; e++)
+            chi.byte[e] = batching[e * key->m + i];
+        forms(key, work, key->a + i * key->n * key->row, g, &a0, &a1);
+        add_products(&qs0, &chi, &a0);
+        add_products(&qs1, &chi, &a1);
+    }
+    memcpy(made->qs0, qs0.byte, LANES);
+    memcpy(made->qs1, qs1.byte, LANES);
+    return MQ_ACCEPTED;
+}
+
+/* ---- What is written ---------------------------------------------------------------------- */
+
+static uint8_t *write_commit(const struct key *key, const struct work *work, const uint8_t *x, uint8_t *out)
+{
+    out = put_count(out, (key->tau - 1) * key->w);
+    for (size_t e = 1; e < key->tau; e++)
+        for (size_t b = 0; b < key->w; b++)
+            *out++ = work->u[e][b] ^ work->u[0][b];
+    out = put_count(out, key->row);
+    for (size_t b = 0; b < key->row; b++)
+        out[b] = x[b] ^ work->u[0][b];
+    out[key->row - 1] &= (uint8_t)~spare_mask(key->n);
+    return out + key->row;
+}
+
+static uint8_t *write_hash(const struct key *key, const struct work *work, const uint8_t *h, uint8_t *out)
+{
+    const uint8_t *u = work->u[0];
+    uint8_t *packed = put_count(out, MQ_STRING_SIZE(key->t));
+    out = put_count(packed + MQ_STRING_SIZE(key->t), key->tau * key->t);
+    memset(packed, 0, MQ_STRING_SIZE(key->t));
+    for (size_t r = 0; r < key->t; r++, h += key->hash_row) {
+        const size_t own = key->k + r;
+        const union lanes sum = look_up(work, h, key->hash_row);
+        uint8_t shared = 0;
+        for (size_t b = 0; b < key->hash_row; b++)
+            shared ^= h[b] & u[b];
+        packed[r / 8] |= (uint8_t)((parity(shared) ^ (u[own / 8] >> own % 8 & 1)) << r % 8);
+        for (size_t e = 0; e < key->tau; e++)
+            out[e * key->t + r] = sum.byte[e] ^ work->v[own].byte[e];
+    }
+    return out + key->tau * key->t;
+}
+
+#include "calls.h"

@@ -1,0 +1,46 @@
+#!/bin/sh
+# Benchmark: builds the library (or takes that of SOLFADRUS_LIB_DIR), the C programs by gcc and by clang, and the
+# rendering; holds the C programs against the rendering; then times all in one run. Words go to the program.
+# Nothing here passes or fails by a time.
+set -eu
+cd "$(dirname "$0")/.."
+. tests/need.sh
+need gcc gcc
+need clang clang
+lib=$(library)
+work=target/bench
+mkdir -p "$work"
+
+# A program of this folder, under a prefix of its own; and as a whole libsolfadrus.a, for the comparison.
+build() {
+    compiler=$1
+    program=$2
+    flags="-std=c11 -O3 -Wall -Wextra -Werror -Iinclude -Ibench"
+    $compiler $flags "-DPREFIX=${program}_${compiler}_" -c "bench/$program.c" -o "$work/${program}_$compiler.o"
+    archive=$work/${program}_$compiler
+    mkdir -p "$archive"
+    $compiler $flags -c "bench/$program.c" -o "$archive/$program.o"
+    $compiler $flags -c bench/archive.c -o "$archive/archive.o"
+    rm -f "$archive/libsolfadrus.a"
+    ar crs "$archive/libsolfadrus.a" "$archive/$program.o" "$archive/archive.o"
+}
+
+for compiler in gcc clang; do
+    for program in baseline plain; do
+        build "$compiler" "$program"
+        echo "$program.c by $compiler, held against the rendering:"
+        sh tests/compare.sh "$PWD/$work/${program}_$compiler" --seconds 0 | tail -n 1
+    done
+done
+
+cargo build --quiet --release --offline -j1 --manifest-path bench/rendering/Cargo.toml --target-dir "$work/rendering"
+gcc -std=c11 -O2 -Wall -Wextra -Werror -Iinclude -Ibench bench/bench.c "$work"/baseline_gcc.o "$work"/baseline_clang.o \
+    "$work"/plain_gcc.o "$work"/plain_clang.o "$lib/libsolfadrus.a" "$work/rendering/release/librendering.a" \
+    -lpthread -ldl -lm -o "$work/bench"
+echo
+gcc --version | head -n 1
+clang --version | head -n 1
+cargo --version
+grep -m 1 'model name' /proc/cpuinfo || true
+echo
+"$work/bench" "$@"

@@ -1,0 +1,239 @@
+/*
+ * The calls of Solfadrus, in the order in which a prover makes them.
+ *
+ * Makes a key with a known solution, leaves and challenges, tests the witness, makes a proof in three
+ * steps and at once, and shows two refusals. Everything random comes from a small seeded generator, so
+ * that each run shows the same: a real prover draws from the system's generator, and keeps it secret.
+ */
+#include <stdio.h>
+#include <string.h>
+#include <time.h>
+
+#include "solfadrus.h"
+
+/* The sizes of the key: variables, equations, repetitions, hash rows. */
+enum { N = 150, M = 150, TAU = 19, T = 144, ROW = MQ_STRING_SIZE(N) };
+
+static uint8_t key[MQ_KEY_SIZE(N, M, TAU, T)];
+static uint8_t witness[MQ_WITNESS_SIZE(N, M, TAU, T)];
+static uint8_t leaves[MQ_LEAVES_SIZE(N, M, TAU, T)];
+static uint8_t hash_matrix[MQ_HASH_MATRIX_SIZE(N, M, TAU, T)];
+static uint8_t batching[MQ_BATCHING_SIZE(N, M, TAU, T)];
+static uint8_t steps[MQ_PROOF_SIZE(N, M, TAU, T)];
+static uint8_t whole[MQ_PROOF_SIZE(N, M, TAU, T)];
+
+/* ---- The demo generator: splitmix64 ------------------------------------------------------- */
+
+static uint64_t state = 2026;
+
+static uint8_t draw(void)
+{
+    uint64_t z = state += UINT64_C(0x9E3779B97F4A7C15);
+    z = (z ^ z >> 30) * UINT64_C(0xBF58476D1CE4E5B9);
+    z = (z ^ z >> 27) * UINT64_C(0x94D049BB133111EB);
+    return (uint8_t)(z >> 56);
+}
+
+/* So many strings of so many bits, one after another, spare bits 0. */
+static void draw_strings(uint8_t *at, size_t count, size_t bits)
+{
+    const size_t len = MQ_STRING_SIZE(bits);
+    size_t i, b;
+    for (i = 0; i < count; i++, at += len) {
+        for (b = 0; b < len; b++)
+            at[b] = draw();
+        if (bits % 8 != 0)
+            at[len - 1] &= (uint8_t)((1 << bits % 8) - 1);
+    }
+}
+
+/* ---- The key ------------------------------------------------------------------------------ */
+
+/* Where the sections of the key stand, without their counts. */
+static uint8_t *const A = key + MQ_HEADER_SIZE + MQ_COUNT_SIZE;
+static uint8_t *const b = key + MQ_HEADER_SIZE + 2 * MQ_COUNT_SIZE + M * N * ROW;
+static uint8_t *const y = key + MQ_HEADER_SIZE + 3 * MQ_COUNT_SIZE + M * N * ROW + M * ROW;
+
+static int coordinate(const uint8_t *string, size_t c)
+{
+    return string[c / 8] >> c % 8 & 1;
+}
+
+/* x^T A_i x + b_i x, coordinate by coordinate. */
+static int left_side(size_t i, const uint8_t *x)
+{
+    int sum = 0;
+    size_t r, c;
+    for (r = 0; r < N; r++) {
+        for (c = 0; c < N; c++)
+            sum ^= coordinate(x, r) & coordinate(A + (i * N + r) * ROW, c) & coordinate(x, c);
+        sum ^= coordinate(b + i * ROW, r) & coordinate(x, r);
+    }
+    return sum;
+}
+
+static void put_number(uint8_t *at, size_t number, int bytes)
+{
+    for (; bytes > 0; bytes--, number >>= 8)
+        *at++ = (uint8_t)number;
+}
+
+/* A, b and x at random; y so that x solves every equation. */
+static void make_key(void)
+{
+    size_t i;
+    put_number(key, N, 2);
+    put_number(key + 2, M, 2);
+    put_number(key + 4, TAU, 2);
+    put_number(key + 6, T, 2);
+    put_number(A - MQ_COUNT_SIZE, M * N * ROW, MQ_COUNT_SIZE);
+    put_number(b - MQ_COUNT_SIZE, M * ROW, MQ_COUNT_SIZE);
+    put_number(y - MQ_COUNT_SIZE, MQ_STRING_SIZE(M), MQ_COUNT_SIZE);
+    draw_strings(A, M * N, N);
+    draw_strings(b, M, N);
+    draw_strings(witness, 1, N);
+    for (i = 0; i < M; i++)
+        y[i / 8] |= (uint8_t)(left_side(i, witness) << i % 8);
+}
+
+/* ---- What is shown ------------------------------------------------------------------------ */
+
+static int failures;
+static clock_t started;
+
+static void start(void)
+{
+    started = clock();
+}
+
+/* Says what a call answered, what it did, and the processor time since `start`. */
+static void show(const char *call, uint32_t word, size_t bytes, const char *what)
+{
+    const double ms = (double)(clock() - started) * 1e3 / CLOCKS_PER_SEC;
+    if (word == MQ_ACCEPTED)
+        printf("%-10s accepted           ", call);
+    else
+        printf("%-10s refused %2u place %-3u", call, (unsigned)MQ_NUMBER(word), (unsigned)MQ_PLACE(word));
+    printf(" %8.3f ms %6lu bytes written  %s\n", ms, (unsigned long)(word == MQ_ACCEPTED ? bytes : 0), what);
+}
+
+static void expect(int yes, const char *what)
+{
+    printf("           %s: %s\n", what, yes ? "yes" : "NO");
+    failures += !yes;
+}
+
+static int unchanged(const uint8_t *bytes, size_t len)
+{
+    size_t i;
+    for (i = 0; i < len; i++)
+        if (bytes[i] != 0xEE)
+            return 0;
+    return 1;
+}
+
+/* ---- The calls ---------------------------------------------------------------------------- */
+
+static void prove_in_steps(void)
+{
+    uint8_t *out = steps;
+    const size_t commit = mq_commit_size(N, M, TAU, T), hash = mq_hash_size(N, M, TAU, T);
+    const size_t batch = mq_batch_size(N, M, TAU, T);
+    uint32_t word;
+
+    start();
+    word = mq_commit(key, sizeof key, leaves, sizeof leaves, witness, sizeof witness, out, commit);
+    show("mq_commit", word, commit, "corrections C and d");
+    failures += word != MQ_ACCEPTED;
+
+    draw_strings(hash_matrix, T, N + MQ_FIELD_DEGREE); /* the verifier's, once it has C and d */
+    out += commit;
+    start();
+    word = mq_hash(key, sizeof key, leaves, sizeof leaves, hash_matrix, sizeof hash_matrix, out, hash);
+    show("mq_hash", word, hash, "hashes of u and of each v");
+    failures += word != MQ_ACCEPTED;
+
+    draw_strings(batching, TAU * M, 8); /* the verifier's, once it has the hashes */
+    out += hash;
+    start();
+    word = mq_batch(key, sizeof key, leaves, sizeof leaves, witness, sizeof witness, batching, sizeof batching,
+                    out, batch);
+    show("mq_batch", word, batch, "QS0 and QS1");
+    failures += word != MQ_ACCEPTED;
+}
+
+static uint32_t prove(const uint8_t *x, size_t len)
+{
+    start();
+    return mq_prove(key, sizeof key, leaves, sizeof leaves, x, sizeof witness, hash_matrix, sizeof hash_matrix,
+                    batching, sizeof batching, whole, len);
+}
+
+static void prove_at_once(void)
+{
+    const uint32_t word = prove(witness, sizeof whole);
+    show("mq_prove", word, sizeof whole, "all six sections");
+    failures += word != MQ_ACCEPTED;
+    expect(memcmp(steps, whole, sizeof whole) == 0, "the steps' bytes, one after the other, are the same");
+}
+
+static void show_refusals(void)
+{
+    uint8_t wrong[sizeof witness];
+    uint32_t word;
+    size_t i;
+
+    memcpy(wrong, witness, sizeof witness);
+    wrong[0] ^= 1;
+    memset(whole, 0xEE, sizeof whole);
+    word = prove(wrong, sizeof whole);
+    show("mq_prove", word, 0, "one bit of the witness changed");
+    i = MQ_PLACE(word);
+    expect(MQ_NUMBER(word) == MQ_REFUSED_EQUATION_FAILS, "refused because an equation fails");
+    expect(i < M && left_side(i, wrong) != coordinate(y, i), "the equation that it names fails");
+    expect(unchanged(whole, sizeof whole), "the output is as it was");
+
+    word = prove(witness, sizeof whole - 1);
+    show("mq_prove", word, 0, "an output of one byte too few");
+    expect(MQ_NUMBER(word) == MQ_REFUSED_OUTPUT_LENGTH, "refused because of the output's length");
+    expect(unchanged(whole, sizeof whole), "the output is as it was");
+}
+
+/* Through a volatile pointer, so that the compiler does not leave it out. */
+static void wipe(volatile uint8_t *secret, size_t len)
+{
+    while (len > 0)
+        secret[--len] = 0;
+}
+
+int main(void)
+{
+    uint32_t word;
+
+    if (mq_version() != MQ_VERSION) {
+        printf("header and library are of different versions\n");
+        return 1;
+    }
+    printf("Solfadrus: a proof of knowing x that solves %d quadratic equations in %d variables over GF(2),\n", M, N);
+    printf("in %d repetitions with %d hash rows.\n", TAU, T);
+    printf("DEMO GENERATOR: leaves, challenges and key come from a small seeded generator, fit for show only.\n\n");
+
+    make_key();
+    draw_strings(leaves, MQ_FIELD_SIZE * TAU, N + MQ_FIELD_DEGREE + T);
+    printf("a key of %lu bytes, leaves of %lu bytes, a witness of %lu bytes\n", (unsigned long)sizeof key,
+           (unsigned long)sizeof leaves, (unsigned long)sizeof witness);
+
+    start();
+    word = mq_test(key, sizeof key, witness, sizeof witness);
+    show("mq_test", word, 0, "the witness solves the key");
+    failures += word != MQ_ACCEPTED;
+
+    prove_in_steps();
+    prove_at_once();
+    show_refusals();
+
+    wipe(witness, sizeof witness); /* secrets are wiped when they have served */
+    wipe(leaves, sizeof leaves);
+    printf("\n%s\n", failures ? "FAILED" : "all as it should be");
+    return failures != 0;
+}

@@ -1,0 +1,351 @@
+/*
+ * Solfadrus: a prover for knowledge of a solution of a quadratic system over GF(2).
+ *
+ * The library is libsolfadrus.a. It is written in Rattle, and every function below is proved to
+ * meet its contract; this header says the same in words, for callers in C and C++. The order of
+ * the questions, their numbers and their places are those of docs/REFUSALS.md.
+ *
+ *
+ * CONTENTS
+ *
+ *   1. Conventions        how a call is made, and what it answers
+ *   2. Sizes and formats  the bytes of a key, witness, leaves, challenges and proof
+ *   3. Answers            the numbers 1 to 15, and what each asks
+ *   4. The caller's duty  what the library cannot see, and relies on
+ *   5. Size functions and macros
+ *   6. The calls          mq_test, mq_commit, mq_hash, mq_batch, mq_prove
+ *
+ *
+ * 1. CONVENTIONS
+ *
+ * Every byte string is lent as a pointer and a length, and stays the caller's. The library
+ * allocates nothing, keeps nothing between two calls, and has no global state: any number of
+ * calls may run at the same time.
+ *
+ * Every call ends, whatever bytes it is lent, and answers one word:
+ *
+ *     0                        accepted
+ *     number * 65536 + place   refused; MQ_NUMBER(word) and MQ_PLACE(word) take it apart
+ *
+ * An accepted call has written every byte of its output. A refused call has written none: `out`
+ * is as it was. So read the word before you use the output.
+ *
+ *
+ * 2. SIZES AND FORMATS
+ *
+ * Four sizes, which stand at the head of the key, fix every length:
+ *
+ *     n     variables      1 .. MQ_MAX_VARIABLES
+ *     m     equations      1 .. MQ_MAX_EQUATIONS
+ *     tau   repetitions    1 .. MQ_MAX_REPETITIONS
+ *     t     hash rows      1 .. MQ_MAX_HASH_ROWS
+ *
+ * and from them  k = n + 8  (8 mask coordinates),  L = k + t  (bits of a leaf),
+ * w = ceil(L / 8)  (bytes of a leaf).
+ *
+ * A string of c bits takes ceil(c / 8) bytes; coordinate i is bit i mod 8 (bit 0 the lowest) of
+ * byte floor(i / 8). The bits past the last coordinate are spare, and must be 0. A count is four
+ * bytes, lowest first. A section is its count, and then as many bytes.
+ *
+ * An element of the field K = GF(256) is a byte; a sum is the exclusive or, and a product is taken
+ * modulo X^8 + X^4 + X^3 + X + 1, as in FIPS 197.
+ *
+ *   key          n, m, tau, t, two bytes each, lowest first; then the sections A, b, y:
+ *                A   m matrices of n rows of n bits, matrix 0 row 0 first
+ *                b   m rows of n bits
+ *                y   m bits
+ *                Equation i is  x^T A_i x + b_i x = y_i . A_i need not be symmetric.
+ *   witness      x, n bits. SECRET.
+ *   leaves       for each repetition e, rising, 256 leaves of L bits, j rising from 0. SECRET.
+ *   hash_matrix  H', t rows of k bits.
+ *   batching     chi, for each repetition, rising, m elements of K, one for each equation, rising.
+ *   delta        for each repetition one element of K.
+ *   opened       for each repetition e, rising, the 255 leaves with j other than delta[e], rising.
+ *   proof        the sections  C, d, u~, V~, QS0, QS1 :
+ *                C     for each repetition but the first, rising, L bits   (count 0 at tau = 1)
+ *                d     n bits
+ *                u~    t bits
+ *                V~    for each repetition, rising, t elements of K, by hash row
+ *                QS0   for each repetition one element of K
+ *                QS1   for each repetition one element of K
+ *
+ * mq_commit writes the sections C and d, mq_hash u~ and V~, mq_batch QS0 and QS1, each with their
+ * counts. One after the other these are the bytes that mq_prove writes.
+ *
+ *
+ * 3. ANSWERS
+ *
+ * Each call puts the questions that concern its inputs, in this order. The first no is the answer.
+ *
+ *    1  Has the key at least the 8 bytes of its header?
+ *    2  Are n, m, tau, t in range?
+ *    3  Are all counts and the key's length exact?
+ *    4  Are the key's spare bits 0 (in each row of A, each row of b, and y)?
+ *    5  Have the challenges that this call uses (hash_matrix, batching, delta) exact lengths?
+ *    6  Are the spare bits of hash_matrix 0?
+ *    7  Have the leaves their exact length?
+ *    8  Are the spare bits of each leaf 0?
+ *    9  Has the witness ceil(n / 8) bytes, spare bits 0?
+ *   10  Has the output exactly the length to be written?
+ *   11  Does the witness solve the system?     place: an equation that fails, from 0
+ *   12  Are the proof's counts and length exact?
+ *   13  Are the spare bits of C, d, u~ 0?
+ *   14  Does consistency hold in every repetition?         place: the first one where not
+ *   15  Does the product check hold in every repetition?   place: the first one where not
+ *
+ * The place is 0 for all numbers but 11, 14 and 15. Where several equations fail, 11 names one of
+ * them, and not always the lowest: do not rely on which. 12 to 15 are questions of the verifier,
+ * which this version does not have; they are listed because the list is published whole.
+ *
+ *
+ * 4. THE CALLER'S DUTY
+ *
+ * No input, however made, can make a call fail to return, write outside `out`, or read outside
+ * what it was lent. That rests on the following, which a callee cannot test.
+ *
+ *   Pointers   Each pointer is valid for the length that stands beside it: an input for reading,
+ *              `out` for writing. Where the length is 0, any pointer will do, NULL too. No
+ *              alignment is asked for.
+ *   Overlap    `out` overlaps no input. Inputs may overlap each other.
+ *   Stillness  Nobody else writes an input, or reads or writes `out`, until the call returns.
+ *
+ * What the proof is worth rests on these.
+ *
+ *   Secrets    Leaves and witness are secret. Answers 8, 9 and 11 tell something about them, and
+ *              the place of 11 does too: keep them from strangers.
+ *   Leaves     All bits of all leaves (but the spare ones) are drawn uniformly and independently,
+ *              from a generator fit for keys, anew for each proof. A set of leaves serves ONE
+ *              proof: one witness, one hash_matrix, one batching, one delta.
+ *   Opening    Never open the same leaves at two delta. Two openings of a repetition show all of
+ *              its leaves, and they and d give the witness away.
+ *   Challenges hash_matrix is drawn after the output of mq_commit is fixed, batching after that
+ *              of mq_hash, and delta after that of mq_batch; each so that the prover can neither
+ *              foresee nor choose it.
+ *   Wiping     Wipe leaves and witness when they have served. The calls work on the stack, and do
+ *              not wipe it: where that matters, run them on a stack that you wipe.
+ *
+ * The mask coordinates n .. n+7 of a leaf serve every repetition in this version. With tau > 1 the
+ * masks of QS1 cancel between two repetitions, so no claim is made that a proof hides the witness.
+ */
+
+#ifndef SOLFADRUS_H
+#define SOLFADRUS_H
+
+#include <stddef.h>
+#include <stdint.h>
+
+#ifdef __cplusplus
+extern "C" {
+#endif
+
+/* An answer that is not looked at is an error of the caller: compilers that can, say so. */
+#if defined(__GNUC__)
+#define MQ_LOOK_AT_ANSWER __attribute__((warn_unused_result))
+#else
+#define MQ_LOOK_AT_ANSWER
+#endif
+
+/* The version of this header: major * 65536 + minor * 256 + patch. */
+#define MQ_VERSION_MAJOR 0
+#define MQ_VERSION_MINOR 1
+#define MQ_VERSION_PATCH 0
+#define MQ_VERSION (MQ_VERSION_MAJOR * 65536 + MQ_VERSION_MINOR * 256 + MQ_VERSION_PATCH)
+
+/* Limits. The least value of each size is 1. */
+#define MQ_MAX_VARIABLES 160
+#define MQ_MAX_EQUATIONS 160
+#define MQ_MAX_REPETITIONS 48
+#define MQ_MAX_HASH_ROWS 160
+
+/* The field K: its degree over GF(2), its size, and the modulus, bit s for X^s. */
+#define MQ_FIELD_DEGREE 8
+#define MQ_FIELD_SIZE 256
+#define MQ_FIELD_MODULUS 0x11B
+
+/* The word of an accepted call, and the two halves of any word. */
+#define MQ_ACCEPTED 0
+#define MQ_NUMBER(word) ((word) / 65536)
+#define MQ_PLACE(word) ((word) % 65536)
+
+/* The numbers. Their questions stand above. */
+#define MQ_REFUSED_SHORT_HEADER 1
+#define MQ_REFUSED_SIZE_OUT_OF_RANGE 2
+#define MQ_REFUSED_KEY_LENGTH 3
+#define MQ_REFUSED_KEY_SPARE_BIT 4
+#define MQ_REFUSED_CHALLENGE_LENGTH 5
+#define MQ_REFUSED_HASH_SPARE_BIT 6
+#define MQ_REFUSED_LEAF_LENGTH 7
+#define MQ_REFUSED_LEAF_SPARE_BIT 8
+#define MQ_REFUSED_WITNESS_FORM 9
+#define MQ_REFUSED_OUTPUT_LENGTH 10
+#define MQ_REFUSED_EQUATION_FAILS 11  /* place: an equation that fails */
+#define MQ_REFUSED_PROOF_LENGTH 12
+#define MQ_REFUSED_PROOF_SPARE_BIT 13
+#define MQ_REFUSED_INCONSISTENT 14    /* place: the first repetition where not */
+#define MQ_REFUSED_PRODUCT_DIFFERS 15 /* place: the first repetition where not */
+
+/*
+ * 5. SIZE FUNCTIONS AND MACROS
+ *
+ * For each length a macro, which is a constant expression where its arguments are, and a function
+ * of the same value. All take the four sizes, in the key's order, whether or not the length
+ * depends on each.
+ *
+ * The macros are right for sizes in range, and test nothing. The functions answer 0 where a size
+ * is out of range; no length that is in range is 0.
+ *
+ *     macro                   function              bytes
+ *     MQ_KEY_SIZE             mq_key_size           a key
+ *     MQ_WITNESS_SIZE         mq_witness_size       a witness
+ *     MQ_LEAVES_SIZE          mq_leaves_size        full leaves, which the prover takes
+ *     MQ_OPENED_SIZE          mq_opened_size        opened leaves
+ *     MQ_HASH_MATRIX_SIZE     mq_hash_matrix_size   hash_matrix
+ *     MQ_BATCHING_SIZE        mq_batching_size      batching
+ *     MQ_DELTA_SIZE           mq_delta_size         delta
+ *     MQ_COMMIT_SIZE          mq_commit_size        what mq_commit writes, counts included
+ *     MQ_HASH_SIZE            mq_hash_size          what mq_hash writes, counts included
+ *     MQ_BATCH_SIZE           mq_batch_size         what mq_batch writes, counts included
+ *     MQ_PROOF_SIZE           mq_proof_size         what mq_prove writes, counts included
+ *
+ * With the largest sizes the key has 515240 bytes, the leaves 503808 and the proof 9767.
+ */
+#define MQ_COUNT_SIZE 4
+#define MQ_HEADER_SIZE 8
+
+/* Bytes of a string of so many bits. */
+#define MQ_STRING_SIZE(bits) (((bits) + 7) / 8)
+
+/* Bytes of one leaf (w), and of one row of hash_matrix. */
+#define MQ_LEAF_SIZE(n, m, tau, t) MQ_STRING_SIZE((n) + MQ_FIELD_DEGREE + (t))
+#define MQ_HASH_ROW_SIZE(n, m, tau, t) MQ_STRING_SIZE((n) + MQ_FIELD_DEGREE)
+
+#define MQ_KEY_SIZE(n, m, tau, t) \
+    (MQ_HEADER_SIZE + 3 * MQ_COUNT_SIZE + (m) * (n) * MQ_STRING_SIZE(n) \
+     + (m) * MQ_STRING_SIZE(n) + MQ_STRING_SIZE(m))
+#define MQ_WITNESS_SIZE(n, m, tau, t) MQ_STRING_SIZE(n)
+#define MQ_LEAVES_SIZE(n, m, tau, t) \
+    ((tau) * MQ_FIELD_SIZE * MQ_LEAF_SIZE(n, m, tau, t))
+#define MQ_OPENED_SIZE(n, m, tau, t) \
+    ((tau) * (MQ_FIELD_SIZE - 1) * MQ_LEAF_SIZE(n, m, tau, t))
+#define MQ_HASH_MATRIX_SIZE(n, m, tau, t) ((t) * MQ_HASH_ROW_SIZE(n, m, tau, t))
+#define MQ_BATCHING_SIZE(n, m, tau, t) ((tau) * (m))
+#define MQ_DELTA_SIZE(n, m, tau, t) (tau)
+#define MQ_COMMIT_SIZE(n, m, tau, t) \
+    (2 * MQ_COUNT_SIZE + ((tau) - 1) * MQ_LEAF_SIZE(n, m, tau, t) + MQ_STRING_SIZE(n))
+#define MQ_HASH_SIZE(n, m, tau, t) (2 * MQ_COUNT_SIZE + MQ_STRING_SIZE(t) + (tau) * (t))
+#define MQ_BATCH_SIZE(n, m, tau, t) (2 * MQ_COUNT_SIZE + 2 * (tau))
+#define MQ_PROOF_SIZE(n, m, tau, t) \
+    (MQ_COMMIT_SIZE(n, m, tau, t) + MQ_HASH_SIZE(n, m, tau, t) + MQ_BATCH_SIZE(n, m, tau, t))
+
+size_t mq_key_size(size_t n, size_t m, size_t tau, size_t t);
+size_t mq_witness_size(size_t n, size_t m, size_t tau, size_t t);
+size_t mq_leaves_size(size_t n, size_t m, size_t tau, size_t t);
+size_t mq_opened_size(size_t n, size_t m, size_t tau, size_t t);
+size_t mq_hash_matrix_size(size_t n, size_t m, size_t tau, size_t t);
+size_t mq_batching_size(size_t n, size_t m, size_t tau, size_t t);
+size_t mq_delta_size(size_t n, size_t m, size_t tau, size_t t);
+size_t mq_commit_size(size_t n, size_t m, size_t tau, size_t t);
+size_t mq_hash_size(size_t n, size_t m, size_t tau, size_t t);
+size_t mq_batch_size(size_t n, size_t m, size_t tau, size_t t);
+size_t mq_proof_size(size_t n, size_t m, size_t tau, size_t t);
+
+/*
+ * The version of the library. Where it is not MQ_VERSION, header and archive do not belong
+ * together.
+ */
+uint32_t mq_version(void);
+
+/*
+ * 6. THE CALLS
+ *
+ * Each says what it takes, what it puts into `out`, and which questions it puts, in order.
+ * In all of them `x_len` is the length in bytes of `x`.
+ */
+
+/*
+ * Tests a key and a witness: is the key of the right form, and does the witness solve it?
+ *
+ *     questions   1 2 3 4, 9, 11
+ *     writes      nothing
+ */
+MQ_LOOK_AT_ANSWER
+uint32_t mq_test(const uint8_t *key, size_t key_len,
+                 const uint8_t *witness, size_t witness_len);
+
+/*
+ * The first step: the corrections.
+ *
+ * With u_e the sum of the leaves of repetition e, and u = u_0, it writes the section C, which has
+ * C_e = u_e + u for e = 1 .. tau - 1, and the section d, which is the witness plus the first n
+ * bits of u.
+ *
+ *     questions   1 2 3 4, 7 8, 9, 10, 11
+ *     writes      MQ_COMMIT_SIZE bytes
+ */
+MQ_LOOK_AT_ANSWER
+uint32_t mq_commit(const uint8_t *key, size_t key_len,
+                   const uint8_t *leaves, size_t leaves_len,
+                   const uint8_t *witness, size_t witness_len,
+                   uint8_t *out, size_t out_len);
+
+/*
+ * The second step: the hashes, under the challenge hash_matrix.
+ *
+ * With H = [H' | identity of size t] and v_e the sum of the leaves of repetition e, each times its
+ * number j as an element of K, it writes the section u~ = H u and the section V~, which has H v_e
+ * for each repetition.
+ *
+ * It takes no witness, so it puts neither 9 nor 11.
+ *
+ *     questions   1 2 3 4, 5 (hash_matrix), 6, 7 8, 10
+ *     writes      MQ_HASH_SIZE bytes
+ */
+MQ_LOOK_AT_ANSWER
+uint32_t mq_hash(const uint8_t *key, size_t key_len,
+                 const uint8_t *leaves, size_t leaves_len,
+                 const uint8_t *hash_matrix, size_t hash_matrix_len,
+                 uint8_t *out, size_t out_len);
+
+/*
+ * The third step: the batched equations, under the challenge batching.
+ *
+ * With a0 = v^T A_i v and a1 = v^T A_i x + x^T A_i v + b_i v, where v is the first n coordinates
+ * of v_e, it writes for each repetition
+ *
+ *     QS0 = sum over i of chi(e, i) a0   + sum over s of alpha^s v_e[n + s]
+ *     QS1 = sum over i of chi(e, i) a1   + sum over s of alpha^s u[n + s]
+ *
+ * with s = 0 .. 7 and alpha the element 02.
+ *
+ *     questions   1 2 3 4, 5 (batching), 7 8, 9, 10, 11
+ *     writes      MQ_BATCH_SIZE bytes
+ */
+MQ_LOOK_AT_ANSWER
+uint32_t mq_batch(const uint8_t *key, size_t key_len,
+                  const uint8_t *leaves, size_t leaves_len,
+                  const uint8_t *witness, size_t witness_len,
+                  const uint8_t *batching, size_t batching_len,
+                  uint8_t *out, size_t out_len);
+
+/*
+ * The whole prover: the bytes of mq_commit, mq_hash and mq_batch, one after the other.
+ *
+ * It is for callers who hold both challenges already. Where a prover meets them one by one, the
+ * three steps are the calls to make.
+ *
+ *     questions   1 2 3 4, 5 (hash_matrix and batching), 6, 7 8, 9, 10, 11
+ *     writes      MQ_PROOF_SIZE bytes
+ */
+MQ_LOOK_AT_ANSWER
+uint32_t mq_prove(const uint8_t *key, size_t key_len,
+                  const uint8_t *leaves, size_t leaves_len,
+                  const uint8_t *witness, size_t witness_len,
+                  const uint8_t *hash_matrix, size_t hash_matrix_len,
+                  const uint8_t *batching, size_t batching_len,
+                  uint8_t *out, size_t out_len);
+
+#ifdef __cplusplus
+}
+#endif
+
+#endif

@@ -1,0 +1,29 @@
+#!/bin/sh
+# The tests around the library, from C, C++ and Rust: builds it (or takes that of SOLFADRUS_LIB_DIR), and runs each.
+set -eu
+cd "$(dirname "$0")/.."
+. tests/need.sh
+need gcc gcc
+need g++ g++
+mkdir -p target
+lib=$(library)
+strict="-Wall -Wextra -pedantic -Werror -Iinclude"
+
+echo "the header alone, as C99 and as C++11"
+gcc -std=c99 $strict -x c -fsyntax-only include/solfadrus.h
+g++ -std=c++11 $strict -x c++ -fsyntax-only include/solfadrus.h
+
+echo "size macros and size functions"
+gcc -std=c99 -O2 $strict tests/sizes.c "$lib/libsolfadrus.a" -o target/sizes
+target/sizes
+
+echo "a caller in C++"
+g++ -std=c++11 -O2 $strict tests/header.cpp "$lib/libsolfadrus.a" -o target/header
+target/header
+
+echo "the comparison with the Rust rendering"
+sh tests/compare.sh "$lib" --selftest
+sh tests/compare.sh "$lib"
+
+echo "the example"
+SOLFADRUS_LIB_DIR=$lib sh tests/demo.sh

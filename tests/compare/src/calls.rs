@@ -1,0 +1,187 @@
+//! The calls: what each takes and writes, and how the library and the rendering are asked.
+//!
+//! A call that is added to the library is added to the table `CALLS`, and is then compared like the others.
+//! (For mq_verify: `takes` is Key, Delta, HashMatrix, Batching, Opened, Proof; `writes` is nothing. Inputs and
+//! damages for these are there already.)
+
+use crate::inputs::{section_start, Name};
+use reference::key::Shape;
+use reference::Answer;
+
+/// An input as C lends it.
+#[derive(Clone, Copy, Debug)]
+pub struct Lent {
+    pub at: *const u8,
+    pub len: usize,
+}
+
+/// An output as C lends it.
+#[derive(Clone, Copy, Debug)]
+pub struct LentOut {
+    pub at: *mut u8,
+    pub len: usize,
+}
+
+extern "C" {
+    fn mq_test(key: *const u8, key_len: usize, witness: *const u8, witness_len: usize) -> u32;
+
+    fn mq_commit(
+        key: *const u8,
+        key_len: usize,
+        leaves: *const u8,
+        leaves_len: usize,
+        witness: *const u8,
+        witness_len: usize,
+        out: *mut u8,
+        out_len: usize,
+    ) -> u32;
+
+    fn mq_hash(
+        key: *const u8,
+        key_len: usize,
+        leaves: *const u8,
+        leaves_len: usize,
+        hash_matrix: *const u8,
+        hash_matrix_len: usize,
+        out: *mut u8,
+        out_len: usize,
+    ) -> u32;
+
+    fn mq_batch(
+        key: *const u8,
+        key_len: usize,
+        leaves: *const u8,
+        leaves_len: usize,
+        witness: *const u8,
+        witness_len: usize,
+        batching: *const u8,
+        batching_len: usize,
+        out: *mut u8,
+        out_len: usize,
+    ) -> u32;
+
+    fn mq_prove(
+        key: *const u8,
+        key_len: usize,
+        leaves: *const u8,
+        leaves_len: usize,
+        witness: *const u8,
+        witness_len: usize,
+        hash_matrix: *const u8,
+        hash_matrix_len: usize,
+        batching: *const u8,
+        batching_len: usize,
+        out: *mut u8,
+        out_len: usize,
+    ) -> u32;
+}
+
+/// What a call writes: the proof's sections from one to another, or nothing.
+#[derive(Clone, Copy, Debug, PartialEq, Eq)]
+pub enum Writes {
+    Nothing,
+    Sections(usize, usize),
+}
+
+impl Writes {
+    /// Where these bytes stand in a whole proof.
+    pub fn part(self, shape: &Shape) -> std::ops::Range<usize> {
+        let start = |section| section_start(Name::Proof, shape, section);
+        match self {
+            Writes::Nothing => 0..0,
+            Writes::Sections(from, to) => start(from)..start(to),
+        }
+    }
+
+    /// The length to be written.
+    pub fn length(self, shape: &Shape) -> usize {
+        self.part(shape).len()
+    }
+}
+
+pub struct Call {
+    pub name: &'static str,
+    /// The inputs, in the order of the call's parameters.
+    pub takes: &'static [Name],
+    pub writes: Writes,
+    /// The numbers that it can answer, 0 for accepted.
+    pub answers: &'static [usize],
+    /// The library, lent the inputs in that order. Safe where each is valid for its length.
+    pub library: unsafe fn(&[Lent], LentOut) -> u32,
+    /// The rendering, on the same inputs.
+    pub rendering: fn(&[&[u8]], &mut [u8]) -> Answer,
+}
+
+pub const TEST: Call = Call {
+    name: "mq_test",
+    takes: &[Name::Key, Name::Witness],
+    writes: Writes::Nothing,
+    answers: &[0, 1, 2, 3, 4, 9, 11],
+    library: |i, _| unsafe { mq_test(i[0].at, i[0].len, i[1].at, i[1].len) },
+    rendering: |i, _| reference::test(i[0], i[1]),
+};
+
+pub const COMMIT: Call = Call {
+    name: "mq_commit",
+    takes: &[Name::Key, Name::Leaves, Name::Witness],
+    writes: Writes::Sections(0, 2),
+    answers: &[0, 1, 2, 3, 4, 7, 8, 9, 10, 11],
+    library: |i, o| unsafe {
+        mq_commit(
+            i[0].at, i[0].len, i[1].at, i[1].len, i[2].at, i[2].len, o.at, o.len,
+        )
+    },
+    rendering: |i, out| reference::commit(i[0], i[1], i[2], out),
+};
+
+pub const HASH: Call = Call {
+    name: "mq_hash",
+    takes: &[Name::Key, Name::Leaves, Name::HashMatrix],
+    writes: Writes::Sections(2, 4),
+    answers: &[0, 1, 2, 3, 4, 5, 6, 7, 8, 10],
+    library: |i, o| unsafe {
+        mq_hash(
+            i[0].at, i[0].len, i[1].at, i[1].len, i[2].at, i[2].len, o.at, o.len,
+        )
+    },
+    rendering: |i, out| reference::hash(i[0], i[1], i[2], out),
+};
+
+pub const BATCH: Call = Call {
+    name: "mq_batch",
+    takes: &[Name::Key, Name::Leaves, Name::Witness, Name::Batching],
+    writes: Writes::Sections(4, 6),
+    answers: &[0, 1, 2, 3, 4, 5, 7, 8, 9, 10, 11],
+    library: |i, o| unsafe {
+        mq_batch(
+            i[0].at, i[0].len, i[1].at, i[1].len, i[2].at, i[2].len, i[3].at, i[3].len, o.at, o.len,
+        )
+    },
+    rendering: |i, out| reference::batch(i[0], i[1], i[2], i[3], out),
+};
+
+pub const PROVE: Call = Call {
+    name: "mq_prove",
+    takes: &[
+        Name::Key,
+        Name::Leaves,
+        Name::Witness,
+        Name::HashMatrix,
+        Name::Batching,
+    ],
+    writes: Writes::Sections(0, 6),
+    answers: &[0, 1, 2, 3, 4, 5, 6, 7, 8, 9, 10, 11],
+    library: |i, o| unsafe {
+        mq_prove(
+            i[0].at, i[0].len, i[1].at, i[1].len, i[2].at, i[2].len, i[3].at, i[3].len, i[4].at,
+            i[4].len, o.at, o.len,
+        )
+    },
+    rendering: |i, out| reference::prove(i[0], i[1], i[2], i[3], i[4], out),
+};
+
+/// Every call that is compared.
+pub const CALLS: &[Call] = &[TEST, COMMIT, HASH, BATCH, PROVE];
+
+/// The steps whose bytes, one after the other, are those of `PROVE`.
+pub const STEPS: &[Call] = &[COMMIT, HASH, BATCH];

@@ -1,0 +1,336 @@
+//! Groups of cases. Each group has its own random numbers, made from the run's seed and the group's number, so
+//! that it can be run alone.
+
+use crate::calls::{Call, CALLS, PROVE, STEPS, TEST};
+use crate::damage::{all, layout_agrees, Damage};
+use crate::inputs::{Inputs, Name, Output};
+use crate::judge::{describe, Expected, Judge};
+use reference::cases::Random;
+use reference::Answer;
+
+/// n, m, τ, t.
+pub type Sizes = (usize, usize, usize, usize);
+
+#[derive(Clone, Copy, Debug, PartialEq, Eq)]
+pub enum Group {
+    /// 01's toy, with its bytes written out.
+    Toy,
+    /// One size at its limit, past it, or 0.
+    Edge(Sizes),
+    /// Every pair of damages.
+    Pairs(Sizes),
+    /// Honest inputs, and every damage alone.
+    Shape(Sizes),
+    /// A shape and damages at random.
+    Random,
+}
+
+/// Small, and with spare bits in every section.
+const PAIRED: [Sizes; 2] = [(9, 3, 2, 5), (3, 9, 1, 2)];
+
+/// The limits, one and one more; multiples of 8 and their neighbours; the set of 150 variables.
+const SHAPES: [Sizes; 20] = [
+    (1, 1, 1, 1),
+    (2, 1, 1, 1),
+    (7, 8, 2, 9),
+    (8, 8, 8, 8),
+    (9, 7, 3, 8),
+    (16, 15, 2, 17),
+    (17, 17, 16, 15),
+    (24, 1, 17, 23),
+    (1, 160, 1, 1),
+    (1, 1, 48, 160),
+    (32, 33, 4, 31),
+    (63, 9, 5, 65),
+    (64, 3, 33, 64),
+    (65, 16, 2, 63),
+    (160, 2, 3, 1),
+    (159, 5, 2, 160),
+    (121, 160, 1, 7),
+    (160, 160, 1, 160),
+    (150, 150, 19, 144),
+    (160, 160, 48, 160),
+];
+
+/// The groups that every run has, before the random ones.
+pub fn fixed() -> Vec<Group> {
+    let mut groups = vec![Group::Toy];
+    for which in 0..4 {
+        let limit = [160, 160, 48, 160][which];
+        for size in [0, limit, limit + 1] {
+            let mut sizes = [3, 2, 2, 3];
+            sizes[which] = size;
+            groups.push(Group::Edge((sizes[0], sizes[1], sizes[2], sizes[3])));
+        }
+    }
+    groups.extend(PAIRED.map(Group::Pairs));
+    groups.extend(SHAPES.map(Group::Shape));
+    groups
+}
+
+/// Steps of the rendering, roughly: each repetition puts two quadratic forms of n² terms to each equation.
+fn cost(shape: &reference::key::Shape) -> usize {
+    let forms = shape.tau * shape.m * shape.n * shape.n * 10;
+    let hashes = shape.tau * shape.t * shape.k();
+    let leaves = shape.tau * 256 * shape.l() * 6;
+    forms + hashes + leaves
+}
+
+/// Above this the rendering is asked once for the whole proof, and no more.
+const DEAR: usize = 4_000_000;
+
+pub struct Run<'a> {
+    pub judge: &'a mut Judge,
+    pub random: Random,
+}
+
+impl Run<'_> {
+    pub fn group(&mut self, group: Group) -> Result<(), String> {
+        match group {
+            Group::Toy => self.toy(),
+            Group::Edge(sizes) => self.edge(sizes),
+            Group::Pairs(sizes) => self.pairs(sizes),
+            Group::Shape(sizes) => self.shape(sizes),
+            Group::Random => self.random_damages(),
+        }
+    }
+
+    fn inputs(&mut self, sizes: Sizes) -> Inputs {
+        let (n, m, tau, t) = sizes;
+        let inputs = Inputs::honest(self.random.number(), n, m, tau, t);
+        assert!(layout_agrees(&inputs), "the layout is not the rendering's");
+        inputs
+    }
+
+    fn put(
+        &mut self,
+        call: &Call,
+        inputs: &Inputs,
+        damages: &[Damage],
+        known: Option<&Expected>,
+    ) -> Result<Vec<u8>, String> {
+        self.judge
+            .compare(call, inputs, known, &mut self.random)
+            .map_err(|what| describe(call, inputs, damages, &what))
+    }
+
+    /// Every call on honest inputs; the steps' bytes are those of the whole. The rendering's proof is added to
+    /// the inputs.
+    fn honest(&mut self, inputs: &mut Inputs) -> Result<(), String> {
+        let mut proof = vec![0; PROVE.writes.length(&inputs.shape)];
+        let taken: Vec<&[u8]> = PROVE.takes.iter().map(|name| inputs.get(*name)).collect();
+        let answer = (PROVE.rendering)(&taken, &mut proof);
+        if answer != Answer::Accepted {
+            return Err(format!("the rendering answers {answer:?} to honest inputs"));
+        }
+        *inputs.get_mut(Name::Proof) = proof;
+
+        let dear = cost(&inputs.shape) > DEAR;
+        let known = |call: &Call| Expected {
+            answer: Answer::Accepted,
+            output: inputs.get(Name::Proof)[call.writes.part(&inputs.shape)].to_vec(),
+        };
+        let mut written = Vec::new();
+        for call in CALLS {
+            let known = if dear { Some(known(call)) } else { None };
+            let output = self.put(call, inputs, &[], known.as_ref())?;
+            written.push((call.name, output));
+        }
+        let of = |call: &Call| {
+            let found = written.iter().find(|(name, _)| *name == call.name);
+            found.unwrap().1.clone()
+        };
+        let whole = of(&PROVE);
+        let steps: Vec<u8> = STEPS.iter().flat_map(of).collect();
+        if steps != whole {
+            let what = "the steps' bytes are not those of the whole";
+            return Err(describe(&PROVE, inputs, &[], what));
+        }
+        Ok(())
+    }
+
+    /// Damaged inputs, to every call that takes one of those damaged.
+    fn damaged(&mut self, honest: &Inputs, damages: &[Damage]) -> Result<(), String> {
+        let mut inputs = honest.clone();
+        for damage in damages {
+            if !damage.apply(&mut inputs, &mut self.random) {
+                return Ok(());
+            }
+        }
+        for call in CALLS {
+            let concerns = |damage: &Damage| match damage.input() {
+                Some(name) => call.takes.contains(&name),
+                None => call.writes.length(&inputs.shape) > 0,
+            };
+            if damages.iter().any(concerns) {
+                self.put(call, &inputs, damages, None)?;
+            }
+        }
+        Ok(())
+    }
+
+    /// All damages of the inputs that some call takes.
+    fn damages(&self, inputs: &Inputs) -> Vec<Damage> {
+        let mut names = Vec::new();
+        for call in CALLS {
+            for name in call.takes {
+                if !names.contains(name) {
+                    names.push(*name);
+                }
+            }
+        }
+        let lengths: Vec<usize> = CALLS
+            .iter()
+            .map(|call| call.writes.length(&inputs.shape))
+            .collect();
+        let mut damages = all(&names, &lengths, &inputs.shape);
+        if cost(&inputs.shape) > DEAR {
+            damages.retain(|damage| !damage.keeps_form());
+        }
+        damages
+    }
+
+    fn shape(&mut self, sizes: Sizes) -> Result<(), String> {
+        let mut inputs = self.inputs(sizes);
+        self.honest(&mut inputs)?;
+        for damage in self.damages(&inputs) {
+            self.damaged(&inputs, &[damage])?;
+        }
+        Ok(())
+    }
+
+    fn pairs(&mut self, sizes: Sizes) -> Result<(), String> {
+        let mut inputs = self.inputs(sizes);
+        self.honest(&mut inputs)?;
+        let damages = self.damages(&inputs);
+        for first in &damages {
+            for second in &damages {
+                self.damaged(&inputs, &[*first, *second])?;
+            }
+        }
+        Ok(())
+    }
+
+    fn random_damages(&mut self) -> Result<(), String> {
+        let sizes = self.random_sizes();
+        let mut inputs = self.inputs(sizes);
+        self.honest(&mut inputs)?;
+        let damages = self.damages(&inputs);
+        for _ in 0..24 {
+            let how_many = 1 + self.random.below(3);
+            let chosen: Vec<Damage> = (0..how_many)
+                .map(|_| damages[self.random.below(damages.len())])
+                .collect();
+            self.damaged(&inputs, &chosen)?;
+        }
+        Ok(())
+    }
+
+    /// Mostly small, so that many are tried; some with one size up to its limit, and some large throughout.
+    fn random_sizes(&mut self) -> Sizes {
+        let small = [24, 24, 6, 24];
+        let limits = [160, 160, 48, 160];
+        let large = self.random.below(20);
+        let sizes: Vec<usize> = (0..4)
+            .map(|which| {
+                let limit = if large == which {
+                    limits[which]
+                } else {
+                    small[which]
+                };
+                let limit = if large == 4 { limits[which] / 3 } else { limit };
+                self.random_size(limit)
+            })
+            .collect();
+        (sizes[0], sizes[1], sizes[2], sizes[3])
+    }
+
+    /// Half of the time a multiple of 8 or beside one.
+    fn random_size(&mut self, limit: usize) -> usize {
+        let beside = 8 * self.random.below(limit / 8 + 1) + self.random.below(3);
+        let anywhere = 1 + self.random.below(limit);
+        let size = if self.random.below(2) == 0 {
+            anywhere
+        } else {
+            beside.saturating_sub(1)
+        };
+        size.clamp(1, limit)
+    }
+
+    /// A size out of range is refused 2 by every call, whatever else is right; at the limit it is taken.
+    fn edge(&mut self, sizes: Sizes) -> Result<(), String> {
+        let mut inputs = self.inputs(sizes);
+        if inputs.shape.in_range() {
+            self.honest(&mut inputs)?;
+        } else {
+            let refused = Expected {
+                answer: Answer::Refused {
+                    number: 2,
+                    place: 0,
+                },
+                output: Vec::new(),
+            };
+            for call in CALLS {
+                inputs.output = Output::Is(0);
+                self.put(call, &inputs, &[], Some(&refused))?;
+                inputs.output = Output::Exact;
+                self.put(call, &inputs, &[], None)?;
+            }
+        }
+        // With the header alone, a size in range leaves only the counts to be missed.
+        inputs.get_mut(Name::Key).truncate(8);
+        inputs.output = Output::Is(0);
+        let refused = Expected {
+            answer: Answer::Refused {
+                number: if inputs.shape.in_range() { 3 } else { 2 },
+                place: 0,
+            },
+            output: Vec::new(),
+        };
+        for call in CALLS {
+            self.put(call, &inputs, &[], Some(&refused))?;
+        }
+        Ok(())
+    }
+
+    /// "n=2, m=1, τ=1, t=1": bytes and answers as 01 gives them, with no rendering between.
+    fn toy(&mut self) -> Result<(), String> {
+        let mut inputs = self.inputs((2, 1, 1, 1));
+        let key = [
+            2, 0, 1, 0, 1, 0, 1, 0, 2, 0, 0, 0, 2, 0, 1, 0, 0, 0, 1, 1, 0, 0, 0, 1,
+        ];
+        let mut leaves = vec![0; 512];
+        leaves[4..8].copy_from_slice(&[0x05, 0x00, 0x02, 0x04]);
+        *inputs.get_mut(Name::Key) = key.to_vec();
+        *inputs.get_mut(Name::Leaves) = leaves;
+        *inputs.get_mut(Name::Witness) = vec![0x01];
+        *inputs.get_mut(Name::HashMatrix) = vec![0x05, 0x00];
+        *inputs.get_mut(Name::Batching) = vec![0x05];
+        let proof = Expected {
+            answer: Answer::Accepted,
+            output: vec![
+                0, 0, 0, 0, 1, 0, 0, 0, 0x02, 1, 0, 0, 0, 0x01, 1, 0, 0, 0, 0x03, 1, 0, 0, 0, 0x1C,
+                1, 0, 0, 0, 0x04,
+            ],
+        };
+        self.put(&PROVE, &inputs, &[], Some(&proof))?;
+        self.honest(&mut inputs)?;
+        if inputs.get(Name::Proof) != proof.output {
+            return Err("the rendering's toy is not 01's".to_string());
+        }
+        // "y = 0: witness refused 11 place 0".
+        inputs.get_mut(Name::Key)[23] = 0;
+        let refused = Expected {
+            answer: Answer::Refused {
+                number: 11,
+                place: 0,
+            },
+            output: Vec::new(),
+        };
+        self.put(&TEST, &inputs, &[], Some(&refused))?;
+        for call in CALLS {
+            self.put(call, &inputs, &[], None)?;
+        }
+        Ok(())
+    }
+}

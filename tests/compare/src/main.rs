@@ -1,0 +1,152 @@
+//! Holds libsolfadrus.a against the Rust rendering.
+//!
+//! compare [SEED] [--seconds S] [--group G] [--selftest]
+//!
+//! The seed is printed, and a run with the same seed makes the same cases. The fixed groups are always run, then
+//! random ones until so many seconds of processor time are over. `--group` runs one group alone; a difference says which.
+
+mod calls;
+mod damage;
+mod groups;
+mod inputs;
+mod judge;
+mod memory;
+mod selftest;
+mod sizes;
+mod watch;
+
+use groups::{fixed, Group, Run};
+use judge::{Judge, Tally};
+use reference::cases::Random;
+use reference::field::GF256;
+use reference::key::Shape;
+use std::process::exit;
+use std::time::{SystemTime, UNIX_EPOCH};
+
+struct Arguments {
+    seed: u64,
+    seconds: f64,
+    group: Option<usize>,
+    selftest: bool,
+}
+
+fn arguments() -> Option<Arguments> {
+    let mut arguments = Arguments {
+        seed: SystemTime::now()
+            .duration_since(UNIX_EPOCH)
+            .ok()?
+            .as_micros() as u64,
+        seconds: 22.0,
+        group: None,
+        selftest: false,
+    };
+    let mut words = std::env::args().skip(1);
+    while let Some(word) = words.next() {
+        match word.as_str() {
+            "--seconds" => arguments.seconds = words.next()?.parse().ok()?,
+            "--group" => arguments.group = Some(words.next()?.parse().ok()?),
+            "--selftest" => arguments.selftest = true,
+            seed => arguments.seed = seed.parse().ok()?,
+        }
+    }
+    Some(arguments)
+}
+
+fn main() {
+    let Some(arguments) = arguments() else {
+        eprintln!("usage: compare [SEED] [--seconds S] [--group G] [--selftest]");
+        exit(2);
+    };
+    println!("seed {}", arguments.seed);
+    watch::start(arguments.seed);
+    let result = if arguments.selftest {
+        selftest::run(arguments.seed)
+            .map(|reported| format!("selftest: {reported} changes made, each reported"))
+    } else {
+        compared(&arguments)
+    };
+    match result {
+        Ok(said) => println!("{said}"),
+        Err(said) => {
+            println!("DIFFERS: {said}");
+            exit(1);
+        }
+    }
+}
+
+fn compared(arguments: &Arguments) -> Result<String, String> {
+    let mut judge = Judge::new();
+    if let Some(group) = arguments.group {
+        one_group(&mut judge, arguments.seed, group)?;
+        return Ok(format!(
+            "group {group}: {} answers, all equal",
+            judge.compared()
+        ));
+    }
+    lengths()?;
+    let sizes = sizes::compare(&mut Random::new(arguments.seed), 0)?;
+    let mut group = 0;
+    while group < fixed().len() || watch::seconds() < arguments.seconds {
+        one_group(&mut judge, arguments.seed, group)?;
+        group += 1;
+    }
+    table(&judge.tally);
+    unmet(&judge.tally)?;
+    Ok(format!(
+        "compared: {group} groups, {} answers, {sizes} sizes; all equal",
+        judge.compared()
+    ))
+}
+
+fn one_group(judge: &mut Judge, seed: u64, number: usize) -> Result<(), String> {
+    watch::group(number);
+    let group = fixed().get(number).copied().unwrap_or(Group::Random);
+    // One step of the generator parts the seeds of neighbouring groups.
+    let mut random = Random::new(seed ^ (number as u64).wrapping_mul(0xD134_2543_DE82_EF95));
+    let random = Random::new(random.number());
+    Run { judge, random }.group(group).map_err(|what| {
+        format!("{what}  {group:?}; run again with the arguments: {seed} --group {number}")
+    })
+}
+
+fn lengths() -> Result<(), String> {
+    for (n, m, tau, t) in [(1, 1, 1, 1), (9, 3, 2, 5), (160, 160, 48, 160)] {
+        let shape = Shape {
+            field: GF256,
+            n,
+            m,
+            tau,
+            t,
+        };
+        if !sizes::own_lengths_agree(&shape) {
+            return Err("the lengths of this program are not the rendering's".to_string());
+        }
+    }
+    Ok(())
+}
+
+/// How often each call gave each number.
+fn table(tally: &Tally) {
+    print!("{:12}", "number");
+    (0..16).for_each(|number| print!("{number:>7}"));
+    println!();
+    for (name, numbers) in tally {
+        print!("{name:12}");
+        numbers.iter().for_each(|times| print!("{times:>7}"));
+        println!();
+    }
+}
+
+/// Every number that a call can answer must have come up.
+fn unmet(tally: &Tally) -> Result<(), String> {
+    for call in calls::CALLS {
+        for number in call.answers {
+            let met =
+                |(name, numbers): &(&str, [u64; 16])| *name == call.name && numbers[*number] > 0;
+            if !tally.iter().any(met) {
+                return Err(format!("no case in which {} answers {number}", call.name));
+            }
+        }
+    }
+    Ok(())
+}

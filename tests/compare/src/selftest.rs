@@ -1,0 +1,72 @@
+//! That a difference is reported: after the library has returned, one thing is changed that it answered or left
+//! behind, and the comparison must say so.
+
+use crate::calls::{Call, BATCH, CALLS, COMMIT, HASH, PROVE, TEST};
+use crate::inputs::{Inputs, Name, Output};
+use crate::judge::{Judge, Tamper};
+use crate::sizes;
+use reference::cases::Random;
+
+pub fn run(seed: u64) -> Result<u64, String> {
+    let mut random = Random::new(seed);
+    let mut judge = Judge::new();
+    let mut reported = 0;
+    for (name, call, inputs) in situations(&mut random) {
+        // Untouched, nothing may be reported.
+        judge.tamper = None;
+        judge
+            .compare(call, &inputs, None, &mut random)
+            .map_err(|what| format!("{name}, untouched: {what}"))?;
+        for tamper in tampers(call, &inputs) {
+            judge.tamper = Some(tamper);
+            if judge.compare(call, &inputs, None, &mut random).is_ok() {
+                return Err(format!("{name}: {tamper:?} went unreported"));
+            }
+            reported += 1;
+        }
+    }
+    if sizes::compare(&mut random, 1).is_ok() {
+        return Err("a size function that is off by one went unreported".to_string());
+    }
+    Ok(reported + 1)
+}
+
+/// Accepted and refused calls of each kind.
+fn situations(random: &mut Random) -> Vec<(String, &'static Call, Inputs)> {
+    let honest = Inputs::honest(random.number(), 9, 3, 2, 5);
+    let mut situations = Vec::new();
+    for call in CALLS {
+        situations.push((format!("{} accepted", call.name), call, honest.clone()));
+    }
+    for call in [&COMMIT, &HASH, &BATCH, &PROVE] {
+        let mut inputs = honest.clone();
+        inputs.output = Output::More(1);
+        situations.push((format!("{} refused 10", call.name), call, inputs));
+    }
+    // Only equation 0 fails, so that naming another is wrong.
+    for call in [&TEST, &COMMIT, &BATCH, &PROVE] {
+        let mut inputs = honest.clone();
+        let y = inputs.get(Name::Key).len() - 1;
+        inputs.get_mut(Name::Key)[y] ^= 1;
+        situations.push((format!("{} refused 11", call.name), call, inputs));
+    }
+    situations
+}
+
+/// What can be changed after this call.
+fn tampers(call: &Call, inputs: &Inputs) -> Vec<Tamper> {
+    let mut tampers = vec![
+        Tamper::Word(1),
+        Tamper::Word(1 << 16),
+        Tamper::Word(1 << 31),
+        Tamper::GuardBefore,
+        Tamper::GuardAfter,
+    ];
+    tampers.extend((0..call.takes.len()).map(Tamper::Input));
+    if call.writes.length(&inputs.shape) > 0 {
+        let last = call.writes.length(&inputs.shape) - 1;
+        tampers.extend((0..=last).map(Tamper::Output));
+        tampers.push(Tamper::OutputFromEnd(0));
+    }
+    tampers
+}

@@ -1,0 +1,21 @@
+# Read by the other scripts: what they need, and where the library is.
+
+# need PROGRAM PACKAGE: installs the Debian package where the program is missing.
+need() {
+    command -v "$1" >/dev/null 2>&1 && return
+    { apt-get update -qq && apt-get install -y -qq "$2"; } >/dev/null
+}
+
+# The directory that has libsolfadrus.a: that of SOLFADRUS_LIB_DIR, or else the one that rt proves and builds.
+library() {
+    if [ -n "${SOLFADRUS_LIB_DIR:-}" ]; then
+        echo "$SOLFADRUS_LIB_DIR"
+        return
+    fi
+    mkdir -p target
+    rt staticlib solfadrus >target/staticlib.log 2>&1 || {
+        tail -n 60 target/staticlib.log >&2
+        return 1
+    }
+    echo "$PWD/target/staticlib"
+}
