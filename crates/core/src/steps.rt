@@ -38,12 +38,12 @@ pub fn fill_commit(
 
 // The sums of each four coordinates that a row of H′, or of a matrix, can select.
 pub fn fill_entries(entries: &mut [u8], table: &[u8], s: Sizes)
-    requires { ⌜ (limits (shapeFor s) ≡ true) × (length (now table) ≡ 8 * wOf bits256 (shapeFor s) * lanes) ⌝ }
-    ensures { λ _. ⌜ Tabled (take (bytesFor (kOf bits256 (shapeFor s)) * 8 * lanes) (now (table .entry))) (now (entries .exit)) ⌝ }
+    requires { ⌜ (limits (shapeFor s) ≡ true) × (length (now table) ≡ 8 * wOf bits256 (shapeFor s) * lanes) × (bytesFor (kOf bits256 (shapeFor s)) * 32 * lanes ≤ length (now entries)) ⌝ }
+    ensures { λ _. ⌜ Tabled (take (bytesFor (kOf bits256 (shapeFor s)) * 8 * lanes) (now (table .entry))) (now (entries .exit)) (bytesFor (kOf bits256 (shapeFor s)) * 32) ⌝ }
 {
     let width = format::sizes::bytes_for(format::sizes::hashed_bits(s));
     let rows = width * 8;
-    lanes::fill_sums(entries, rows, &table[..rows * LANES]);
+    lanes::fill_sums(entries, width * 32, rows, &table[..rows * LANES]);
 }
 
 // ũ and Ṽ.
@@ -59,7 +59,7 @@ pub fn fill_hash(
 )
     requires { ⌜ (limits (shapeFor s) ≡ true) × HashForm (shapeFor s) (now matrix) × Loaded (shapeFor s) (now leaves) (now table) (now sums) ⌝ }
     requires { ⌜ (length (now ut) ≡ bytesFor (s .t)) × (length (now vt) ≡ s .tau * s .t) ⌝ }
-    requires { ⌜ (bytesFor (kOf bits256 (shapeFor s)) * 32 * lanes ≤ length (now entries)) × Tabled (take (bytesFor (kOf bits256 (shapeFor s)) * 8 * lanes) (now table)) (now entries) ⌝ }
+    requires { ⌜ (bytesFor (kOf bits256 (shapeFor s)) * 32 * lanes ≤ length (now entries)) × Tabled (take (bytesFor (kOf bits256 (shapeFor s)) * 8 * lanes) (now table)) (now entries) (bytesFor (kOf bits256 (shapeFor s)) * 32) ⌝ }
     ensures { λ _. ⌜ now (ut .exit) ≡ ũSection bits256 (shapeFor s) (now (leaves .entry)) (now (matrix .entry)) ⌝ }
     ensures { λ _. ⌜ now (vt .exit) ≡ ṼSection bits256 (shapeFor s) (now (leaves .entry)) (now (matrix .entry)) ⌝ }
 {

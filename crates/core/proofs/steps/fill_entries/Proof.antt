@@ -41,6 +41,11 @@ mul-fill-sums c =
     let s = c .before .before .before .before .before in
     omega (arith, width (c .before .before .hashed-bits .result) (c .before .bytes-for .result) _ (c .before .before .hashed-bits .ensures) (c .before .bytes-for .ensures) (k-most (shapeFor (s .args .s)) (s .pre .0)))
 
+mul-fill-sums-2 : tie.Need-mul-fill-sums-2
+mul-fill-sums-2 c =
+    let s = c .before .before .before .before .before in
+    omega (arith, width (c .before .before .hashed-bits .result) (c .before .bytes-for .result) _ (c .before .before .hashed-bits .ensures) (c .before .bytes-for .ensures) (k-most (shapeFor (s .args .s)) (s .pre .0)))
+
 slice-aggregate-fill-sums : tie.Need-slice-aggregate-fill-sums
 slice-aggregate-fill-sums c =
     let s = c .before .before .before .before .before .before in
@@ -51,7 +56,7 @@ fill-sums-requires : tie.Need-fill-sums-requires
 fill-sums-requires c κs =
     let s = c .before .before .before .before .before .before in
     let width : c .before .before .bytes-for .result ≡ bytesFor (kOf bits256 (shapeFor (s .args .s))) = c .before .before .bytes-for .ensures ∙ ap bytesFor (c .before .before .before .hashed-bits .ensures) in
-    simp length-take (omega (arith, k-fits (shapeFor (s .args .s))))
+    (omega (arith, s .pre .2), simp length-take (omega (arith, k-fits (shapeFor (s .args .s)))))
 
 same-length : tie.Need-same-length
 same-length c = search needs
@@ -70,6 +75,7 @@ fill-entries-spec =
     bytes-for-requires
     mul-rows
     mul-fill-sums
+    mul-fill-sums-2
     slice-aggregate-fill-sums
     fill-sums-requires
     same-length
