@@ -47,3 +47,7 @@ room s h =
       row-room = row-most s h;
       entries-room = omega (arith, bytes-most (kOf bits256 s) (k-most s h));
     }
+
+pub bits-fit : (L : ℕ) → L ≤ bytesFor L * 8
+unfolding bytesFor
+bits-fit L = omega arith

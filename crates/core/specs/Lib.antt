@@ -1,3 +1,4 @@
 pub mod Hashed
 pub mod Loaded
 pub mod Facts
+pub mod Solved

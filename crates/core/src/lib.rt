@@ -2,6 +2,7 @@
 pub mod calls;
 mod hash;
 mod steps;
+mod witness;
 
 ghost use mathlib.Core.Path.{_≡_};
 ghost use mathlib.Core.List.{[], _∷_};

@@ -1,0 +1,15 @@
+-- The answer to question 11 alone.
+--   SolvedAs key x a == a is accepted and the witness x solves the system, or a is refused 11 at an equation that fails
+-- Assumes nothing.
+use mathlib.Core.Path.{_≡_}
+use mathlib.Core.Bool.{true, false}
+use mathlib.Core.List.{List}
+use Prim.Native.Nat.{ℕ}
+use Rattle.protocol.specs.Binary.{bits256}
+use Rattle.protocol.specs.Shape.{shapeOf}
+use Rattle.protocol.specs.Answers.{Answer, accepted, refused}
+use Rattle.protocol.specs.Questions.{solves, namesFailing}
+
+abbrev pub SolvedAs : List ℕ → List ℕ → Answer → Type 0
+SolvedAs key x accepted = solves bits256 (shapeOf key) key x ≡ true
+SolvedAs key x (refused i p) = (i ≡ 11) × (solves bits256 (shapeOf key) key x ≡ false) × namesFailing bits256 (shapeOf key) key x p
