@@ -6,3 +6,4 @@ pub mod FitLaws
 pub mod HashSections
 pub mod LoadedLaws
 pub mod FactLaws
+pub mod ReplyLaws

@@ -8,9 +8,9 @@ ghost use Rattle.protocol.specs.Strings.{bytesFor};
 ghost use Rattle.protocol.specs.Frames.{frame};
 ghost use Rattle.protocol.specs.Binary.{bits256};
 ghost use Rattle.protocol.specs.Shape.{limits, kOf, wOf};
-ghost use Rattle.protocol.specs.Prover.{cSection, dSection, ũSection, ṼSection, hashBytes};
+ghost use Rattle.protocol.specs.Prover.{cSection, dSection, ũSection, ṼSection, commitBytes, hashBytes};
 ghost use Rattle.protocol.specs.Answers.{written};
-ghost use Rattle.protocol.specs.Calls.{hashAnswer};
+ghost use Rattle.protocol.specs.Calls.{hashAnswer, TestReply, CommitReply};
 ghost use Rattle.lanes.specs.Lanes.{lanes};
 ghost use Rattle.format.specs.Sizes.{shapeFor};
 ghost use Rattle.format.specs.Verdict.{answerOf};
@@ -19,6 +19,7 @@ use super::put_two;
 use super::steps::fill_commit;
 use super::steps::fill_entries;
 use super::steps::fill_hash;
+use super::witness::solved;
 use format::Sizes;
 use format::Verdict;
 use lanes::LANES;
@@ -93,4 +94,79 @@ pub fn hash(key: &[u8], leaves: &[u8], matrix: &[u8], out: &mut [u8]) -> Verdict
     };
     write_hash(out, leaves, matrix, format::sizes::sizes_of(key));
     form
+}
+
+// The test of a key and a witness (01): questions 1 to 4, 9, 11.
+pub fn test(key: &[u8], witness: &[u8]) -> Verdict
+    ensures { λ r. ⌜ TestReply bits256 (now (key .entry)) (now (witness .entry)) (answerOf r) ⌝ }
+{
+    let form = format::calls::test_form(key, witness);
+    let Verdict::Accepted = form else {
+        return form;
+    };
+    solved(key, witness)
+}
+
+// The first step in buffers of exact length.
+fn commit_sections(
+    out: &mut [u8],
+    table: &mut [u8],
+    sums: &mut [u8],
+    c: &mut [u8],
+    d: &mut [u8],
+    leaves: &[u8],
+    witness: &[u8],
+    s: Sizes,
+)
+    requires { ⌜ (limits (shapeFor s) ≡ true) × LeavesForm (shapeFor s) (now leaves) × (length (now witness) ≡ bytesFor (s .n)) ⌝ }
+    requires { ⌜ (length (now table) ≡ 8 * wOf bits256 (shapeFor s) * lanes) × (length (now sums) ≡ s .tau * wOf bits256 (shapeFor s)) ⌝ }
+    requires { ⌜ (length (now c) ≡ (s .tau - 1) * wOf bits256 (shapeFor s)) × (length (now d) ≡ bytesFor (s .n)) × (length (now out) ≡ 8 + length (now c) + length (now d)) ⌝ }
+    ensures { λ _. ⌜ now (out .exit) ≡ frame (cSection bits256 (shapeFor s) (now (leaves .entry)) ∷ dSection bits256 (shapeFor s) (now (leaves .entry)) (now (witness .entry)) ∷ []) ⌝ }
+{
+    let w = format::sizes::leaf_bytes(s);
+    let tau = s.tau;
+    vole::load_trees(table, sums, leaves, tau, w);
+    fill_commit(c, d, witness, leaves, table, sums, s);
+    put_two(out, c, d);
+}
+
+// The first step: C and d.
+fn write_commit(out: &mut [u8], leaves: &[u8], witness: &[u8], s: Sizes)
+    requires { ⌜ (limits (shapeFor s) ≡ true) × LeavesForm (shapeFor s) (now leaves) × (length (now witness) ≡ bytesFor (s .n)) × (length (now out) ≡ 8 + (s .tau - 1) * wOf bits256 (shapeFor s) + bytesFor (s .n)) ⌝ }
+    ensures { λ _. ⌜ now (out .exit) ≡ frame (cSection bits256 (shapeFor s) (now (leaves .entry)) ∷ dSection bits256 (shapeFor s) (now (leaves .entry)) (now (witness .entry)) ∷ []) ⌝ }
+{
+    let w = format::sizes::leaf_bytes(s);
+    let tau = s.tau;
+    let width = format::sizes::witness_bytes(s);
+    let mut table = [0u8; 8 * MOST_LEAF * LANES];
+    let mut sums = [0u8; LANES * MOST_LEAF];
+    let mut c = [0u8; LANES * MOST_LEAF];
+    let mut d = [0u8; MOST_ROW];
+    commit_sections(
+        out,
+        &mut table[..8 * w * LANES],
+        &mut sums[..tau * w],
+        &mut c[..(tau - 1) * w],
+        &mut d[..width],
+        leaves,
+        witness,
+        s,
+    );
+}
+
+// The first step (01): commit. It takes the witness, and writes the sections C and d.
+pub fn commit(key: &[u8], leaves: &[u8], witness: &[u8], out: &mut [u8]) -> Verdict
+    ensures { λ r. ⌜ CommitReply bits256 (now (key .entry)) (now (leaves .entry)) (now (witness .entry)) (now (out .entry)) (answerOf r) ⌝ }
+    ensures { λ r. ⌜ now (out .exit) ≡ written (answerOf r) (now (out .entry)) (commitBytes bits256 (now (key .entry)) (now (leaves .entry)) (now (witness .entry))) ⌝ }
+{
+    let form = format::calls::commit_form(key, leaves, witness, out.len());
+    let Verdict::Accepted = form else {
+        return form;
+    };
+    let answer = solved(key, witness);
+    let Verdict::Accepted = answer else {
+        return answer;
+    };
+    write_commit(out, leaves, witness, format::sizes::sizes_of(key));
+    answer
 }
