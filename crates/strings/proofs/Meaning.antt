@@ -1,9 +1,9 @@
--- From bytes to elements: an exclusive or of numbers is a sum of elements, and a bit of such a sum is the sum of the bits.
+-- From bytes to elements: an exclusive or of numbers is a sum of elements, a bit of such a sum is the sum of the bits, and a bit scales an element.
 -- Assumes nothing.
 use mathlib.Core.Path.{_≡_, refl, sym, ap, ap₂, _∙_}
 use mathlib.Core.List.{List}
 use Prim.Native.Nat.{ℕ, zero, suc, _+_, _*_, _/_, _%_, _^_, _<_}
-use native.Mathlib.Nat.{mod-lt, zero-mul, one-mul, mul-zero, mul-one, zero-div}
+use native.Mathlib.Nat.{mod-lt, zero-mul, one-mul, mul-zero, mul-one, mul-comm, zero-div}
 use native.Mathlib.Omega.{arith}
 use lib.Arith.{digits-div, digits-mod}
 use lib.Dec.{lit<}
@@ -12,6 +12,7 @@ use Rattle.algebra.specs.Ring.{Ring}
 use Rattle.algebra.specs.Field.{Field}
 use Rattle.algebra.specs.Coded.{Coded, mulByte}
 use Rattle.algebra.specs.Sum.{sum}
+use Rattle.algebra.proofs.RingLaws.{ring}
 use Rattle.protocol.specs.Strings.{bit}
 use Rattle.strings.specs.Sums.{byteAt, bitOf, xorSum}
 
@@ -53,7 +54,7 @@ bit-place s b p h = bit-is s (b * 8 + p) ∙ ap₂ (λ (q r : ℕ). bitOf (byteA
 module _ (C : Coded) where
   open Coded C using (base, elem, byte)
   open Field base using (R)
-  open Ring R using (F, 𝟘, 𝟙, add as _⊕_, mul as _⊗_, mul-one, mul-comm)
+  open Ring R using (F, 𝟘, 𝟙, add as _⊕_, mul as _⊗_)
 
   infixl 65 _⊕_
   infixl 70 _⊗_
@@ -69,3 +70,19 @@ module _ (C : Coded) where
 
   pub elem-product : (a b : ℕ) → elem (mulByte C a b) ≡ elem a ⊗ elem b
   elem-product a b = C .elem-byte (elem a ⊗ elem b)
+
+  pub byte-bit : (q : ℕ) → q < 2 → byte (elem q) ≡ q
+  byte-bit q h = C .byte-elem q (omega (arith, base .four≤size))
+
+  -- an element times a bit
+  pub byte-times : (x q : ℕ) → x < base .size → q < 2 → byte (elem x ⊗ elem q) ≡ x * q
+  byte-times x zero h k = ap byte (ap (λ y. elem x ⊗ y) (C .elem-zero) ∙ none (elem x) ∙ sym (C .elem-zero)) ∙ byte-bit 0 (lit< tt) ∙ sym (mul-zero x)
+    where
+      none : (a : F) → a ⊗ 𝟘 ≡ 𝟘
+      none a = simp ring
+  byte-times x (suc zero) h k = ap byte (ap (λ y. elem x ⊗ y) (C .elem-one) ∙ R .mul-one (elem x)) ∙ C .byte-elem x h ∙ sym (mul-one x)
+  byte-times x (suc (suc q)) h k = absurd (omega arith)
+
+  pub byte-scale : (q : ℕ) (a : F) → q < 2 → byte (elem q ⊗ a) ≡ q * byte a
+  byte-scale q a h =
+      ap (λ y. byte (elem q ⊗ y)) (sym (C .elem-byte a)) ∙ ap byte (R .mul-comm (elem q) (elem (byte a))) ∙ byte-times (byte a) q (C .byte-lt a) h ∙ mul-comm (byte a) q

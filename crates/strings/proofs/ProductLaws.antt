@@ -12,12 +12,14 @@ use lib.Count.{ones, ones-step, ones-le}
 use lib.Dec.{lit<}
 use lib.ListN.{length}
 use lib.Pow.{shr-shr}
+use Rattle.algebra.specs.Coded.{Coded}
+use Rattle.algebra.specs.Sum.{sum}
 use Rattle.protocol.specs.Strings.{bit}
 use Rattle.protocol.proofs.StringLaws.{bit-lt}
 use Rattle.strings.specs.Sums.{byteAt, bitOf, xorSum}
 use Rattle.strings.specs.Products.{shared, product, RowProduct}
 use Rattle.strings.proofs.SumLaws.{sum-same, sum-parts, sum-lt}
-use Rattle.strings.proofs.Meaning.{bit-place}
+use Rattle.strings.proofs.Meaning.{bit-place, byte-sum, byte-bit, byte-scale}
 
 pub parity-add : (a b : ℕ) → (a + b) % 2 ≡ bitXor (a % 2) (b % 2)
 parity-add a b =
@@ -77,6 +79,12 @@ shared-parity (suc n) row x h =
 
 pub row-product : RowProduct
 row-product row x h l = shared-parity (length row) row x h
+
+-- the product of two rows of bits, as any field of characteristic 2 has it
+pub product-sum : (C : Coded) (n : ℕ) (row x : List ℕ) → C .byte (sum (C .base .R) n (λ c. C .base .R .mul (C .elem (bit row c)) (C .elem (bit x c)))) ≡ product n row x
+product-sum C n row x =
+    byte-sum C n _
+    ∙ sum-same n _ _ (λ c l. byte-scale C (bit row c) (C .elem (bit x c)) (bit-lt row c) ∙ ap (λ y. bit row c * y) (byte-bit C (bit x c) (bit-lt x c)))
 
 -- ---- bounds
 

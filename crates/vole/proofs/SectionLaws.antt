@@ -24,14 +24,14 @@ use Rattle.protocol.proofs.TestLaws.{eqb-eq, all-at}
 use Rattle.strings.specs.Sums.{byteAt, bitOf}
 use Rattle.strings.specs.Products.{product}
 use Rattle.strings.proofs.Rows.{row-end, row-byte, row-lt}
-use Rattle.strings.proofs.Meaning.{bitOf-xor, bit-is, byte-sum}
+use Rattle.strings.proofs.Meaning.{bitOf-xor, bit-is, byte-sum, byte-bit, byte-scale}
 use Rattle.strings.proofs.SumLaws.{sum-same, sum-short}
 use Rattle.strings.proofs.ProductLaws.{product-lt}
 use Rattle.strings.proofs.Packed.{packed, pack-congr, rows-are}
 use Rattle.vole.specs.Hash.{hashBit}
 use Rattle.vole.specs.Sums.{SumsAre, CorrectionsAre}
 use Rattle.vole.proofs.HashLaws.{hash-split}
-use Rattle.vole.proofs.SumsMeaning.{byteOf, byte-bit, byte-scale, u-lt, u-spare, sums-u}
+use Rattle.vole.proofs.SumsMeaning.{byteOf, u-lt, u-spare, sums-u}
 
 abbrev Element : Type 0
 Element = bits256 .K .base .R .F

@@ -3,15 +3,11 @@
 use mathlib.Core.Path.{_≡_, refl, sym, ap, _∙_}
 use mathlib.Core.Bool.{true}
 use mathlib.Core.List.{List}
-use Prim.Native.Nat.{ℕ, zero, suc, _+_, _*_, _/_, _%_, _≤_, _<_}
-use native.Mathlib.Nat.{mul-zero, mul-one, mul-comm, mod-eq-of-lt}
+use Prim.Native.Nat.{ℕ, _+_, _*_, _/_, _%_, _≤_, _<_}
+use native.Mathlib.Nat.{mod-eq-of-lt}
 use native.Mathlib.Omega.{arith}
 use lib.Dec.{lit<}
 use lib.ListN.{length}
-use Rattle.algebra.specs.Ring.{Ring}
-use Rattle.algebra.specs.Field.{Field}
-use Rattle.algebra.specs.Coded.{Coded}
-use Rattle.algebra.proofs.RingLaws.{ring}
 use Rattle.protocol.specs.Lists.{allBelow, blockAt}
 use Rattle.protocol.specs.Strings.{bit, spareZero}
 use Rattle.protocol.specs.Alphabet.{sym as symbol}
@@ -27,31 +23,8 @@ use Rattle.protocol.proofs.StringLaws.{bit-lt, spare-at}
 use Rattle.strings.specs.Sums.{byteAt, bitOf, xorSum}
 use Rattle.strings.proofs.Rows.{row-byte}
 use Rattle.strings.proofs.SumLaws.{sum-same, sum-lt, sum-none}
-use Rattle.strings.proofs.Meaning.{bitOf-sum, bit-is, byte-sum}
+use Rattle.strings.proofs.Meaning.{bitOf-sum, bit-is, byte-sum, byte-bit, byte-times}
 use Rattle.vole.specs.Sums.{lanes, vByte, SumsAre, TableIs}
-
-module _ (C : Coded) where
-  open Coded C using (base, elem, byte)
-  open Field base using (R)
-  open Ring R using (F, 𝟘, 𝟙, add as _⊕_, mul as _⊗_)
-
-  infixl 65 _⊕_
-  infixl 70 _⊗_
-  pub byte-bit : (q : ℕ) → q < 2 → byte (elem q) ≡ q
-  byte-bit q h = C .byte-elem q (omega (arith, base .four≤size))
-
-  -- an element times a bit
-  pub byte-times : (x q : ℕ) → x < base .size → q < 2 → byte (elem x ⊗ elem q) ≡ x * q
-  byte-times x zero h k = ap byte (ap (λ y. elem x ⊗ y) (C .elem-zero) ∙ none (elem x) ∙ sym (C .elem-zero)) ∙ byte-bit 0 (lit< tt) ∙ sym (mul-zero x)
-    where
-      none : (a : F) → a ⊗ 𝟘 ≡ 𝟘
-      none a = simp ring
-  byte-times x (suc zero) h k = ap byte (ap (λ y. elem x ⊗ y) (C .elem-one) ∙ R .mul-one (elem x)) ∙ C .byte-elem x h ∙ sym (mul-one x)
-  byte-times x (suc (suc q)) h k = absurd (omega arith)
-
-  pub byte-scale : (q : ℕ) (a : F) → q < 2 → byte (elem q ⊗ a) ≡ q * byte a
-  byte-scale q a h =
-      ap (λ y. byte (elem q ⊗ y)) (sym (C .elem-byte a)) ∙ ap byte (R .mul-comm (elem q) (elem (byte a))) ∙ byte-times (byte a) q (C .byte-lt a) h ∙ mul-comm (byte a) q
 
 pub per-tree : perTree bits256 ≡ 256
 unfolding perTree

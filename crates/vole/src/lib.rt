@@ -13,7 +13,7 @@ ghost use Rattle.vole.specs.Sums.{lanes, mostWidth, planeByte, uByte, vB
 // Repetitions side by side in a table: entry c of repetition e stands at c·LANES + e. The stride is fixed, so that loops over it have a constant length.
 pub const LANES: usize = 48;
 
-// Adds a row to the planes p below r whose bit is set in j, which is public.
+// A step of 01's v_e = Σ j·ℓ(e,j), bit by bit of the weight: adds a row to the planes p below r whose bit is set in j. The weight is public.
 pub fn absorb(planes: &mut [u8], r: usize, j: usize, row: &[u8])
     requires { ⌜ (length (now planes) ≡ r * length (now row)) × (r ≤ 8) ⌝ }
     ensures { λ _. ⌜ ((p b : ℕ) → p < r → b < length (now (row .entry)) → byteAt (now (planes .exit)) (p * length (now (row .entry)) + b) ≡ bitXor (byteAt (now (planes .entry)) (p * length (now (row .entry)) + b)) (bitOf j p * byteAt (now (row .entry)) b)) ⌝ }
@@ -73,8 +73,8 @@ fn spread_byte(table: &mut [u8], e: usize, planes: &[u8], w: usize, b: usize)
     }
 }
 
-// Writes lane e of the table from the planes of one tree: bit p of coordinate c is coordinate c of plane p. Bytes are walked, and the eight
-// places in each.
+// 01's v_e, coordinate by coordinate: writes lane e of the table from the planes of one tree. Bit p of coordinate c is coordinate c of plane
+// p. Bytes are walked, and the eight places in each.
 pub fn spread(table: &mut [u8], e: usize, planes: &[u8], w: usize)
     requires { ⌜ (length (now table) ≡ 8 * w * lanes) × (length (now planes) ≡ 8 * w) × (e < lanes) ⌝ }
     ensures { λ _. ⌜ ((c : ℕ) → c < 8 * w → byteAt (now (table .exit)) (c * lanes + e) ≡ fromBits 8 (λ p. bit (blockAt (now (planes .entry)) w p) c)) ⌝ }
@@ -144,7 +144,7 @@ fn write_correction(out: &mut [u8], sums: &[u8], e: usize, w: usize)
     strings::xor_of(&mut out[at..at + w], next, first);
 }
 
-// The section C: the corrections of repetitions 1 to tau - 1, from the rows u_e. C_0 is all zero and not sent.
+// 01's section C: C_e = u_e + u for e = 1 to tau - 1, from the rows u_e. C_0 is all zero and not sent.
 pub fn write_corrections(out: &mut [u8], sums: &[u8], tau: usize, w: usize)
     requires { ⌜ (length (now sums) ≡ tau * w) × (length (now out) ≡ (tau - 1) * w) × (tau ≤ lanes) ⌝ }
     ensures { λ _. ⌜ CorrectionsAre (now (out .exit)) (now (sums .entry)) (tau - 1) w ⌝ }
@@ -156,7 +156,7 @@ pub fn write_corrections(out: &mut [u8], sums: &[u8], tau: usize, w: usize)
     }
 }
 
-// The section d = x + the first n bits of u. The mask bits of u that share its last byte are cleared.
+// 01's section d = x + the first n bits of u. The mask bits of u that share its last byte are cleared.
 pub fn write_difference(out: &mut [u8], witness: &[u8], u: &[u8], n: usize)
     requires { ⌜ (length (now out) ≡ bytesFor n) × (length (now witness) ≡ bytesFor n) × (bytesFor n ≤ length (now u)) ⌝ }
     ensures { λ _. ⌜ now (out .exit) ≡ pack n (λ c. bitXor (bit (now (witness .entry)) c) (bit (now (u .entry)) c)) ⌝ }
@@ -176,7 +176,7 @@ fn hash_bit(matrix: &[u8], u: &[u8], k: usize, rho: usize) -> u8
     strings::row_product(row, &u[..width]) ^ strings::bit_at(u, k + rho)
 }
 
-// The section ũ = H·u, of t bits.
+// 01's section ũ = H·u, of t bits, with H′ as the matrix.
 pub fn write_hash_bits(out: &mut [u8], matrix: &[u8], u: &[u8], k: usize, t: usize)
     requires { ⌜ (length (now out) ≡ bytesFor t) × (length (now matrix) ≡ t * bytesFor k) × (k + t ≤ length (now u) * 8) × (length (now u) ≤ 100000) ⌝ }
     ensures { λ _. ⌜ now (out .exit) ≡ pack t (hashBit (now (matrix .entry)) (now (u .entry)) k) ⌝ }
