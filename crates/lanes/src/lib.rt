@@ -14,10 +14,10 @@ use field::Gf256;
 // As many as a key may have repetitions (01: 1..48). Lanes from a key's own number on hold anything.
 pub const LANES: usize = 48;
 
-// The entries of the table of sums for four coordinates, one for each value of half a byte, and for the eight of a byte.
+// The entries of the table of sums for four coordinates, one for each value of half a byte of a row; and for the eight of a byte.
 const HALF: usize = 16;
 
-const BYTE: usize = 32;
+pub const PER_BYTE: usize = 32;
 
 fn wide(x: u8) -> usize
     ensures { λ r. ⌜ r ≡ x ⌝ }
@@ -99,7 +99,7 @@ fn add_chosen(dst: &mut [u8; LANES], b: usize, x: u8, sums: &[u8])
     ensures { λ _. ⌜ length (now (dst .exit)) ≡ lanes ⌝ }
     ensures { λ _. ⌜ ((e : ℕ) → e < lanes → byteAt (now (dst .exit)) e ≡ bitXor (byteAt (now (dst .entry)) e) (bitXor (laneAt (now (sums .entry)) (b * 32 + x % 16) e) (laneAt (now (sums .entry)) (b * 32 + 16 + x / 16) e))) ⌝ }
 {
-    let first = b * BYTE;
+    let first = b * PER_BYTE;
     let low = wide(x % 16);
     let high = wide(x / 16);
     xor_entries(

@@ -1,4 +1,4 @@
--- A block of a block is a block; a string has no bits past its end.
+-- A block of a block is a block; the bytes of a string hold its bits, and it has none past its end.
 -- Assumes nothing.
 use mathlib.Core.Path.{_≡_, refl, sym, ap, _∙_}
 use mathlib.Core.Bool.{true}
@@ -10,7 +10,7 @@ use native.Mathlib.Omega.{arith}
 use lib.ListN.{length, take, drop, List·getD-eq-default}
 use lib.Seq.{take-take, drop-drop}
 use Rattle.protocol.specs.Lists.{part, blockAt}
-use Rattle.protocol.specs.Strings.{bit, spareZero}
+use Rattle.protocol.specs.Strings.{bytesFor, bit, spareZero}
 use Rattle.protocol.proofs.StringLaws.{spare-at}
 use Rattle.strings.proofs.Rows.{row-end}
 
@@ -27,6 +27,10 @@ block-block s n w i ρ h =
     let e : i * (n * w) + ρ * w ≡ (i * n + ρ) * w = ap (λ (k : ℕ). k + ρ * w) (sym (mul-assoc i n w)) ∙ sym (add-mul (i * n) ρ w) in
     part-take w (ρ * w) (n * w) (drop (i * (n * w)) s) (row-end ρ n w h)
     ∙ ap (take w) (drop-drop (ρ * w) (i * (n * w)) s ∙ ap (λ (k : ℕ). drop k s) e)
+
+pub bytes-enough : (n : ℕ) → n ≤ bytesFor n * 8
+unfolding bytesFor
+bytes-enough n = omega arith
 
 pub bit-past : (s : List ℕ) (c : ℕ) → length s * 8 ≤ c → bit s c ≡ 0
 unfolding bit

@@ -1,5 +1,5 @@
 -- The equations of a key at the bits of a witness, on bytes.
---   rowProduct row x == the product over GF(2) of the whole of a row with x;  rowOf n A ρ == row ρ of a matrix of n variables
+--   rowProduct row x == the product over GF(2) of the whole of a row with x;  rowOf n A ρ == row ρ of a matrix of n variables;  matrixOf n A i == matrix i of a section
 --   errorBit n A b y x == xᵀ·A·x + b·x + y;  errorOf n A b y x i == the error of equation i of the sections A, b, y at x
 --   FirstIn errors found == found is the first of the errors that is not 0, or that there is none
 -- Assumes nothing.
@@ -22,11 +22,14 @@ rowProduct row x = product (length row * 8) row x
 abbrev pub rowOf : ℕ → List ℕ → ℕ → List ℕ
 rowOf n A ρ = blockAt A (bytesFor n) ρ
 
+abbrev pub matrixOf : ℕ → List ℕ → ℕ → List ℕ
+matrixOf n A i = blockAt A (n * bytesFor n) i
+
 unfoldable pub errorBit : ℕ → List ℕ → List ℕ → ℕ → List ℕ → ℕ
 errorBit n A b y x = bitXor (bitXor (xorSum n (λ ρ. bit x ρ * rowProduct (rowOf n A ρ) x)) (rowProduct b x)) y
 
 unfoldable pub errorOf : ℕ → List ℕ → List ℕ → List ℕ → List ℕ → ℕ → ℕ
-errorOf n A b y x i = errorBit n (blockAt A (n * bytesFor n) i) (blockAt b (bytesFor n) i) (bit y i) x
+errorOf n A b y x i = errorBit n (matrixOf n A i) (rowOf n b i) (bit y i) x
 
 abbrev pub FirstIn : List ℕ → Found → Type 0
 FirstIn errors (At i) = (i < length errors) × (byteAt errors i ≢ 0) × ((k : ℕ) → k < i → byteAt errors k ≡ 0)
