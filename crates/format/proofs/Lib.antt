@@ -5,3 +5,4 @@ pub mod SpanLaws
 pub mod SpareLaws
 pub mod AskLaws
 pub mod KeyLaws
+pub mod ReadingLaws

@@ -86,7 +86,7 @@ module _ (l : ℕ) (ls s : List ℕ) (at : ℕ) where
       go true f = absurd (f refl)
       go false f = refl
 
-  whole : framed (l ∷ ls) (drop at s) ≡ true → between (at + 4) (at + 4 + l) ≡ sectionAt s at
+  pub whole : framed (l ∷ ls) (drop at s) ≡ true → between (at + 4) (at + 4 + l) ≡ sectionAt s at
   whole h =
       let g = head h in
       ap (λ n. between (at + 4) (at + 4 + n)) (sym (g .1)) ∙ section-whole s at (rw (g .1) (g .0))

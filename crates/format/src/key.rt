@@ -1,21 +1,25 @@
 // The key: questions 1 to 4 of 01, and its sections.
 ghost use mathlib.Core.Path.{_≡_};
-ghost use Prim.Native.Nat.{_*_, _<_};
+ghost use mathlib.Core.Bool.{true};
+ghost use Prim.Native.Nat.{_+_, _*_, _<_};
 ghost use lib.ListN.{length, getD, drop};
 ghost use Rattle.protocol.specs.Strings.{bytesFor};
-ghost use Rattle.protocol.specs.Frames.{sectionNo};
+ghost use Rattle.protocol.specs.Frames.{sectionNo, framedLength};
 ghost use Rattle.protocol.specs.Binary.{bits256};
-ghost use Rattle.protocol.specs.Shape.{shapeOf};
+ghost use Rattle.protocol.specs.Shape.{shapeOf, limits};
 ghost use Rattle.protocol.specs.Key.{keyLengths, keySpare, sectionA, sectionB, sectionY};
 ghost use Rattle.protocol.specs.Answers.{ask};
+ghost use Rattle.format.specs.Sizes.{shapeFor};
 ghost use Rattle.format.specs.Verdict.{answerOf};
 ghost use Rattle.format.specs.Asking.{keyQuestions, KeyForm};
 use super::Reason;
 use super::Verdict;
 use super::also;
 use super::refuse;
+use super::sections::framed_length;
 use super::sections::section_no;
 use super::sections::sections_form;
+use super::sizes::Sizes;
 use super::sizes::in_limits;
 use super::sizes::key_lengths;
 use super::sizes::sizes_of;
@@ -24,6 +28,15 @@ use super::spare::rows_spare;
 
 // The bytes of n, m, τ, t.
 const HEADER: usize = 8;
+
+// The bytes of a key of these sizes.
+pub fn key_bytes(s: Sizes) -> usize
+    requires { ⌜ limits (shapeFor s) ≡ true ⌝ }
+    ensures { λ r. ⌜ r ≡ 8 + framedLength (keyLengths bits256 (shapeFor s)) ⌝ }
+{
+    let lengths = key_lengths(s);
+    HEADER + framed_length(&lengths)
+}
 
 // Section i of a key whose sections are exact, as part of it.
 fn key_section(key: &[u8], i: usize) -> &[u8]

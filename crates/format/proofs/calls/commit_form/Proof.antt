@@ -1,5 +1,6 @@
 -- `format::calls::commit_form` meets its contract. The questions on the key, then those on the other inputs, by the sizes that the key has.
 -- Assumes nothing.
+use mathlib.Core.List.{[]}
 use mathlib.Core.Path.{sym, ap, _∙_}
 use borrow.Author.Needs.{needs}
 use denote.Ref.{now}
@@ -23,7 +24,7 @@ enum-told-2 : tie.Need-enum-told-2
 enum-told-2 c = search needs
 
 formed : (c : tie.After-enum-told) → KeyForm (now (c .before .before .before .before .before .before .args .key))
-formed c = key-formed _ (sym (c .before .before .key-form .ensures) ∙ ap answerOf (c .enum-told .given .1))
+formed c = key-formed _ [] (sym (c .before .before .key-form .ensures) ∙ ap answerOf (c .enum-told .given .1))
 
 returns : tie.Need-returns
 returns c = λ out e. then-ask _ _ (c .before .before .key-form .ensures) (stop-at _ (c .enum-told2 .given .1))

@@ -25,7 +25,7 @@ enum-told-2 : tie.Need-enum-told-2
 enum-told-2 c = search needs
 
 formed : (c : tie.After-enum-told) → KeyForm (now (c .before .before .before .before .before .args .key))
-formed c = key-formed _ (sym (c .before .before .key-form .ensures) ∙ ap answerOf (c .enum-told .given .1))
+formed c = key-formed _ [] (sym (c .before .before .key-form .ensures) ∙ ap answerOf (c .enum-told .given .1))
 
 returns : tie.Need-returns
 returns c = then-ask _ _ (c .before .before .key-form .ensures) (stop-at _ (c .enum-told2 .given .1))
