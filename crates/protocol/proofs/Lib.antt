@@ -2,6 +2,7 @@ pub mod Computing
 pub mod SmallSitting
 pub mod SecondSitting
 pub mod Edges
+pub mod Agreement
 pub mod TestLaws
 pub mod ListLaws
 pub mod StringLaws
