@@ -28,7 +28,8 @@ use Rattle.strings.specs.Sums.{byteAt, xorSum, selected}
 use Rattle.strings.proofs.SumLaws.{sum-same}
 use Rattle.strings.proofs.Meaning.{byte-sum}
 use Rattle.lanes.specs.Lanes.{lanes}
-use Rattle.vole.proofs.SumsMeaning.{byteOf, byte-times}
+use Rattle.strings.proofs.Meaning.{byte-times}
+use Rattle.vole.proofs.SumsMeaning.{byteOf}
 use Rattle.core.specs.Hashed.{hashLane}
 
 abbrev F : Type 0
