@@ -5,6 +5,7 @@ use mathlib.Core.Bool.{true}
 use Prim.Native.Nat.{ℕ, _+_, _*_, _-_, _≤_, _<_}
 use native.Mathlib.Nat.{mul-le-mul}
 use native.Mathlib.Omega.{arith}
+use Rattle.field.specs.Gf256.{gf256}
 use Rattle.protocol.specs.Strings.{bytesFor}
 use Rattle.protocol.specs.Binary.{bits256}
 use Rattle.protocol.specs.Shape.{Shape, limits, kOf, lOf, wOf}
@@ -24,6 +25,11 @@ module _ (s : Shape) where
   pub l-fits : kOf bits256 s + s .t ≤ wOf bits256 s * 8
   unfolding wOf lOf bytesFor
   l-fits = omega arith
+
+  -- the mask coordinates are in a leaf
+  pub mask-fits : s .n + gf256 .degree ≤ 8 * wOf bits256 s
+  unfolding wOf lOf kOf bytesFor
+  mask-fits = omega arith
 
 -- the buffers of a call, made for the largest key, hold this one
 pub record Room (s : Shape) : Type 0 where

@@ -7,3 +7,4 @@ pub mod HashSections
 pub mod LoadedLaws
 pub mod FactLaws
 pub mod ReplyLaws
+pub mod BatchSections

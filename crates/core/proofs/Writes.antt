@@ -34,3 +34,6 @@ zeros m = replicate m 0
 
 pub prefix-length : (n m : ℕ) → n ≤ m → length (take n (zeros m)) ≡ n
 prefix-length n m h = length-take n (zeros m) ∙ rw (length-replicate {A = ℕ} m 0) (min-eq-left h)
+
+pub take-length : (n : ℕ) (l : List ℕ) → n ≤ length l → length (take n l) ≡ n
+take-length n l h = length-take n l ∙ min-eq-left h

@@ -7,15 +7,17 @@ ghost use lib.ListN.{length};
 ghost use Rattle.protocol.specs.Strings.{bytesFor};
 ghost use Rattle.protocol.specs.Frames.{frame};
 ghost use Rattle.protocol.specs.Binary.{bits256};
-ghost use Rattle.protocol.specs.Shape.{limits, kOf, wOf};
-ghost use Rattle.protocol.specs.Prover.{cSection, dSection, ũSection, ṼSection, commitBytes, hashBytes};
+ghost use Rattle.protocol.specs.Shape.{shapeOf, limits, kOf, wOf};
+ghost use Rattle.protocol.specs.Prover.{cSection, dSection, ũSection, ṼSection, qs0Section, qs1Section, commitBytes, hashBytes, batchBytes};
 ghost use Rattle.protocol.specs.Answers.{written};
-ghost use Rattle.protocol.specs.Calls.{hashAnswer, TestReply, CommitReply};
+ghost use Rattle.protocol.specs.Calls.{hashAnswer, TestReply, CommitReply, BatchReply};
 ghost use Rattle.lanes.specs.Lanes.{lanes};
 ghost use Rattle.format.specs.Sizes.{shapeFor};
 ghost use Rattle.format.specs.Verdict.{answerOf};
 ghost use Rattle.core.specs.Loaded.{LeavesForm, HashForm};
+ghost use Rattle.core.specs.Facts.{KeyFacts, WitnessForm};
 use super::put_two;
+use super::steps::fill_batch;
 use super::steps::fill_commit;
 use super::steps::fill_entries;
 use super::steps::fill_hash;
@@ -168,5 +170,78 @@ pub fn commit(key: &[u8], leaves: &[u8], witness: &[u8], out: &mut [u8]) -> Verd
         return answer;
     };
     write_commit(out, leaves, witness, format::sizes::sizes_of(key));
+    answer
+}
+
+// The third step in buffers of exact length.
+fn batch_sections(
+    out: &mut [u8],
+    table: &mut [u8],
+    sums: &mut [u8],
+    qs0: &mut [u8],
+    qs1: &mut [u8],
+    key: &[u8],
+    leaves: &[u8],
+    witness: &[u8],
+    batching: &[u8],
+    s: Sizes,
+)
+    requires { ⌜ KeyFacts (shapeOf (now key)) (now key) × (shapeFor s ≡ shapeOf (now key)) × WitnessForm (shapeFor s) (now witness) × (length (now batching) ≡ s .tau * s .m) × (limits (shapeFor s) ≡ true) × LeavesForm (shapeFor s) (now leaves) ⌝ }
+    requires { ⌜ (length (now table) ≡ 8 * wOf bits256 (shapeFor s) * lanes) × (length (now sums) ≡ s .tau * wOf bits256 (shapeFor s)) × (length (now qs0) ≡ lanes) × (length (now qs1) ≡ lanes) × (length (now out) ≡ 8 + s .tau + s .tau) ⌝ }
+    ensures { λ _. ⌜ now (out .exit) ≡ frame (qs0Section bits256 (shapeFor s) (now (leaves .entry)) (now (key .entry)) (now (batching .entry)) ∷ qs1Section bits256 (shapeFor s) (now (leaves .entry)) (now (key .entry)) (now (witness .entry)) (now (batching .entry)) ∷ []) ⌝ }
+{
+    let w = format::sizes::leaf_bytes(s);
+    let tau = s.tau;
+    vole::load_trees(table, sums, leaves, tau, w);
+    fill_batch(qs0, qs1, key, witness, batching, leaves, table, sums, s);
+    put_two(out, &qs0[..tau], &qs1[..tau]);
+}
+
+// The third step: QS0 and QS1.
+fn write_batch(out: &mut [u8], key: &[u8], leaves: &[u8], witness: &[u8], batching: &[u8], s: Sizes)
+    requires { ⌜ KeyFacts (shapeOf (now key)) (now key) × (shapeFor s ≡ shapeOf (now key)) × WitnessForm (shapeFor s) (now witness) × (length (now batching) ≡ s .tau * s .m) × (limits (shapeFor s) ≡ true) × LeavesForm (shapeFor s) (now leaves) × (length (now out) ≡ 8 + s .tau + s .tau) ⌝ }
+    ensures { λ _. ⌜ now (out .exit) ≡ frame (qs0Section bits256 (shapeFor s) (now (leaves .entry)) (now (key .entry)) (now (batching .entry)) ∷ qs1Section bits256 (shapeFor s) (now (leaves .entry)) (now (key .entry)) (now (witness .entry)) (now (batching .entry)) ∷ []) ⌝ }
+{
+    let w = format::sizes::leaf_bytes(s);
+    let tau = s.tau;
+    let mut table = [0u8; 8 * MOST_LEAF * LANES];
+    let mut sums = [0u8; LANES * MOST_LEAF];
+    let mut qs0 = [0u8; LANES];
+    let mut qs1 = [0u8; LANES];
+    batch_sections(
+        out,
+        &mut table[..8 * w * LANES],
+        &mut sums[..tau * w],
+        &mut qs0,
+        &mut qs1,
+        key,
+        leaves,
+        witness,
+        batching,
+        s,
+    );
+}
+
+// The third step (01): batch. It takes the witness, and writes the sections QS0 and QS1.
+pub fn batch(key: &[u8], leaves: &[u8], witness: &[u8], batching: &[u8], out: &mut [u8]) -> Verdict
+    ensures { λ r. ⌜ BatchReply bits256 (now (key .entry)) (now (leaves .entry)) (now (witness .entry)) (now (batching .entry)) (now (out .entry)) (answerOf r) ⌝ }
+    ensures { λ r. ⌜ now (out .exit) ≡ written (answerOf r) (now (out .entry)) (batchBytes bits256 (now (key .entry)) (now (leaves .entry)) (now (witness .entry)) (now (batching .entry))) ⌝ }
+{
+    let form = format::calls::batch_form(key, leaves, witness, batching, out.len());
+    let Verdict::Accepted = form else {
+        return form;
+    };
+    let answer = solved(key, witness);
+    let Verdict::Accepted = answer else {
+        return answer;
+    };
+    write_batch(
+        out,
+        key,
+        leaves,
+        witness,
+        batching,
+        format::sizes::sizes_of(key),
+    );
     answer
 }

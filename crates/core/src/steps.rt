@@ -5,11 +5,12 @@ ghost use Prim.Native.Nat.{ℕ, _+_, _*_, _-_, _<_, _≤_};
 ghost use lib.ListN.{length, take};
 ghost use Rattle.protocol.specs.Strings.{bytesFor};
 ghost use Rattle.protocol.specs.Binary.{bits256};
-ghost use Rattle.protocol.specs.Shape.{limits, kOf, wOf};
-ghost use Rattle.protocol.specs.Prover.{cSection, dSection, ũSection, ṼSection};
+ghost use Rattle.protocol.specs.Shape.{shapeOf, limits, kOf, wOf};
+ghost use Rattle.protocol.specs.Prover.{cSection, dSection, ũSection, ṼSection, qs0Section, qs1Section};
 ghost use Rattle.lanes.specs.Lanes.{lanes, Tabled};
 ghost use Rattle.format.specs.Sizes.{shapeFor};
 ghost use Rattle.core.specs.Loaded.{LeavesForm, HashForm, Loaded};
+ghost use Rattle.core.specs.Facts.{KeyFacts, WitnessForm};
 use super::hash::hash_lanes;
 use format::Sizes;
 use lanes::LANES;
@@ -70,4 +71,40 @@ pub fn fill_hash(
     let t = s.t;
     vole::write_hash_bits(ut, matrix, strings::row_at(sums, w, 0), k, t);
     hash_lanes(vt, matrix, width, k, t, tau, table, entries);
+}
+
+// QS0 and QS1, in the first lanes of two rows.
+pub fn fill_batch(
+    qs0: &mut [u8],
+    qs1: &mut [u8],
+    key: &[u8],
+    witness: &[u8],
+    batching: &[u8],
+    leaves: &[u8],
+    table: &[u8],
+    sums: &[u8],
+    s: Sizes,
+)
+    requires { ⌜ KeyFacts (shapeOf (now key)) (now key) × (shapeFor s ≡ shapeOf (now key)) × WitnessForm (shapeFor s) (now witness) × (length (now batching) ≡ s .tau * s .m) × Loaded (shapeFor s) (now leaves) (now table) (now sums) ⌝ }
+    requires { ⌜ (length (now qs0) ≡ lanes) × (length (now qs1) ≡ lanes) ⌝ }
+    ensures { λ _. ⌜ take (s .tau) (now (qs0 .exit)) ≡ qs0Section bits256 (shapeFor s) (now (leaves .entry)) (now (key .entry)) (now (batching .entry)) ⌝ }
+    ensures { λ _. ⌜ take (s .tau) (now (qs1 .exit)) ≡ qs1Section bits256 (shapeFor s) (now (leaves .entry)) (now (key .entry)) (now (witness .entry)) (now (batching .entry)) ⌝ }
+{
+    let w = format::sizes::leaf_bytes(s);
+    let n = s.n;
+    let m = s.m;
+    let tau = s.tau;
+    quadratic::batch::batch_lanes(
+        qs0,
+        qs1,
+        format::key::section_a(key),
+        format::key::section_b(key),
+        witness,
+        batching,
+        strings::row_at(sums, w, 0),
+        n,
+        m,
+        tau,
+        table,
+    );
 }
