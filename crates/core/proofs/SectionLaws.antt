@@ -1,7 +1,7 @@
 -- A buffer whose entries are those of a table is the table; and so for rows.
 -- Assumes nothing.
 use mathlib.Core.Path.{_≡_, refl, sym, ap, _∙_}
-use mathlib.Core.List.{List, []}
+use mathlib.Core.List.{List, [], _∷_}
 use Prim.Native.Nat.{ℕ, zero, suc, _+_, _*_, _/_, _%_, _<_, _≤_}
 use native.Mathlib.Nat.{min-eq-left, div-add-mod', div-lt-iff-lt-mul, mod-lt, mul-zero}
 use native.Mathlib.Omega.{arith}
@@ -32,3 +32,8 @@ module _ (l : List ℕ) (n w : ℕ) (f : ℕ → List ℕ) (h : length l ≡ n *
 
   pub rows-table : l ≡ concat (table n f)
   rows-table = ext-getD 0 l (concat (table n f)) (h ∙ sym (table-length w n f rows)) (λ k lk. at-index k (rw (← h) lk) w refl)
+
+-- six sections that are the six
+pub six-same : {a b c d e f a′ b′ c′ d′ e′ f′ : List ℕ} → a ≡ a′ → b ≡ b′ → c ≡ c′ → d ≡ d′ → e ≡ e′ → f ≡ f′
+    → _≡_ {A = List (List ℕ)} (a ∷ b ∷ c ∷ d ∷ e ∷ f ∷ []) (a′ ∷ b′ ∷ c′ ∷ d′ ∷ e′ ∷ f′ ∷ [])
+six-same p q r s t u = rw (p, q, r, s, t, u) refl
