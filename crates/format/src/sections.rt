@@ -41,7 +41,7 @@ pub fn find(s: &[u8], at: usize) -> Span
     }
 }
 
-// The section itself, as part of the lent bytes.
+// The section itself, as 01 gives it back: part of the lent bytes.
 pub fn section<'a>(s: &'a [u8], start: usize, end: usize) -> &'a [u8]
     requires { ⌜ (start ≤ end) × (end ≤ length (now s)) ⌝ }
     ensures { λ r. ⌜ now r ≡ part (now (s .entry)) start (end - start) ⌝ }
@@ -49,7 +49,7 @@ pub fn section<'a>(s: &'a [u8], start: usize, end: usize) -> &'a [u8]
     &s[start..end]
 }
 
-// Takes one section after the other, from index at on: are they of exactly these lengths, and is the last at the end of s?
+// Questions 3 and 12, as 01's reader goes: one section at a time, from index at on. Are they of exactly these lengths, and is the last at the end of s?
 // Where one is not there whole, or is of another length, it leaves with the refusal and reads no further.
 pub fn sections_form(s: &[u8], at: usize, lengths: &[usize], reason: Reason) -> Verdict
     requires { ⌜ at ≤ length (now s) ⌝ }

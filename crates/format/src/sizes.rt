@@ -22,6 +22,7 @@ pub struct Sizes {
     pub t: usize,
 }
 
+// The limits of 01, in one place.
 pub const MOST_VARIABLES: usize = 160;
 
 pub const MOST_EQUATIONS: usize = 160;

@@ -1,4 +1,4 @@
-// Spare bits: those past the last coordinate of a row, which must be 0.
+// Spare bits, as 01 has them: those past the last coordinate of a row, which must be 0.
 ghost use mathlib.Core.Path.{_≡_};
 ghost use Prim.Native.Nat.{_+_, _*_, _<_, _≤_, _%_, _^_};
 ghost use lib.Dec.{eqb};

@@ -93,10 +93,14 @@ ended c =
     l .inv .2 ∙ turn-end _ _ (l .next) (l .i) (omega arith) (l .inv .1)
 
 returns-3 : tie.Need-returns-3 Inv-loop μ-loop
-returns-3 c = says-no _ _ 0 _ (ended (c .before .before) ∙ eqb-other _ _ (c .before .if2 .taken)) (c .refuse3 .ensures)
+returns-3 c =
+    let p = c .before .before in
+    says-no _ _ 0 _ (ended p ∙ eqb-other (p .before .loop .next) (length (now (p .before .before .before .before .args .s))) (search needs)) (c .refuse3 .ensures)
 
 returns-4 : tie.Need-returns-4 Inv-loop μ-loop
-returns-4 c = says-yes _ _ 0 _ (ended (c .before) ∙ eqb-same _ _ (c .if2 .left)) says-all
+returns-4 c =
+    let p = c .before in
+    says-yes _ _ 0 _ (ended p ∙ eqb-same (p .before .loop .next) (length (now (p .before .before .before .before .args .s))) (omega arith)) says-all
 
 pub sections-form-spec : {M : Type 1} → statement M
 sections-form-spec =
