@@ -1,7 +1,8 @@
 # make demo: the main job on a built-in example.  make test: every proof and every test, from nothing.
 # make compare: the library against the Rust rendering; words for the comparison in ARGS.
 # make bench: the library's times beside the same job in C and Rust, and its stack.
-.PHONY: demo test compare bench
+# make secrets: no branch and no address of the built library depends on leaves or witness.
+.PHONY: demo test compare bench secrets
 
 demo:
 	@sh tests/demo.sh
@@ -14,3 +15,6 @@ compare:
 
 bench:
 	@sh bench/run.sh $(ARGS)
+
+secrets:
+	@sh tests/secrets.sh

@@ -34,7 +34,7 @@ for compiler in gcc clang; do
 done
 
 cargo build --quiet --release --offline -j1 --manifest-path bench/rendering/Cargo.toml --target-dir "$work/rendering"
-gcc -std=c11 -O2 -Wall -Wextra -Werror -Iinclude -Ibench bench/bench.c "$work"/baseline_gcc.o "$work"/baseline_clang.o \
+gcc -std=c11 -O2 -Wall -Wextra -Werror -Iinclude -Itests bench/bench.c "$work"/baseline_gcc.o "$work"/baseline_clang.o \
     "$work"/plain_gcc.o "$work"/plain_clang.o "$lib/libsolfadrus.a" "$work/rendering/release/librendering.a" \
     -lpthread -ldl -lm -o "$work/bench"
 echo

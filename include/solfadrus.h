@@ -112,7 +112,9 @@
  * What the proof is worth rests on these.
  *
  *   Secrets    Leaves and witness are secret. Answers 8, 9 and 11 tell something about them, and
- *              the place of 11 does too: keep them from strangers.
+ *              the place of 11 does too: keep them from strangers. That nothing else does, no
+ *              branch and no address, is tested on the built library (tests/secrets.sh), and is
+ *              not proved.
  *   Leaves     All bits of all leaves (but the spare ones) are drawn uniformly and independently,
  *              from a generator fit for keys, anew for each proof. A set of leaves serves ONE
  *              proof: one witness, one hash_matrix, one batching, one delta.

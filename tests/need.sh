@@ -9,7 +9,7 @@ need() {
 # The directory that has libsolfadrus.a: that of SOLFADRUS_LIB_DIR, or else the one that rt proves and builds.
 library() {
     if [ -n "${SOLFADRUS_LIB_DIR:-}" ]; then
-        echo "$SOLFADRUS_LIB_DIR"
+        (cd "$SOLFADRUS_LIB_DIR" && pwd)
         return
     fi
     mkdir -p target

@@ -79,6 +79,21 @@ fn cost(shape: &reference::key::Shape) -> usize {
 /// Above this the rendering is asked once for the whole proof, and no more.
 const DEAR: usize = 4_000_000;
 
+/// Adds the rendering's proof to honest inputs.
+pub fn add_proof(inputs: &mut Inputs) -> Result<(), String> {
+    let mut proof = vec![0; PROVE.writes.length(&inputs.shape)];
+    let taken: Vec<&[u8]> = PROVE.takes.iter().map(|name| inputs.get(*name)).collect();
+    match (PROVE.rendering)(&taken, &mut proof) {
+        Answer::Accepted => *inputs.get_mut(Name::Proof) = proof,
+        refused => {
+            return Err(format!(
+                "the rendering answers {refused:?} to honest inputs"
+            ))
+        }
+    }
+    Ok(())
+}
+
 pub struct Run<'a> {
     pub judge: &'a mut Judge,
     pub random: Random,
@@ -117,14 +132,7 @@ impl Run<'_> {
     /// Every call on honest inputs; the steps' bytes are those of the whole. The rendering's proof is added to
     /// the inputs.
     fn honest(&mut self, inputs: &mut Inputs) -> Result<(), String> {
-        let mut proof = vec![0; PROVE.writes.length(&inputs.shape)];
-        let taken: Vec<&[u8]> = PROVE.takes.iter().map(|name| inputs.get(*name)).collect();
-        let answer = (PROVE.rendering)(&taken, &mut proof);
-        if answer != Answer::Accepted {
-            return Err(format!("the rendering answers {answer:?} to honest inputs"));
-        }
-        *inputs.get_mut(Name::Proof) = proof;
-
+        add_proof(inputs)?;
         let dear = cost(&inputs.shape) > DEAR;
         let known = |call: &Call| Expected {
             answer: Answer::Accepted,

@@ -2,6 +2,7 @@
 //! behind, and the comparison must say so.
 
 use crate::calls::{Call, BATCH, CALLS, COMMIT, HASH, PROVE, TEST};
+use crate::groups::add_proof;
 use crate::inputs::{Inputs, Name, Output};
 use crate::judge::{Judge, Tamper};
 use crate::sizes;
@@ -11,7 +12,7 @@ pub fn run(seed: u64) -> Result<u64, String> {
     let mut random = Random::new(seed);
     let mut judge = Judge::new();
     let mut reported = 0;
-    for (name, call, inputs) in situations(&mut random) {
+    for (name, call, inputs) in situations(&mut random)? {
         // Untouched, nothing may be reported.
         judge.tamper = None;
         judge
@@ -31,9 +32,13 @@ pub fn run(seed: u64) -> Result<u64, String> {
     Ok(reported + 1)
 }
 
+/// A call on inputs, and what it shows.
+type Situation = (String, &'static Call, Inputs);
+
 /// Accepted and refused calls of each kind.
-fn situations(random: &mut Random) -> Vec<(String, &'static Call, Inputs)> {
-    let honest = Inputs::honest(random.number(), 9, 3, 2, 5);
+fn situations(random: &mut Random) -> Result<Vec<Situation>, String> {
+    let mut honest = Inputs::honest(random.number(), 9, 3, 2, 5);
+    add_proof(&mut honest)?;
     let mut situations = Vec::new();
     for call in CALLS {
         situations.push((format!("{} accepted", call.name), call, honest.clone()));
@@ -50,7 +55,7 @@ fn situations(random: &mut Random) -> Vec<(String, &'static Call, Inputs)> {
         inputs.get_mut(Name::Key)[y] ^= 1;
         situations.push((format!("{} refused 11", call.name), call, inputs));
     }
-    situations
+    Ok(situations)
 }
 
 /// What can be changed after this call.

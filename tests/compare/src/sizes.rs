@@ -7,6 +7,7 @@ use reference::field::GF256;
 use reference::key::Shape;
 
 type SizeFunction = unsafe extern "C" fn(usize, usize, usize, usize) -> usize;
+type Length = fn(&Shape) -> usize;
 
 extern "C" {
     fn mq_key_size(n: usize, m: usize, tau: usize, t: usize) -> usize;
@@ -23,7 +24,7 @@ extern "C" {
 }
 
 /// Each function, with the length that the rendering uses.
-const FUNCTIONS: [(&str, SizeFunction, fn(&Shape) -> usize); 11] = [
+const FUNCTIONS: [(&str, SizeFunction, Length); 11] = [
     ("mq_key_size", mq_key_size, |s| {
         20 + s.key_sections().iter().sum::<usize>()
     }),

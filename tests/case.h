@@ -1,5 +1,5 @@
 /*
- * A case for the programs of this folder: a key with a known solution, leaves and challenges, all from a small
+ * A case for benchmark and tests: a key with a known solution, leaves and challenges, all from a small
  * generator that is no good for secrets.
  */
 #ifndef CASE_H
@@ -94,10 +94,11 @@ static void make_key(uint64_t *state, struct made *made)
         y[i / 8] |= (uint8_t)(left_side(a + i * n * row, b + i * row, made->witness.at, n) << i % 8);
 }
 
-static struct made make_case(uint64_t seed, struct sizes sizes)
+/* Room for the strings of a case. */
+static struct made lend_case(struct sizes sizes)
 {
     const size_t n = sizes.n, m = sizes.m, tau = sizes.tau, t = sizes.t;
-    struct made made = {
+    const struct made made = {
         sizes,
         lend(MQ_KEY_SIZE(n, m, tau, t)),
         lend(MQ_WITNESS_SIZE(n, m, tau, t)),
@@ -105,11 +106,17 @@ static struct made make_case(uint64_t seed, struct sizes sizes)
         lend(MQ_HASH_MATRIX_SIZE(n, m, tau, t)),
         lend(MQ_BATCHING_SIZE(n, m, tau, t)),
     };
-    draw_strings(&seed, made.witness.at, 1, n);
+    return made;
+}
+
+static struct made make_case(uint64_t seed, struct sizes sizes)
+{
+    struct made made = lend_case(sizes);
+    draw_strings(&seed, made.witness.at, 1, sizes.n);
     make_key(&seed, &made);
-    draw_strings(&seed, made.leaves.at, MQ_FIELD_SIZE * tau, n + MQ_FIELD_DEGREE + t);
-    draw_strings(&seed, made.hash_matrix.at, t, n + MQ_FIELD_DEGREE);
-    draw_strings(&seed, made.batching.at, tau * m, 8);
+    draw_strings(&seed, made.leaves.at, MQ_FIELD_SIZE * sizes.tau, sizes.n + MQ_FIELD_DEGREE + sizes.t);
+    draw_strings(&seed, made.hash_matrix.at, sizes.t, sizes.n + MQ_FIELD_DEGREE);
+    draw_strings(&seed, made.batching.at, sizes.tau * sizes.m, 8);
     return made;
 }
 
