@@ -1,0 +1,28 @@
+-- `solfadrus::mq_commit` meets its contract: the answer's number is the call's.
+-- Assumes nothing.
+use mathlib.Core.Path.{_≡_, sym, ap, _∙_, subst}
+use mathlib.Core.List.{List}
+use Prim.Native.Nat.{ℕ}
+use denote.Ref.{now}
+use Rattle.protocol.specs.Answers.{Answer, word, written}
+use Rattle.format.specs.Verdict.{answerOf}
+use borrow.Author.Needs.{needs}
+use Rattle.solfadrus.proofs.mq_commit.Statement.{statement}
+use Rattle.solfadrus.proofs.mq_commit.Tie as tie
+
+commit-requires : tie.Need-commit-requires
+commit-requires c κs = search needs
+
+word-of-requires : tie.Need-word-of-requires
+word-of-requires c κs = search needs
+
+same-length : tie.Need-same-length
+same-length c = search needs
+
+returns : tie.Need-returns
+returns c =
+    let told = c .before .before .before .commit in
+    (answerOf (told .result), (c .word-of .ensures, told .ensures .0, told .ensures .1))
+
+pub mq-commit-spec : {M : Type 1} → statement M
+mq-commit-spec = tie.close (tie.spec commit-requires word-of-requires same-length returns)

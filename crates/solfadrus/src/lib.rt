@@ -1,0 +1,65 @@
+// The calls that C makes. Each answers with one number: 0 for accepted, else number × 65,536 + place.
+ghost use mathlib.Core.Path.{_≡_};
+ghost use Rattle.protocol.specs.Binary.{bits256};
+ghost use Rattle.protocol.specs.Prover.{commitBytes, hashBytes, batchBytes, proofOf};
+ghost use Rattle.protocol.specs.Answers.{Answer, word, written};
+ghost use Rattle.protocol.specs.Calls.{hashAnswer, TestReply, CommitReply, BatchReply, ProveReply};
+
+mod sizes;
+
+// major × 65,536 + minor × 256 + patch
+#[no_mangle]
+pub extern "C" fn mq_version() -> u32
+    ensures { λ r. ⌜ r ≡ 256 ⌝ }
+{
+    256
+}
+
+#[no_mangle]
+pub extern "C" fn mq_test(key: &[u8], witness: &[u8]) -> u32
+    ensures { λ r. ⌜ ((a : Answer) × ((r ≡ word a) × TestReply bits256 (now (key .entry)) (now (witness .entry)) a)) ⌝ }
+{
+    format::word_of(core::calls::test(key, witness))
+}
+
+#[no_mangle]
+pub extern "C" fn mq_commit(key: &[u8], leaves: &[u8], witness: &[u8], out: &mut [u8]) -> u32
+    ensures { λ r. ⌜ ((a : Answer) × ((r ≡ word a) × CommitReply bits256 (now (key .entry)) (now (leaves .entry)) (now (witness .entry)) (now (out .entry)) a × (now (out .exit) ≡ written a (now (out .entry)) (commitBytes bits256 (now (key .entry)) (now (leaves .entry)) (now (witness .entry)))))) ⌝ }
+{
+    format::word_of(core::calls::commit(key, leaves, witness, out))
+}
+
+#[no_mangle]
+pub extern "C" fn mq_hash(key: &[u8], leaves: &[u8], hash_matrix: &[u8], out: &mut [u8]) -> u32
+    ensures { λ r. ⌜ r ≡ word (hashAnswer bits256 (now (key .entry)) (now (leaves .entry)) (now («hash_matrix» .entry)) (now (out .entry))) ⌝ }
+    ensures { λ _. ⌜ now (out .exit) ≡ written (hashAnswer bits256 (now (key .entry)) (now (leaves .entry)) (now («hash_matrix» .entry)) (now (out .entry))) (now (out .entry)) (hashBytes bits256 (now (key .entry)) (now (leaves .entry)) (now («hash_matrix» .entry))) ⌝ }
+{
+    format::word_of(core::calls::hash(key, leaves, hash_matrix, out))
+}
+
+#[no_mangle]
+pub extern "C" fn mq_batch(
+    key: &[u8],
+    leaves: &[u8],
+    witness: &[u8],
+    batching: &[u8],
+    out: &mut [u8],
+) -> u32
+    ensures { λ r. ⌜ ((a : Answer) × ((r ≡ word a) × BatchReply bits256 (now (key .entry)) (now (leaves .entry)) (now (witness .entry)) (now (batching .entry)) (now (out .entry)) a × (now (out .exit) ≡ written a (now (out .entry)) (batchBytes bits256 (now (key .entry)) (now (leaves .entry)) (now (witness .entry)) (now (batching .entry)))))) ⌝ }
+{
+    format::word_of(core::calls::batch(key, leaves, witness, batching, out))
+}
+
+#[no_mangle]
+pub extern "C" fn mq_prove(
+    key: &[u8],
+    leaves: &[u8],
+    witness: &[u8],
+    hash_matrix: &[u8],
+    batching: &[u8],
+    out: &mut [u8],
+) -> u32
+    ensures { λ r. ⌜ ((a : Answer) × ((r ≡ word a) × ProveReply bits256 (now (key .entry)) (now (leaves .entry)) (now (witness .entry)) (now («hash_matrix» .entry)) (now (batching .entry)) (now (out .entry)) a × (now (out .exit) ≡ written a (now (out .entry)) (proofOf bits256 (now (key .entry)) (now (leaves .entry)) (now (witness .entry)) (now («hash_matrix» .entry)) (now (batching .entry)))))) ⌝ }
+{
+    format::word_of(core::calls::prove(key, leaves, witness, hash_matrix, batching, out))
+}
