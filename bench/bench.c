@@ -3,9 +3,10 @@
  * call. Usage: bench [REPETITIONS]
  *
  * Every program first makes the same bytes, or the run ends. Then each call of each program is timed in turn,
- * again and again, so that a change of the machine's pace meets all of them; the median is printed. The time is
- * the thread's processor time, so that other work on the machine counts as little as may be. The rendering is
- * slow, and is repeated less often: the table says how often.
+ * again and again, so that a change of the machine's pace meets all of them, and each time after a call that is
+ * not timed, so that none pays for what the one before it left in the caches. Medians are printed, and the least
+ * times, which a busy machine disturbs less. The time is the thread's processor time. The rendering is slow, and
+ * is repeated less often: the table says how often.
  */
 #define _XOPEN_SOURCE 700
 #include <stdio.h>
@@ -112,10 +113,15 @@ static int by_size(const void *a, const void *b)
     return (x > y) - (x < y);
 }
 
-static double median(struct times *t)
+/* Of times that are sorted. */
+static double median(const struct times *t)
 {
-    qsort(t->taken, (size_t)t->count, sizeof *t->taken, by_size);
     return t->count % 2 ? t->taken[t->count / 2] : (t->taken[t->count / 2 - 1] + t->taken[t->count / 2]) / 2;
+}
+
+static double least(const struct times *t)
+{
+    return t->taken[0];
 }
 
 /* Every program writes the library's bytes. The rendering is slow: its whole proof stands for its steps. */
@@ -146,6 +152,7 @@ static void measure(const struct made *c, int repetitions, struct times times[PR
         for (int call = 0; call < CALLS; call++)
             for (int p = 0; p < RENDERING; p++) {
                 struct times *t = &times[p][call];
+                time_call(&programs[p], call, c, out);
                 t->taken[t->count++] = time_call(&programs[p], call, c, out);
             }
     for (int call = 0; call < CALLS; call++) {
@@ -162,23 +169,32 @@ static double lesser(double a, double b)
     return a < b ? a : b;
 }
 
-static void print_times(struct times times[PROGRAMS][CALLS])
+static void print_times(const char *what, double (*of)(const struct times *), struct times times[PROGRAMS][CALLS])
 {
     double m[PROGRAMS];
-    printf("%-8s", "ms");
+    printf("%-10s", what);
     for (int p = 0; p < PROGRAMS; p++)
         printf("%13s", programs[p].name);
     printf("   library/C  library/plain  rendering/library\n");
     for (int call = 0; call < CALLS; call++) {
-        printf("%-8s", call_names[call]);
+        printf("%-10s", call_names[call]);
         for (int p = 0; p < PROGRAMS; p++) {
-            m[p] = median(&times[p][call]);
+            m[p] = of(&times[p][call]);
             printf("%13.4f", m[p]);
         }
         printf("%12.2f%15.2f%19.1f\n", m[LIBRARY] / lesser(m[BASELINE_GCC], m[BASELINE_CLANG]),
                m[LIBRARY] / lesser(m[PLAIN_GCC], m[PLAIN_CLANG]), m[RENDERING] / m[LIBRARY]);
     }
-    printf("medians of %d; of the rendering:", times[LIBRARY][TEST].count);
+}
+
+static void print_all_times(struct times times[PROGRAMS][CALLS])
+{
+    for (int p = 0; p < PROGRAMS; p++)
+        for (int call = 0; call < CALLS; call++)
+            qsort(times[p][call].taken, (size_t)times[p][call].count, sizeof(double), by_size);
+    print_times("median, ms", median, times);
+    print_times("least, ms", least, times);
+    printf("of %d; of the rendering:", times[LIBRARY][TEST].count);
     for (int call = 0; call < CALLS; call++)
         printf(" %s %d", call_names[call], times[RENDERING][call].count);
     printf("\n");
@@ -242,12 +258,12 @@ static void print_stack(const struct made *c, uint8_t *out)
     if (!stack)
         abort();
     const size_t bare = depth(stack, NULL, 0, c, out);
-    printf("%-8s", "stack");
+    printf("%-10s", "stack");
     for (int p = 0; p < RENDERING; p++)
         printf("%13s", programs[p].name);
     printf("   bytes below the caller, at the deepest\n");
     for (int call = 0; call < CALLS; call++) {
-        printf("%-8s", call_names[call]);
+        printf("%-10s", call_names[call]);
         for (int p = 0; p < RENDERING; p++)
             printf("%13zu", depth(stack, &programs[p], call, c, out) - bare);
         printf("\n");
@@ -274,7 +290,7 @@ static void bench(struct sizes sizes, int repetitions)
     fflush(stdout);
     compare_bytes(&c, expected, out);
     measure(&c, repetitions, times, out);
-    print_times(times);
+    print_all_times(times);
     print_stack(&c, out);
     printf("\n");
     for (int p = 0; p < PROGRAMS; p++)
