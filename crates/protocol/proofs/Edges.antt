@@ -2,7 +2,7 @@
 -- Assumes nothing.
 use mathlib.Core.Path.{refl}
 use Rattle.protocol.specs.SmallSitting.{key, witness, leaves, H′, χ, Δ, proof, opened}
-use Rattle.protocol.specs.Edges.{Limits, Forms, Order, Words}
+use Rattle.protocol.specs.Edges.{Limits, Forms, Order, Steps, Words}
 use Rattle.protocol.proofs.Computing.{computing}
 
 pub limits-are : Limits
@@ -58,6 +58,19 @@ order-is = record {
   ten-eleven = refl;
   eleven = refl;
   none = refl;
+}
+
+pub steps-are : Steps
+unfolding computing key witness leaves H′ χ
+steps-are = record {
+  test-taken = refl;
+  test-eleven = refl;
+  commit-taken = refl;
+  commit-ten = refl;
+  hash-taken = refl;
+  hash-six = refl;
+  batch-taken = refl;
+  batch-five = refl;
 }
 
 pub words-are : Words

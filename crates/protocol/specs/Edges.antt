@@ -12,7 +12,7 @@ use Rattle.protocol.specs.Key.{keyExact, keySpare}
 use Rattle.protocol.specs.Sections.{sectionsIn}
 use Rattle.protocol.specs.Answers.{Answer, accepted, refused, word}
 use Rattle.protocol.specs.Questions.{hSpare, leavesSpare, witnessForm, solves, proofSpare}
-use Rattle.protocol.specs.Calls.{proveAnswer, verifyAnswer}
+use Rattle.protocol.specs.Calls.{testAnswer, commitAnswer, hashAnswer, batchAnswer, proveAnswer, verifyAnswer}
 use Rattle.protocol.specs.SmallSitting.{bits16, changed, sizes, key, witness, leaves, H′, χ, Δ, proof, opened}
 
 abbrev pub allowed : ℕ → ℕ → ℕ → ℕ → Bool
@@ -64,6 +64,17 @@ pub record Order : Type 0 where
   pub ten-eleven : proveAnswer bits16 key leaves (changed witness 0 0x01) H′ χ [] 1 ≡ refused 10 0
   pub eleven : proveAnswer bits16 key leaves (changed witness 0 0x01) H′ χ (replicate 37 0x00) 1 ≡ refused 11 1
   pub none : proveAnswer bits16 key leaves witness H′ χ (replicate 37 0x00) 0 ≡ accepted
+
+-- The other calls: taken with an output of the exact length, and refused by the question that their inputs concern.
+pub record Steps : Type 0 where
+  pub test-taken : testAnswer bits16 key witness 0 ≡ accepted
+  pub test-eleven : testAnswer bits16 key (changed witness 0 0x01) 1 ≡ refused 11 1
+  pub commit-taken : commitAnswer bits16 key leaves witness (replicate 12 0x00) 0 ≡ accepted
+  pub commit-ten : commitAnswer bits16 key leaves witness (replicate 13 0x00) 0 ≡ refused 10 0
+  pub hash-taken : hashAnswer bits16 key leaves H′ (replicate 13 0x00) ≡ accepted
+  pub hash-six : hashAnswer bits16 key leaves (changed H′ 3 0x20) (replicate 13 0x00) ≡ refused 6 0
+  pub batch-taken : batchAnswer bits16 key leaves witness χ (replicate 12 0x00) 0 ≡ accepted
+  pub batch-five : batchAnswer bits16 key leaves witness (χ ++ (0x00 ∷ [])) (replicate 12 0x00) 0 ≡ refused 5 0
 
 -- What C receives.
 pub record Words : Type 0 where

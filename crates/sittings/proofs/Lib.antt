@@ -1,0 +1,8 @@
+pub mod TreeLaws
+pub mod TableLaws
+pub mod FullSums
+pub mod FullSitting
+pub mod FullChecks
+pub mod FullFactors
+pub mod ChangedProofs
+pub mod CountedSitting

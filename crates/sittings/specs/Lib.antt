@@ -1,0 +1,3 @@
+pub mod ChangedProofs
+pub mod CountedSitting
+pub mod FullSitting
