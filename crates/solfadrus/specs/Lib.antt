@@ -1,1 +1,3 @@
 pub mod Sized
+pub mod Told
+pub mod Demands

@@ -1,9 +1,6 @@
 // The calls that C makes. Each answers with one number: 0 for accepted, else number × 65,536 + place.
 ghost use mathlib.Core.Path.{_≡_};
-ghost use Rattle.protocol.specs.Binary.{bits256};
-ghost use Rattle.protocol.specs.Prover.{commitBytes, hashBytes, batchBytes, proofOf};
-ghost use Rattle.protocol.specs.Answers.{Answer, word, written};
-ghost use Rattle.protocol.specs.Calls.{hashAnswer, TestReply, CommitReply, BatchReply, ProveReply};
+ghost use Rattle.solfadrus.specs.Demands.{TestTold, CommitWrites, HashWrites, BatchWrites, ProveWrites};
 
 mod sizes;
 
@@ -17,22 +14,21 @@ pub extern "C" fn mq_version() -> u32
 
 #[no_mangle]
 pub extern "C" fn mq_test(key: &[u8], witness: &[u8]) -> u32
-    ensures { λ r. ⌜ ((a : Answer) × ((r ≡ word a) × TestReply bits256 (now (key .entry)) (now (witness .entry)) a)) ⌝ }
+    ensures { λ r. ⌜ TestTold (now (key .entry)) (now (witness .entry)) r ⌝ }
 {
     format::word_of(core::calls::test(key, witness))
 }
 
 #[no_mangle]
 pub extern "C" fn mq_commit(key: &[u8], leaves: &[u8], witness: &[u8], out: &mut [u8]) -> u32
-    ensures { λ r. ⌜ ((a : Answer) × ((r ≡ word a) × CommitReply bits256 (now (key .entry)) (now (leaves .entry)) (now (witness .entry)) (now (out .entry)) a × (now (out .exit) ≡ written a (now (out .entry)) (commitBytes bits256 (now (key .entry)) (now (leaves .entry)) (now (witness .entry)))))) ⌝ }
+    ensures { λ r. ⌜ CommitWrites (now (key .entry)) (now (leaves .entry)) (now (witness .entry)) (now (out .entry)) (now (out .exit)) r ⌝ }
 {
     format::word_of(core::calls::commit(key, leaves, witness, out))
 }
 
 #[no_mangle]
 pub extern "C" fn mq_hash(key: &[u8], leaves: &[u8], hash_matrix: &[u8], out: &mut [u8]) -> u32
-    ensures { λ r. ⌜ r ≡ word (hashAnswer bits256 (now (key .entry)) (now (leaves .entry)) (now («hash_matrix» .entry)) (now (out .entry))) ⌝ }
-    ensures { λ _. ⌜ now (out .exit) ≡ written (hashAnswer bits256 (now (key .entry)) (now (leaves .entry)) (now («hash_matrix» .entry)) (now (out .entry))) (now (out .entry)) (hashBytes bits256 (now (key .entry)) (now (leaves .entry)) (now («hash_matrix» .entry))) ⌝ }
+    ensures { λ r. ⌜ HashWrites (now (key .entry)) (now (leaves .entry)) (now («hash_matrix» .entry)) (now (out .entry)) (now (out .exit)) r ⌝ }
 {
     format::word_of(core::calls::hash(key, leaves, hash_matrix, out))
 }
@@ -45,7 +41,7 @@ pub extern "C" fn mq_batch(
     batching: &[u8],
     out: &mut [u8],
 ) -> u32
-    ensures { λ r. ⌜ ((a : Answer) × ((r ≡ word a) × BatchReply bits256 (now (key .entry)) (now (leaves .entry)) (now (witness .entry)) (now (batching .entry)) (now (out .entry)) a × (now (out .exit) ≡ written a (now (out .entry)) (batchBytes bits256 (now (key .entry)) (now (leaves .entry)) (now (witness .entry)) (now (batching .entry)))))) ⌝ }
+    ensures { λ r. ⌜ BatchWrites (now (key .entry)) (now (leaves .entry)) (now (witness .entry)) (now (batching .entry)) (now (out .entry)) (now (out .exit)) r ⌝ }
 {
     format::word_of(core::calls::batch(key, leaves, witness, batching, out))
 }
@@ -59,7 +55,7 @@ pub extern "C" fn mq_prove(
     batching: &[u8],
     out: &mut [u8],
 ) -> u32
-    ensures { λ r. ⌜ ((a : Answer) × ((r ≡ word a) × ProveReply bits256 (now (key .entry)) (now (leaves .entry)) (now (witness .entry)) (now («hash_matrix» .entry)) (now (batching .entry)) (now (out .entry)) a × (now (out .exit) ≡ written a (now (out .entry)) (proofOf bits256 (now (key .entry)) (now (leaves .entry)) (now (witness .entry)) (now («hash_matrix» .entry)) (now (batching .entry)))))) ⌝ }
+    ensures { λ r. ⌜ ProveWrites (now (key .entry)) (now (leaves .entry)) (now (witness .entry)) (now («hash_matrix» .entry)) (now (batching .entry)) (now (out .entry)) (now (out .exit)) r ⌝ }
 {
     format::word_of(core::calls::prove(key, leaves, witness, hash_matrix, batching, out))
 }

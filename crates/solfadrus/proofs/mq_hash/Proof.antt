@@ -22,7 +22,7 @@ same-length c = search needs
 returns : tie.Need-returns
 returns c =
     let told = c .before .before .before .hash in
-    (c .word-of .ensures ∙ ap word (told .ensures .0), rw (told .ensures .0) at (told .ensures .1))
+    (answerOf (told .result), (c .word-of .ensures, told .ensures .0, told .ensures .1))
 
 pub mq-hash-spec : {M : Type 1} → statement M
 mq-hash-spec = tie.close (tie.spec hash-requires word-of-requires same-length returns)

@@ -1,0 +1,66 @@
+-- Demand 1 and demand 2 of the exports, over what their contracts promise.
+--   Listed s r == r is 0, or number × 65,536 + place of a refusal in the published list, for a key of sizes s
+--   TestTold, CommitWrites, HashWrites, BatchWrites, ProveWrites == the promises of mq_test, mq_commit, mq_hash, mq_batch, mq_prove: their inputs, the output before and after, the number
+-- Assumes nothing.
+use mathlib.Core.Path.{_≡_}
+use mathlib.Core.Logic.{_↔_, _≢_}
+use mathlib.Core.Bool.{true}
+use mathlib.Core.List.{List, _++_}
+use Prim.Native.Nat.{ℕ}
+use Rattle.protocol.specs.Binary.{bits256}
+use Rattle.protocol.specs.Shape.{Shape, shapeOf}
+use Rattle.protocol.specs.Prover.{commitBytes, hashBytes, batchBytes, proofOf}
+use Rattle.protocol.specs.Answers.{Answer, word, Published}
+use Rattle.protocol.specs.Calls.{hashAnswer, TestReply, CommitReply, BatchReply, ProveReply, testForm, commitForm, batchForm, proveForm}
+use Rattle.protocol.specs.Statements.{SomeFails}
+use Rattle.solfadrus.specs.Told.{Told, Writes}
+
+abbrev pub Listed : Shape → ℕ → Type 0
+Listed s = Told (Published s)
+
+module _ (key : List ℕ) where
+  abbrev pub TestTold : List ℕ → ℕ → Type 0
+  TestTold x = Told (TestReply bits256 key x)
+
+  abbrev pub CommitWrites : List ℕ → List ℕ → List ℕ → List ℕ → ℕ → Type 0
+  CommitWrites leaves x before after = Writes (CommitReply bits256 key leaves x before) before after (commitBytes bits256 key leaves x)
+
+  abbrev pub HashWrites : List ℕ → List ℕ → List ℕ → List ℕ → ℕ → Type 0
+  HashWrites leaves H′ before after = Writes (λ a. a ≡ hashAnswer bits256 key leaves H′ before) before after (hashBytes bits256 key leaves H′)
+
+  abbrev pub BatchWrites : List ℕ → List ℕ → List ℕ → List ℕ → List ℕ → ℕ → Type 0
+  BatchWrites leaves x χ before after = Writes (BatchReply bits256 key leaves x χ before) before after (batchBytes bits256 key leaves x χ)
+
+  abbrev pub ProveWrites : List ℕ → List ℕ → List ℕ → List ℕ → List ℕ → List ℕ → ℕ → Type 0
+  ProveWrites leaves x H′ χ before after = Writes (ProveReply bits256 key leaves x H′ χ before) before after (proofOf bits256 key leaves x H′ χ)
+
+-- "every input is taken or refused by a number and place from a published list"
+pub record EveryAnswerListed : Type 0 where
+  pub test-listed : (key x : List ℕ) (r : ℕ) → TestTold key x r → Listed (shapeOf key) r
+  pub commit-listed : (key leaves x before after : List ℕ) (r : ℕ) → CommitWrites key leaves x before after r → Listed (shapeOf key) r
+  pub hash-listed : (key leaves H′ before after : List ℕ) (r : ℕ) → HashWrites key leaves H′ before after r → Listed (shapeOf key) r
+  pub batch-listed : (key leaves x χ before after : List ℕ) (r : ℕ) → BatchWrites key leaves x χ before after r → Listed (shapeOf key) r
+  pub prove-listed : (key leaves x H′ χ before after : List ℕ) (r : ℕ) → ProveWrites key leaves x H′ χ before after r → Listed (shapeOf key) r
+
+-- "a refused call changes no lent byte": of any export that writes. Inputs are lent for reading only.
+abbrev pub RefusedKeeps : Type 1
+RefusedKeeps = (reply : Answer → Type 0) (before after bytes : List ℕ) (r : ℕ) → Writes reply before after bytes r → r ≢ 0 → after ≡ before
+
+-- An accepted call has written the definition's bytes.
+pub record AcceptedWrites : Type 0 where
+  pub commit-writes : (key leaves x before after : List ℕ) → CommitWrites key leaves x before after 0 → after ≡ commitBytes bits256 key leaves x
+  pub hash-writes : (key leaves H′ before after : List ℕ) → HashWrites key leaves H′ before after 0 → after ≡ hashBytes bits256 key leaves H′
+  pub batch-writes : (key leaves x χ before after : List ℕ) → BatchWrites key leaves x χ before after 0 → after ≡ batchBytes bits256 key leaves x χ
+  pub prove-writes : (key leaves x H′ χ before after : List ℕ) → ProveWrites key leaves x H′ χ before after 0 → after ≡ proofOf bits256 key leaves x H′ χ
+
+-- "a witness of right form is refused exactly when some equation fails"
+pub record RefusedWhenFails : Type 0 where
+  pub test-fails : (key x : List ℕ) (r : ℕ) → testForm bits256 key x ≡ true → TestTold key x r → (r ≢ 0) ↔ SomeFails bits256 key x
+  pub commit-fails : (key leaves x before after : List ℕ) (r : ℕ) → commitForm bits256 key leaves x before ≡ true → CommitWrites key leaves x before after r → (r ≢ 0) ↔ SomeFails bits256 key x
+  pub batch-fails : (key leaves x χ before after : List ℕ) (r : ℕ) → batchForm bits256 key leaves x χ before ≡ true → BatchWrites key leaves x χ before after r → (r ≢ 0) ↔ SomeFails bits256 key x
+  pub prove-fails : (key leaves x H′ χ before after : List ℕ) (r : ℕ) → proveForm bits256 key leaves x H′ χ before ≡ true → ProveWrites key leaves x H′ χ before after r → (r ≢ 0) ↔ SomeFails bits256 key x
+
+-- The three steps' bytes, one after the other, are the whole call's.
+abbrev pub StepsMakeWhole : Type 0
+StepsMakeWhole = (key leaves x H′ χ : List ℕ) (b₁ a₁ b₂ a₂ b₃ a₃ b a : List ℕ) → CommitWrites key leaves x b₁ a₁ 0 → HashWrites key leaves H′ b₂ a₂ 0 → BatchWrites key leaves x χ b₃ a₃ 0
+    → ProveWrites key leaves x H′ χ b a 0 → a ≡ a₁ ++ (a₂ ++ a₃)
