@@ -1,6 +1,6 @@
 -- What each call knows once its questions on form got a yes.
---   KeyForm s key, WitnessForm s x, BatchingForm s χ == of the key, the witness, the batching bytes
---   CommitFacts, HashFacts, BatchFacts, ProveFacts == of all inputs of a call, and of its output's length
+--   KeyFacts s key == of the key;  WitnessForm s x == of the witness
+--   TestFacts, CommitFacts, HashFacts, BatchFacts, ProveFacts == of all inputs of a call, and of its output's length
 -- Assumes nothing.
 use mathlib.Core.Path.{_≡_}
 use mathlib.Core.Bool.{true}

@@ -28,7 +28,7 @@ use format::Sizes;
 use format::Verdict;
 use lanes::LANES;
 
-// Room for the largest key: bytes of a leaf, of a row of H′, hash rows, repetitions.
+// Room for the largest key: bytes of a leaf, bytes of a row of bits, hash rows. Its repetitions are the lanes.
 const MOST_LEAF: usize = 41;
 
 const MOST_ROW: usize = 21;

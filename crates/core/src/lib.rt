@@ -1,4 +1,4 @@
-// The six calls.
+// The calls that make a proof, and the sections that they write one after the other.
 pub mod calls;
 mod hash;
 mod steps;
