@@ -13,7 +13,10 @@ need valgrind valgrind
 lib=${1:-$(library)}
 work=target/secrets
 mkdir -p "$work"
-gcc -std=c11 -O1 -Wall -Wextra -Werror -Iinclude -Itests tests/secrets.c "$lib/libsolfadrus.a" -o "$work/secrets"
+compile="gcc -std=c11 -O1 -Wall -Wextra -Werror -Iinclude -Itests tests/secrets.c $lib/libsolfadrus.a"
+$compile -o "$work/secrets"
+# For the traces linked statically: the dynamic loader's own is not the same from run to run.
+$compile -static -o "$work/traced"
 
 for case in 0 1; do
     "$work/secrets" make $case "$work/case$case"
@@ -26,7 +29,7 @@ marked() {
 
 # The trace's lines and their sum. Valgrind's own lines begin with its process number.
 traced() {
-    valgrind --tool=lackey --trace-mem=yes --log-fd=9 "$work/secrets" "$1" "$2" 9>&1 | grep -v '^==' >"$work/trace"
+    valgrind --tool=lackey --trace-mem=yes --log-fd=9 "$work/traced" "$1" "$2" 9>&1 | grep -v '^==' >"$work/trace"
     echo "$(wc -l <"$work/trace") $(sha256sum <"$work/trace")"
 }
 
