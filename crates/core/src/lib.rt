@@ -1,7 +1,7 @@
 // The calls that make a proof, and the sections that they write one after the other.
 pub mod calls;
-mod hash;
-mod steps;
+pub mod hash;
+pub mod steps;
 mod witness;
 
 ghost use mathlib.Core.Path.{_≡_};

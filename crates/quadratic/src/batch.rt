@@ -19,7 +19,7 @@ use lanes::LANES;
 const SUMS: usize = VARIABLES / 8 * lanes::PER_BYTE * LANES;
 
 // out[e] = χ(e, i), for each repetition e.
-fn gather(out: &mut [u8], chi: &[u8], m: usize, i: usize, tau: usize)
+pub fn gather(out: &mut [u8], chi: &[u8], m: usize, i: usize, tau: usize)
     requires { ⌜ (tau ≤ length (now out)) × (length (now chi) ≡ tau * m) × (i < m) ⌝ }
     ensures { λ _. ⌜ ((e : ℕ) → e < tau → byteAt (now (out .exit)) e ≡ byteAt (now (chi .entry)) (e * m + i)) ⌝ }
 {
