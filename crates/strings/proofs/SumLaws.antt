@@ -1,11 +1,12 @@
--- Laws of sums: one term more, a part after a part, terms that agree, terms that are 0, the bound of a sum; and a term times a bit, which a loop adds under a test.
+-- Laws of sums: one term more, a part after a part, terms that agree, terms that are 0, the bound of a sum, terms that are sums, terms times a bit;
+-- and a term times a bit, which a loop adds under a test.
 -- Assumes nothing.
 use Prim.Native.Nat.{ℕ, zero, suc, _+_, _*_, _-_, _^_, _≤_, _<_}
 use mathlib.Core.Path.{_≡_, refl, sym, ap, ap₂, _∙_}
-use native.Mathlib.Nat.{add-suc, add-zero, one-mul, zero-mul}
+use native.Mathlib.Nat.{add-suc, add-zero, one-mul, zero-mul, mul-zero}
 use native.Mathlib.Numerals.{add-one}
 use native.Mathlib.Omega.{arith}
-use lib.Bits.{bitXor, xor-zero-r, xor-lt}
+use lib.Bits.{bitXor, xor-zero-r, xor-comm, xor-self, xor-lt}
 use Rattle.strings.specs.Sums.{xorSum}
 use Rattle.strings.proofs.XorLaws.{xor-assoc}
 
@@ -46,6 +47,35 @@ pub sum-lt : (k n : ℕ) (f : ℕ → ℕ) → 0 < 2 ^ k → ((i : ℕ) → i < 
 unfolding xorSum
 sum-lt k zero f pos h = pos
 sum-lt k (suc n) f pos h = xor-lt k (xorSum n f) (f n) (sum-lt k n f pos (λ i l. h i (omega arith))) (h n (omega arith))
+
+four : (a b c d : ℕ) → bitXor (bitXor a b) (bitXor c d) ≡ bitXor (bitXor a c) (bitXor b d)
+four a b c d =
+    xor-assoc a b (bitXor c d)
+    ∙ ap (bitXor a) (sym (xor-assoc b c d) ∙ ap (λ (x : ℕ). bitXor x d) (xor-comm b c) ∙ xor-assoc c b d)
+    ∙ sym (xor-assoc a c (bitXor b d))
+
+pub sum-both : (n : ℕ) (f g : ℕ → ℕ) → xorSum n (λ i. bitXor (f i) (g i)) ≡ bitXor (xorSum n f) (xorSum n g)
+unfolding xorSum
+sum-both zero f g = refl
+sum-both (suc n) f g = ap (λ (x : ℕ). bitXor x (bitXor (f n) (g n))) (sum-both n f g) ∙ four (xorSum n f) (xorSum n g) (f n) (g n)
+
+-- a bit times a sum, and a sum of two bits times a number
+pub scale-xor : (q a b : ℕ) → q < 2 → q * bitXor a b ≡ bitXor (q * a) (q * b)
+scale-xor zero a b h = simp zero-mul
+scale-xor (suc zero) a b h = simp one-mul
+scale-xor (suc (suc q)) a b h = absurd (omega arith)
+
+pub xor-scale : (q r x : ℕ) → q < 2 → r < 2 → bitXor q r * x ≡ bitXor (q * x) (r * x)
+xor-scale zero r x h k = simp zero-mul
+xor-scale (suc zero) zero x h k = simp (zero-mul, one-mul) (sym (xor-zero-r x))
+xor-scale (suc zero) (suc zero) x h k = simp (zero-mul, one-mul) (sym (xor-self x))
+xor-scale (suc zero) (suc (suc r)) x h k = absurd (omega arith)
+xor-scale (suc (suc q)) r x h k = absurd (omega arith)
+
+pub sum-scale : (q n : ℕ) (f : ℕ → ℕ) → q < 2 → xorSum n (λ i. q * f i) ≡ q * xorSum n f
+unfolding xorSum
+sum-scale q zero f h = sym (mul-zero q)
+sum-scale q (suc n) f h = ap (λ (x : ℕ). bitXor x (q * f n)) (sum-scale q n f h) ∙ sym (scale-xor q (xorSum n f) (f n) h)
 
 -- a sum in a running total, and one term more
 pub sum-step : (a v n : ℕ) (f : ℕ → ℕ) → v ≡ bitXor a (xorSum n f) → bitXor v (f n) ≡ bitXor a (xorSum (n + 1) f)

@@ -3,5 +3,7 @@ pub mod PartialLaws
 pub mod LaneLaws
 pub mod TreeLaws
 pub mod SumsMeaning
+pub mod OpenedLaws
+pub mod OpenedMeaning
 pub mod SectionLaws
 pub mod HashLaws

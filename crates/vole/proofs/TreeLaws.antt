@@ -1,4 +1,5 @@
 -- One tree: its leaves among all leaves, and the bits of v from its planes; and the trees one after the other.
+--   LanesAre g l n w == lane e of the 8·w coordinates of the table l is g e, for each e below n
 -- Assumes nothing.
 use Prim.Native.Nat.{ℕ, zero, suc, _+_, _*_, _/_, _%_, _<_}
 use mathlib.Core.Path.{_≡_, sym, ap, _∙_}
@@ -15,7 +16,30 @@ use Rattle.strings.specs.Sums.{byteAt, bitOf, xorSum}
 use Rattle.strings.proofs.Rows.{row-end, row-byte}
 use Rattle.strings.proofs.SumLaws.{sum-same, sum-lt}
 use Rattle.strings.proofs.Meaning.{bitOf-lt, bitOf-sum, bit-times, times-bit, bit-is}
-use Rattle.vole.specs.Sums.{lanes, planeByte, uByte, vByte, TableIs}
+use Rattle.vole.specs.Sums.{lanes, planeByte, uByte, vByte}
+
+pub times-lt : (j q : ℕ) → j < 256 → q < 2 → j * q < 256
+times-lt j zero h k = omega arith
+times-lt j (suc zero) h k = omega arith
+times-lt j (suc (suc q)) h k = absurd (omega arith)
+
+-- a byte from its bits, each in the plane of its own
+pub planes-byte : (planes : List ℕ) (w c x : ℕ) → c < 8 * w → x < 256 → ((p : ℕ) → p < 8 → bitOf (byteAt planes (p * w + c / 8)) (c % 8) ≡ bitOf x p)
+    → fromBits 8 (λ p. bit (blockAt planes w p) c) ≡ x
+unfolding bitOf
+planes-byte planes w c x h small is =
+    let l : c / 8 < w = omega arith in
+    bits-congr 8 _ (λ p. bitOf x p) (λ p k. bit-is (blockAt planes w p) c ∙ ap (λ y. bitOf y (c % 8)) (row-byte planes w p (c / 8) l) ∙ is p k)
+    ∙ bits-of 8 x small
+
+abbrev pub LanesAre : (ℕ → ℕ → ℕ) → List ℕ → ℕ → ℕ → Type 0
+LanesAre g l n w = (e c : ℕ) → e < n → c < 8 * w → byteAt l (c * lanes + e) ≡ g e c
+
+-- the lanes below e are done, and now lane e
+pub lanes-more : (g : ℕ → ℕ → ℕ) (w e : ℕ) (l l′ : List ℕ) → e < lanes → LanesAre g l e w → ((c : ℕ) → c < 8 * w → byteAt l′ (c * lanes + e) ≡ g e c)
+    → ((c q : ℕ) → q < lanes → (q ≡ e → ⊥) → byteAt l′ (c * lanes + q) ≡ byteAt l (c * lanes + q)) → LanesAre g l′ (e + 1) w
+lanes-more g w e l l′ el done lane others q c h k =
+    ⊎-elim (λ (eq : q ≡ e). rw eq (lane c k)) (λ (lt : q < e). others c q (omega arith) (λ x. omega arith) ∙ done q c lt k) (eq-or-lt-of-le (le-of-suc-le-suc (rw add-one at h)))
 
 module _ (leaves : List ℕ) (w e : ℕ) where
   tree-byte : (j b : ℕ) → j < 256 → b < w → byteAt (blockAt leaves (256 * w) e) (j * w + b) ≡ byteAt leaves ((e * 256 + j) * w + b)
@@ -25,11 +49,6 @@ module _ (leaves : List ℕ) (w e : ℕ) where
 
   pub tree-u : (b : ℕ) → b < w → xorSum 256 (λ j. byteAt (blockAt leaves (256 * w) e) (j * w + b)) ≡ uByte leaves w e b
   tree-u b l = sum-same 256 _ _ (λ j h. tree-byte j b h l)
-
-  times-lt : (j q : ℕ) → j < 256 → q < 2 → j * q < 256
-  times-lt j zero h k = omega arith
-  times-lt j (suc zero) h k = omega arith
-  times-lt j (suc (suc q)) h k = absurd (omega arith)
 
   pub v-lt : (c : ℕ) → vByte leaves w e c < 256
   v-lt c = sum-lt 8 256 _ (lit< tt) (λ j h. times-lt j (bit (blockAt leaves w (e * 256 + j)) c) h (bit-lt (blockAt leaves w (e * 256 + j)) c))
@@ -48,15 +67,6 @@ module _ (leaves : List ℕ) (w e : ℕ) where
 
   pub tree-v : (planes : List ℕ) → ((p b : ℕ) → p < 8 → b < w → byteAt planes (p * w + b) ≡ planeByte (blockAt leaves (256 * w) e) 256 w p b)
       → (c : ℕ) → c < 8 * w → fromBits 8 (λ p. bit (blockAt planes w p) c) ≡ vByte leaves w e c
-  unfolding bitOf
   tree-v planes is c h =
       let l : c / 8 < w = omega arith in
-      bits-congr 8 _ (λ p. bitOf (vByte leaves w e c) p)
-      (λ p k. bit-is (blockAt planes w p) c ∙ ap (λ y. bitOf y (c % 8)) (row-byte planes w p (c / 8) l ∙ is p (c / 8) k l) ∙ plane-bit p c h)
-      ∙ bits-of 8 (vByte leaves w e c) (v-lt c)
-
-  -- the lanes below e are done, and now lane e
-  pub table-more : (l l′ : List ℕ) → e < lanes → TableIs l leaves e w → ((c : ℕ) → c < 8 * w → byteAt l′ (c * lanes + e) ≡ vByte leaves w e c)
-      → ((c q : ℕ) → q < lanes → (q ≡ e → ⊥) → byteAt l′ (c * lanes + q) ≡ byteAt l (c * lanes + q)) → TableIs l′ leaves (e + 1) w
-  table-more l l′ el done lane others q c h k =
-      ⊎-elim (λ (eq : q ≡ e). rw eq (lane c k)) (λ (lt : q < e). others c q (omega arith) (λ x. omega arith) ∙ done q c lt k) (eq-or-lt-of-le (le-of-suc-le-suc (rw add-one at h)))
+      planes-byte planes w c (vByte leaves w e c) h (v-lt c) (λ p k. ap (λ y. bitOf y (c % 8)) (is p (c / 8) k l) ∙ plane-bit p c h)

@@ -1,4 +1,6 @@
 // Leaf sums for all repetitions, and the sections C, d and ũ that are made of them.
+pub mod opened;
+
 use field::Gf256;
 ghost use mathlib.Core.Path.{_≡_};
 ghost use Prim.Native.Nat.{ℕ, _+_, _*_, _-_, _<_, _≤_};

@@ -7,9 +7,9 @@ use native.Mathlib.Nat.{mul-assoc}
 use native.Mathlib.Omega.{arith}
 use denote.Ref.{now}
 use lib.ListN.{length, length-take, length-drop, length-append}
-use Rattle.vole.specs.Sums.{uByte, SumsAre, TableIs}
+use Rattle.vole.specs.Sums.{uByte, vByte, SumsAre, TableIs}
 use Rattle.strings.proofs.Rows.{row-end, rows-more}
-use Rattle.vole.proofs.TreeLaws.{table-more}
+use Rattle.vole.proofs.TreeLaws.{lanes-more}
 use Rattle.vole.proofs.load_trees.Statement.{statement}
 use Rattle.vole.proofs.load_trees.Tie as tie
 
@@ -54,7 +54,7 @@ loop-again c =
       call .kept .1 .0 ∙ l .inv .2,
       simp (length-append, length-drop) (omega (arith, long)),
       rows-more (uByte (now (a .leaves)) (a .w)) (l .sums) (call .last .1 .0) (l .e) (a .w) (l .inv .4) (call .ensures .0) (call .ensures .1 .1 .0),
-      table-more (now (a .leaves)) (a .w) (l .e) (l .table) (call .last .0) (omega arith) (l .inv .5) (call .ensures .1 .0) (call .ensures .1 .1 .1),
+      lanes-more (vByte (now (a .leaves)) (a .w)) (a .w) (l .e) (l .table) (call .last .0) (omega arith) (l .inv .5) (call .ensures .1 .0) (call .ensures .1 .1 .1),
     )
 
 same-length : tie.Need-same-length Inv-loop μ-loop
