@@ -5,7 +5,7 @@ use mathlib.Core.Bool.{Bool, true, false, false≢true}
 use Prim.Native.Nat.{ℕ, zero, suc, _≤_, _<_}
 use native.Mathlib.Omega.{arith}
 use Rattle.protocol.specs.Lists.{allBelow, firstNot}
-use Rattle.protocol.proofs.TestLaws.{all-at}
+use Rattle.protocol.proofs.TestLaws.{all-at, all-of, first-before}
 
 pub first-at : (n : ℕ) (p : ℕ → Bool) (i : ℕ) → i < n → ((k : ℕ) → k < i → p k ≡ true) → p i ≡ false → firstNot n p ≡ i
 unfolding firstNot
@@ -31,3 +31,13 @@ all-not n p i l fails = go (allBelow n p) refl
     go : (b : Bool) → allBelow n p ≡ b → allBelow n p ≡ false
     go true h = absurd (false≢true (sym fails ∙ all-at n p h i l))
     go false h = h
+
+pub first-below : (n : ℕ) (p : ℕ → Bool) → firstNot n p < n → allBelow n p ≡ false
+first-below n p h = go (allBelow n p) refl
+  where
+    go : (b : Bool) → allBelow n p ≡ b → allBelow n p ≡ false
+    go true all = absurd (omega (arith, h, first-none n p (all-at n p all)))
+    go false all = all
+
+pub first-all : (n : ℕ) (p : ℕ → Bool) → n ≤ firstNot n p → allBelow n p ≡ true
+first-all n p h = all-of n p (λ i l. first-before n p i (omega (arith, h, l)))

@@ -1,2 +1,4 @@
 pub mod FirstLaws
 pub mod CheckMeaning
+pub mod GivenLaws
+pub mod AnswerLaws
