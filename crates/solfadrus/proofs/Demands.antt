@@ -2,18 +2,23 @@
 -- Assumes nothing.
 use mathlib.Core.Path.{_≡_, refl, sym, ap, ap₂, _∙_, subst}
 use mathlib.Core.Logic.{_↔_, _≢_}
-use mathlib.Core.List.{List, _++_}
+use mathlib.Core.Bool.{true}
+use mathlib.Core.List.{List, [], _∷_, _++_}
 use Prim.Native.Nat.{ℕ, _+_, _*_}
 use native.Mathlib.Omega.{arith}
 use Rattle.protocol.specs.Binary.{bits256}
-use Rattle.protocol.specs.Shape.{Shape, shapeOf}
-use Rattle.protocol.specs.Answers.{Answer, accepted, refused, word, written, Published, taken, header-short, size-out-of-range, key-length, key-spare-bit, challenge-length, hash-spare-bit, leaf-length, leaf-spare-bit, witness-form, output-length, equation-fails, proof-length, proof-spare-bit, inconsistent, product-differs}
-use Rattle.protocol.specs.Calls.{hashAnswer}
+use Rattle.protocol.specs.Shape.{Shape, shapeOf, perTree}
+use Rattle.protocol.specs.Answers.{Answer, accepted, refused, Question, placeOf, word, written, Published, taken, header-short, size-out-of-range, key-length, key-spare-bit, challenge-length, hash-spare-bit, leaf-length, leaf-spare-bit, witness-form, output-length, equation-fails, proof-length, proof-spare-bit, inconsistent, product-differs}
+use Rattle.protocol.specs.Questions.{hExact, χExact, solves, q1, q2, q3, q4, q5, q6, q7, q8, q9, q11}
+use Rattle.protocol.specs.Calls.{hashAnswer, proveQuestions, proveAnswer, verifyAnswer, honestForm}
+use Rattle.protocol.specs.Counting.{opening}
 use Rattle.protocol.specs.Statements.{SomeFails}
 use Rattle.protocol.proofs.Published.{all-published, refuses-exactly-when}
+use Rattle.protocol.proofs.AnswerLaws.{ask-accepts, all-yes, yes-all}
 use Rattle.protocol.proofs.Theorems.{steps-are-whole}
+use Rattle.protocol.proofs.Demands.{accepts-exactly-when, honest-proof-accepted}
 use Rattle.solfadrus.specs.Told.{Told, Writes}
-use Rattle.solfadrus.specs.Demands.{EveryAnswerListed, RefusedKeeps, AcceptedWrites, RefusedWhenFails, StepsMakeWhole}
+use Rattle.solfadrus.specs.Demands.{EveryAnswerListed, RefusedKeeps, AcceptedWrites, RefusedWhenFails, VerifierAcceptsExactly, WrittenIsAccepted, StepsMakeWhole}
 
 hash-published : (key leaves H′ out : List ℕ) (a : Answer) → a ≡ hashAnswer bits256 key leaves H′ out → Published (shapeOf key) a
 hash-published key leaves H′ out a h = subst (Published (shapeOf key)) (sym h) (all-published bits256 .hash-published key leaves H′ out)
@@ -25,9 +30,10 @@ every-answer-listed = record {
   hash-listed = λ key leaves H′ before after r t. (t .0, (t .1 .0, hash-published key leaves H′ before (t .0) (t .1 .1)));
   batch-listed = λ key leaves x χ before after r t. (t .0, (t .1 .0, all-published bits256 .batch-published key leaves x χ before (t .0) (t .1 .1)));
   prove-listed = λ key leaves x H′ χ before after r t. (t .0, (t .1 .0, all-published bits256 .prove-published key leaves x H′ χ before (t .0) (t .1 .1)));
+  verify-listed = λ key Δ H′ χ opened proof r t. (verifyAnswer bits256 key Δ H′ χ opened proof, (t, all-published bits256 .verify-published key Δ H′ χ opened proof));
 }
 
-word-accepted : word accepted ≡ 0
+pub word-accepted : word accepted ≡ 0
 unfolding word
 word-accepted = refl
 
@@ -39,7 +45,7 @@ pub refused-keeps : RefusedKeeps
 refused-keeps reply before after bytes r t n = kept (t .0) before after bytes (t .1 .2) (λ z. n (t .1 .0 ∙ z))
 
 -- no refusal of the list has the word 0
-only-accepted : (s : Shape) (a : Answer) → Published s a → word a ≡ 0 → a ≡ accepted
+pub only-accepted : (s : Shape) (a : Answer) → Published s a → word a ≡ 0 → a ≡ accepted
 unfolding word
 only-accepted s accepted taken h = refl
 only-accepted s (refused i p) header-short h = absurd (omega (arith, h))
@@ -88,3 +94,34 @@ pub steps-make-whole : StepsMakeWhole
 steps-make-whole key leaves x H′ χ b₁ a₁ b₂ a₂ b₃ a₃ b a commit hash batch prove =
     accepted-writes .prove-writes key leaves x H′ χ b a prove ∙ sym (steps-are-whole bits256 key leaves x H′ χ)
     ∙ sym (ap₂ (λ (p q : List ℕ). p ++ q) (accepted-writes .commit-writes key leaves x b₁ a₁ commit) (ap₂ (λ (p q : List ℕ). p ++ q) (accepted-writes .hash-writes key leaves H′ b₂ a₂ hash) (accepted-writes .batch-writes key leaves x χ b₃ a₃ batch)))
+
+pub verifier-accepts-exactly : VerifierAcceptsExactly
+verifier-accepts-exactly key Δ H′ χ opened proof r form told =
+    let exactly = accepts-exactly-when key Δ H′ χ opened proof form in
+    (λ z. exactly .0 (only-accepted (shapeOf key) _ (all-published bits256 .verify-published key Δ H′ χ opened proof) (sym told ∙ z)), λ hold. told ∙ ap word (exactly .1 hold) ∙ word-accepted)
+
+-- those of prove that are not of its output
+abbrev honestQuestions : List ℕ → List ℕ → List ℕ → List ℕ → List ℕ → List Question
+honestQuestions key leaves x H′ χ =
+    let s = shapeOf key in
+    q1 bits256 s key ∷ q2 bits256 s ∷ q3 bits256 s key ∷ q4 bits256 s key ∷ q5 bits256 s (hExact bits256 s H′ ∷ χExact bits256 s χ ∷ []) ∷ q6 bits256 s H′ ∷ q7 bits256 s (perTree bits256) leaves
+    ∷ q8 bits256 s (perTree bits256) leaves ∷ q9 bits256 s x ∷ []
+
+-- the questions of prove that are not of its output, and the solved system, where it is accepted
+proved : (key leaves x H′ χ out : List ℕ) (p : ℕ) → proveAnswer bits256 key leaves x H′ χ out p ≡ accepted
+    → (honestForm bits256 key leaves x H′ χ ≡ true) × (solves bits256 (shapeOf key) key x ≡ true)
+unfolding proveAnswer honestForm
+proved key leaves x H′ χ out p h =
+    let y = all-yes (proveQuestions bits256 key leaves x H′ χ out ++ (q11 bits256 (shapeOf key) key x p ∷ [])) (ask-accepts (proveQuestions bits256 key leaves x H′ χ out ++ (q11 bits256 (shapeOf key) key x p ∷ [])) .0 h) in
+    (yes-all (honestQuestions key leaves x H′ χ) (y .0, (y .1 .0, (y .1 .1 .0, (y .1 .1 .1 .0, (y .1 .1 .1 .1 .0, (y .1 .1 .1 .1 .1 .0, (y .1 .1 .1 .1 .1 .1 .0, (y .1 .1 .1 .1 .1 .1 .1 .0, (y .1 .1 .1 .1 .1 .1 .1 .1 .0, tt))))))))), y .1 .1 .1 .1 .1 .1 .1 .1 .1 .1 .0)
+
+pub written-is-accepted : WrittenIsAccepted
+written-is-accepted key leaves x H′ χ before after Δ r writes long small told =
+    let a = writes .0 in
+    let is : a ≡ accepted = only-accepted (shapeOf key) a (all-published bits256 .prove-published key leaves x H′ χ before a (writes .1 .1)) (sym (writes .1 .0)) in
+    let given = proved key leaves x H′ χ before (placeOf a) (sym (writes .1 .1 .answers) ∙ is) in
+    told
+    ∙ ap word
+    (ap (verifyAnswer bits256 key Δ H′ χ (opening bits256 (shapeOf key) leaves Δ)) (accepted-writes .prove-writes key leaves x H′ χ before after writes)
+    ∙ honest-proof-accepted key leaves x H′ χ Δ (given .0) (given .1) long small)
+    ∙ word-accepted

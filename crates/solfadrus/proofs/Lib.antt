@@ -1,2 +1,3 @@
 pub mod SizedLaws
 pub mod Demands
+pub mod Forgery

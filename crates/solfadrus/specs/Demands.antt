@@ -1,17 +1,22 @@
--- Demand 1 and demand 2 of the exports, over what their contracts promise.
+-- Demand 1 and demand 2 of the exports, over what their contracts promise. Demand 3 is in Forgery.
 --   Listed s r == r is 0, or number × 65,536 + place of a refusal in the published list, for a key of sizes s
 --   TestTold, CommitWrites, HashWrites, BatchWrites, ProveWrites == the promises of mq_test, mq_commit, mq_hash, mq_batch, mq_prove: their inputs, the output before and after, the number
+--   VerifyTold == the promise of mq_verify, which writes nothing: its inputs, the number
 -- Assumes nothing.
 use mathlib.Core.Path.{_≡_}
 use mathlib.Core.Logic.{_↔_, _≢_}
 use mathlib.Core.Bool.{true}
 use mathlib.Core.List.{List, _++_}
-use Prim.Native.Nat.{ℕ}
+use Prim.Native.Nat.{ℕ, _<_}
+use lib.ListN.{length}
+use Rattle.protocol.specs.Strings.{bytes}
 use Rattle.protocol.specs.Binary.{bits256}
 use Rattle.protocol.specs.Shape.{Shape, shapeOf}
 use Rattle.protocol.specs.Prover.{commitBytes, hashBytes, batchBytes, proofOf}
 use Rattle.protocol.specs.Answers.{Answer, word, Published}
-use Rattle.protocol.specs.Calls.{hashAnswer, TestReply, CommitReply, BatchReply, ProveReply, testForm, commitForm, batchForm, proveForm}
+use Rattle.protocol.specs.Questions.{consistentIn, productIn}
+use Rattle.protocol.specs.Calls.{hashAnswer, verifyAnswer, TestReply, CommitReply, BatchReply, ProveReply, testForm, commitForm, batchForm, proveForm, verifyForm}
+use Rattle.protocol.specs.Counting.{opening}
 use Rattle.protocol.specs.Statements.{SomeFails}
 use Rattle.solfadrus.specs.Told.{Told, Writes}
 
@@ -34,6 +39,9 @@ module _ (key : List ℕ) where
   abbrev pub ProveWrites : List ℕ → List ℕ → List ℕ → List ℕ → List ℕ → List ℕ → ℕ → Type 0
   ProveWrites leaves x H′ χ before after = Writes (ProveReply bits256 key leaves x H′ χ before) before after (proofOf bits256 key leaves x H′ χ)
 
+  abbrev pub VerifyTold : List ℕ → List ℕ → List ℕ → List ℕ → List ℕ → ℕ → Type 0
+  VerifyTold Δ H′ χ opened proof r = r ≡ word (verifyAnswer bits256 key Δ H′ χ opened proof)
+
 -- "every input is taken or refused by a number and place from a published list"
 pub record EveryAnswerListed : Type 0 where
   pub test-listed : (key x : List ℕ) (r : ℕ) → TestTold key x r → Listed (shapeOf key) r
@@ -41,8 +49,9 @@ pub record EveryAnswerListed : Type 0 where
   pub hash-listed : (key leaves H′ before after : List ℕ) (r : ℕ) → HashWrites key leaves H′ before after r → Listed (shapeOf key) r
   pub batch-listed : (key leaves x χ before after : List ℕ) (r : ℕ) → BatchWrites key leaves x χ before after r → Listed (shapeOf key) r
   pub prove-listed : (key leaves x H′ χ before after : List ℕ) (r : ℕ) → ProveWrites key leaves x H′ χ before after r → Listed (shapeOf key) r
+  pub verify-listed : (key Δ H′ χ opened proof : List ℕ) (r : ℕ) → VerifyTold key Δ H′ χ opened proof r → Listed (shapeOf key) r
 
--- "a refused call changes no lent byte": of any export that writes. Inputs are lent for reading only.
+-- "a refused call changes no lent byte": of any export that writes. Inputs are lent for reading only, and mq_verify is lent nothing else.
 abbrev pub RefusedKeeps : Type 1
 RefusedKeeps = (reply : Answer → Type 0) (before after bytes : List ℕ) (r : ℕ) → Writes reply before after bytes r → r ≢ 0 → after ≡ before
 
@@ -59,6 +68,16 @@ pub record RefusedWhenFails : Type 0 where
   pub commit-fails : (key leaves x before after : List ℕ) (r : ℕ) → commitForm bits256 key leaves x before ≡ true → CommitWrites key leaves x before after r → (r ≢ 0) ↔ SomeFails bits256 key x
   pub batch-fails : (key leaves x χ before after : List ℕ) (r : ℕ) → batchForm bits256 key leaves x χ before ≡ true → BatchWrites key leaves x χ before after r → (r ≢ 0) ↔ SomeFails bits256 key x
   pub prove-fails : (key leaves x H′ χ before after : List ℕ) (r : ℕ) → proveForm bits256 key leaves x H′ χ before ≡ true → ProveWrites key leaves x H′ χ before after r → (r ≢ 0) ↔ SomeFails bits256 key x
+
+-- "Given well-formed input, the verifier accepts exactly when the published checks hold in every repetition."
+abbrev pub VerifierAcceptsExactly : Type 0
+VerifierAcceptsExactly = (key Δ H′ χ opened proof : List ℕ) (r : ℕ) → verifyForm bits256 key Δ H′ χ opened proof ≡ true → VerifyTold key Δ H′ χ opened proof r
+    → (r ≡ 0) ↔ ((e : ℕ) → e < shapeOf key .τ → (consistentIn bits256 (shapeOf key) Δ H′ opened proof e ≡ true) × (productIn bits256 (shapeOf key) key Δ χ opened proof e ≡ true))
+
+-- "So an honest proof is accepted at every challenge": what mq_prove wrote, mq_verify accepts at every Δ, with the leaves opened there.
+abbrev pub WrittenIsAccepted : Type 0
+WrittenIsAccepted = (key leaves x H′ χ before after Δ : List ℕ) (r : ℕ) → ProveWrites key leaves x H′ χ before after 0 → length Δ ≡ shapeOf key .τ → bytes Δ
+    → VerifyTold key Δ H′ χ (opening bits256 (shapeOf key) leaves Δ) after r → r ≡ 0
 
 -- The three steps' bytes, one after the other, are the whole call's.
 abbrev pub StepsMakeWhole : Type 0

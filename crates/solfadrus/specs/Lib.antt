@@ -1,3 +1,4 @@
 pub mod Sized
 pub mod Told
 pub mod Demands
+pub mod Forgery

@@ -1,6 +1,6 @@
 // The calls that C makes. Each answers with one number: 0 for accepted, else number × 65,536 + place.
 ghost use mathlib.Core.Path.{_≡_};
-ghost use Rattle.solfadrus.specs.Demands.{TestTold, CommitWrites, HashWrites, BatchWrites, ProveWrites};
+ghost use Rattle.solfadrus.specs.Demands.{TestTold, CommitWrites, HashWrites, BatchWrites, ProveWrites, VerifyTold};
 
 mod sizes;
 
@@ -58,4 +58,18 @@ pub extern "C" fn mq_prove(
     ensures { λ r. ⌜ ProveWrites (now (key .entry)) (now (leaves .entry)) (now (witness .entry)) (now («hash_matrix» .entry)) (now (batching .entry)) (now (out .entry)) (now (out .exit)) r ⌝ }
 {
     format::word_of(core::calls::prove(key, leaves, witness, hash_matrix, batching, out))
+}
+
+#[no_mangle]
+pub extern "C" fn mq_verify(
+    key: &[u8],
+    delta: &[u8],
+    hash_matrix: &[u8],
+    batching: &[u8],
+    opened: &[u8],
+    proof: &[u8],
+) -> u32
+    ensures { λ r. ⌜ VerifyTold (now (key .entry)) (now (delta .entry)) (now («hash_matrix» .entry)) (now (batching .entry)) (now (opened .entry)) (now (proof .entry)) r ⌝ }
+{
+    format::word_of(verifier::checks::verify(key, delta, hash_matrix, batching, opened, proof))
 }
