@@ -3,10 +3,14 @@
 -- Assumes nothing.
 use Prim.Native.Nat.{ℕ, zero, suc, _+_, _*_, _-_, _^_, _≤_, _<_}
 use mathlib.Core.Path.{_≡_, refl, sym, ap, ap₂, _∙_}
+use mathlib.Core.Bool.{cond}
 use native.Mathlib.Nat.{add-suc, add-zero, one-mul, zero-mul, mul-zero}
 use native.Mathlib.Numerals.{add-one}
+use native.Mathlib.Decide.{decLt, ℕ-discrete}
 use native.Mathlib.Omega.{arith}
 use lib.Bits.{bitXor, xor-zero-r, xor-comm, xor-self, xor-lt}
+use lib.Dec.{ltb}
+use Rattle.protocol.proofs.TestLaws.{ltb-yes, ltb-no}
 use Rattle.strings.specs.Sums.{xorSum}
 use Rattle.strings.proofs.XorLaws.{xor-assoc}
 
@@ -76,6 +80,35 @@ pub sum-scale : (q n : ℕ) (f : ℕ → ℕ) → q < 2 → xorSum n (λ i. q * 
 unfolding xorSum
 sum-scale q zero f h = sym (mul-zero q)
 sum-scale q (suc n) f h = ap (λ (x : ℕ). bitXor x (q * f n)) (sum-scale q n f h) ∙ sym (scale-xor q (xorSum n f) (f n) h)
+
+swap : (a b c : ℕ) → bitXor (bitXor a b) c ≡ bitXor (bitXor a c) b
+swap a b c = xor-assoc a b c ∙ ap (bitXor a) (xor-comm b c) ∙ sym (xor-assoc a c b)
+
+-- a sum after x was added to the term at k
+pub sum-put : (n k x : ℕ) (f g : ℕ → ℕ) → g k ≡ bitXor (f k) x → ((i : ℕ) → (i ≡ k → ⊥) → g i ≡ f i) → xorSum n g ≡ bitXor (xorSum n f) (cond (ltb k n) 1 0 * x)
+unfolding xorSum
+sum-put zero k x f g here there = rw (ltb-no k 0 (omega arith)) (sym (zero-mul x))
+sum-put (suc n) k x f g here there = go (decLt k n) (ℕ-discrete n k) (sum-put n k x f g here there)
+  where
+    go : Dec (k < n) → Dec (n ≡ k) → xorSum n g ≡ bitXor (xorSum n f) (cond (ltb k n) 1 0 * x) → bitXor (xorSum n g) (g n) ≡ bitXor (bitXor (xorSum n f) (f n)) (cond (ltb k (suc n)) 1 0 * x)
+    go (yes lt) d ih =
+        ap₂ bitXor ih (there n (λ e. omega arith))
+        ∙ ap (λ b. bitXor (bitXor (xorSum n f) (cond b 1 0 * x)) (f n)) (ltb-yes k n lt)
+        ∙ swap (xorSum n f) (1 * x) (f n)
+        ∙ ap (λ b. bitXor (bitXor (xorSum n f) (f n)) (cond b 1 0 * x)) (sym (ltb-yes k (suc n) (omega arith)))
+    go (no ge) (yes e) ih =
+        ap₂ bitXor ih (rw e here)
+        ∙ ap (λ b. bitXor (bitXor (xorSum n f) (cond b 1 0 * x)) (bitXor (f n) x)) (ltb-no k n (omega arith))
+        ∙ ap (λ z. bitXor (bitXor (xorSum n f) z) (bitXor (f n) x)) (zero-mul x)
+        ∙ ap (λ z. bitXor z (bitXor (f n) x)) (xor-zero-r (xorSum n f))
+        ∙ sym (xor-assoc (xorSum n f) (f n) x)
+        ∙ ap (bitXor (bitXor (xorSum n f) (f n))) (sym (one-mul x))
+        ∙ ap (λ b. bitXor (bitXor (xorSum n f) (f n)) (cond b 1 0 * x)) (sym (ltb-yes k (suc n) (omega (arith, e))))
+    go (no ge) (no ne) ih =
+        ap₂ bitXor ih (there n ne)
+        ∙ ap (λ b. bitXor (bitXor (xorSum n f) (cond b 1 0 * x)) (f n)) (ltb-no k n (omega arith))
+        ∙ swap (xorSum n f) (0 * x) (f n)
+        ∙ ap (λ b. bitXor (bitXor (xorSum n f) (f n)) (cond b 1 0 * x)) (sym (ltb-no k (suc n) (omega arith)))
 
 -- a sum in a running total, and one term more
 pub sum-step : (a v n : ℕ) (f : ℕ → ℕ) → v ≡ bitXor a (xorSum n f) → bitXor v (f n) ≡ bitXor a (xorSum (n + 1) f)

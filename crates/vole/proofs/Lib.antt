@@ -1,5 +1,6 @@
 pub mod PlaneLaws
 pub mod PartialLaws
+pub mod ChunkLaws
 pub mod LaneLaws
 pub mod TreeLaws
 pub mod SumsMeaning

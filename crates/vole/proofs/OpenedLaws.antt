@@ -17,7 +17,8 @@ use Rattle.strings.proofs.Rows.{row-byte}
 use Rattle.strings.proofs.SumLaws.{sum-same, sum-both, sum-scale, sum-lt, scale-xor, xor-scale}
 use Rattle.strings.proofs.Meaning.{bitOf-lt, bitOf-xor, bitOf-zero, bitOf-sum, bit-times, times-bit, bit-is}
 use Rattle.strings.proofs.XorLaws.{xor-assoc}
-use Rattle.vole.specs.Opened.{leafByte, correctionBit, correctionByte, wByte}
+use Rattle.vole.specs.Trees.{leafByte}
+use Rattle.vole.specs.Opened.{correctionBit, correctionByte, wByte}
 use Rattle.vole.proofs.TreeLaws.{times-lt, planes-byte}
 
 -- what is left out is 0: its bits, its multiples, its bound

@@ -1,14 +1,13 @@
 -- Partial sums: after k leaves, plane p holds its sum, plus the sum of all k leaves where bit p of k is 1. The leaves are any rows of bytes.
---   Running f r w u planes j == u is the sum of the first j leaves, and the r planes are as said, where f i b is byte b of leaf i
+--   Running f r w u planes j == u is the sum of the first j leaves, and the r planes are as said, where f i b is byte b of leaf i, u b of u,
+--     and planes p b of plane p, for each b below w
 -- Assumes nothing.
 use Prim.Native.Nat.{ℕ, zero, suc, _+_, _*_, _<_}
 use mathlib.Core.Path.{_≡_, refl, sym, ap, ap₂, _∙_}
-use mathlib.Core.List.{List}
 use native.Mathlib.Nat.{zero-mul, one-mul}
 use native.Mathlib.Omega.{arith}
 use lib.Bits.{bitXor, xor-self, xor-comm, xor-zero-r}
-use Rattle.strings.specs.Sums.{byteAt, bitOf, xorSum}
-use Rattle.strings.proofs.Rows.{row-end}
+use Rattle.strings.specs.Sums.{bitOf, xorSum}
 use Rattle.strings.proofs.SumLaws.{sum-more}
 use Rattle.strings.proofs.Meaning.{bitOf-lt, bitOf-xor, bitOf-zero}
 use Rattle.strings.proofs.XorLaws.{xor-assoc}
@@ -34,21 +33,18 @@ partial-step zero (suc (suc q′)) s l x h h′ = absurd (omega arith)
 partial-step (suc zero) (suc (suc q′)) s l x h h′ = absurd (omega arith)
 partial-step (suc (suc q)) q′ s l x h h′ = absurd (omega arith)
 
-abbrev pub Running : (ℕ → ℕ → ℕ) → ℕ → ℕ → List ℕ → List ℕ → ℕ → Type 0
-Running f r w u planes j = ((b : ℕ) → b < w → byteAt u b ≡ xorSum j (λ i. f i b)) × ((p b : ℕ) → p < r → b < w → byteAt planes (p * w + b) ≡ bitXor (bitOf j p * xorSum j (λ i. f i b)) (xorSum j (λ i. bitOf i p * f i b)))
+abbrev pub Running : (ℕ → ℕ → ℕ) → ℕ → ℕ → (ℕ → ℕ) → (ℕ → ℕ → ℕ) → ℕ → Type 0
+Running f r w u planes j = ((b : ℕ) → b < w → u b ≡ xorSum j (λ i. f i b)) × ((p b : ℕ) → p < r → b < w → planes p b ≡ bitXor (bitOf j p * xorSum j (λ i. f i b)) (xorSum j (λ i. bitOf i p * f i b)))
 
-module _ (f : ℕ → ℕ → ℕ) (r w : ℕ) (u planes : List ℕ) where
-  pub running-none : ((b : ℕ) → b < w → byteAt u b ≡ 0) → ((i : ℕ) → i < r * w → byteAt planes i ≡ 0) → Running f r w u planes 0
+module _ (f : ℕ → ℕ → ℕ) (r w : ℕ) (u : ℕ → ℕ) (planes : ℕ → ℕ → ℕ) where
+  pub running-none : ((b : ℕ) → b < w → u b ≡ 0) → ((p b : ℕ) → p < r → b < w → planes p b ≡ 0) → Running f r w u planes 0
   unfolding xorSum
-  running-none h k = (
-    h,
-    (λ p b hp hb. k (p * w + b) (omega (arith, row-end p r w hp)) ∙ sym (ap (λ (q : ℕ). bitXor (q * 0) 0) (bitOf-zero p))),
-  )
+  running-none h k = (h, λ p b hp hb. k p b hp hb ∙ sym (ap (λ (q : ℕ). bitXor (q * 0) 0) (bitOf-zero p)))
 
   -- leaf j is added to u, and u to the planes whose bit changes from j to j + 1
-  pub running-more : (j : ℕ) (u′ planes′ : List ℕ) → Running f r w u planes j
-      → ((b : ℕ) → b < w → byteAt u′ b ≡ bitXor (byteAt u b) (f j b))
-      → ((p b : ℕ) → p < r → b < w → byteAt planes′ (p * w + b) ≡ bitXor (byteAt planes (p * w + b)) (bitOf (bitXor j (j + 1)) p * byteAt u′ b))
+  pub running-more : (j : ℕ) (u′ : ℕ → ℕ) (planes′ : ℕ → ℕ → ℕ) → Running f r w u planes j
+      → ((b : ℕ) → b < w → u′ b ≡ bitXor (u b) (f j b))
+      → ((p b : ℕ) → p < r → b < w → planes′ p b ≡ bitXor (planes p b) (bitOf (bitXor j (j + 1)) p * u′ b))
       → Running f r w u′ planes′ (j + 1)
   running-more j u′ planes′ run row more = (
     (λ b h. sum b h ∙ sym (sum-more j (λ i. f i b))),
@@ -59,12 +55,11 @@ module _ (f : ℕ → ℕ → ℕ) (r w : ℕ) (u planes : List ℕ) where
         ∙ sym (ap₂ (λ (y z : ℕ). bitXor (bitOf (j + 1) p * y) z) (sum-more j (λ i. f i b)) (sum-more j (λ i. bitOf i p * f i b)))),
   )
     where
-      sum : (b : ℕ) → b < w → byteAt u′ b ≡ bitXor (xorSum j (λ i. f i b)) (f j b)
+      sum : (b : ℕ) → b < w → u′ b ≡ bitXor (xorSum j (λ i. f i b)) (f j b)
       sum b h = row b h ∙ ap (λ (x : ℕ). bitXor x (f j b)) (run .0 b h)
 
   -- where no bit of the count is set, the planes are their sums
-  pub running-all : (n : ℕ) → Running f r w u planes n → ((p : ℕ) → p < r → bitOf n p ≡ 0)
-      → (p b : ℕ) → p < r → b < w → byteAt planes (p * w + b) ≡ xorSum n (λ i. bitOf i p * f i b)
+  pub running-all : (n : ℕ) → Running f r w u planes n → ((p : ℕ) → p < r → bitOf n p ≡ 0) → (p b : ℕ) → p < r → b < w → planes p b ≡ xorSum n (λ i. bitOf i p * f i b)
   running-all n run even p b hp hb =
       run .1 p b hp hb
       ∙ ap (λ (q : ℕ). bitXor (q * xorSum n (λ i. f i b)) (xorSum n (λ i. bitOf i p * f i b))) (even p hp)

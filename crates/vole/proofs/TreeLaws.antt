@@ -1,27 +1,52 @@
 -- One tree: its leaves among all leaves, and the bits of v from its planes; and the trees one after the other.
 --   LanesAre g l n w == lane e of the 8·w coordinates of the table l is g e, for each e below n
 -- Assumes nothing.
-use Prim.Native.Nat.{ℕ, zero, suc, _+_, _*_, _/_, _%_, _<_}
+use Prim.Native.Nat.{ℕ, zero, suc, _+_, _*_, _-_, _/_, _%_, _≤_, _<_}
 use mathlib.Core.Path.{_≡_, sym, ap, _∙_}
+use mathlib.Core.Bool.{cond}
 use mathlib.Core.List.{List}
 use mathlib.Core.Logic.{⊎-elim}
 use native.Mathlib.Nat.{mul-assoc, add-mul, eq-or-lt-of-le, le-of-suc-le-suc}
+use native.Mathlib.Decide.{decLt}
 use native.Mathlib.Numerals.{add-one}
 use native.Mathlib.Omega.{arith}
 use lib.Dec.{lit<}
+use lib.ListN.{length}
 use Rattle.protocol.specs.Lists.{blockAt}
 use Rattle.protocol.specs.Strings.{bit, fromBits}
+use Rattle.protocol.specs.Leaves.{place, openedLeaf}
+use Rattle.protocol.proofs.TestLaws.{eqb-other}
+use Rattle.protocol.proofs.LeafLaws.{place-below, place-above}
 use Rattle.protocol.proofs.StringLaws.{bit-lt, bits-congr, bits-of}
 use Rattle.strings.specs.Sums.{byteAt, bitOf, xorSum}
 use Rattle.strings.proofs.Rows.{row-end, row-byte}
 use Rattle.strings.proofs.SumLaws.{sum-same, sum-lt}
 use Rattle.strings.proofs.Meaning.{bitOf-lt, bitOf-sum, bit-times, times-bit, bit-is}
 use Rattle.vole.specs.Sums.{lanes, planeByte, uByte, vByte}
+use Rattle.vole.specs.Trees.{leafByte, TreeFits}
 
 pub times-lt : (j q : ℕ) → j < 256 → q < 2 → j * q < 256
 times-lt j zero h k = omega arith
 times-lt j (suc zero) h k = omega arith
 times-lt j (suc (suc q)) h k = absurd (omega arith)
+
+-- a full tree is one of which no leaf is left out
+pub full-fits : (leaves : List ℕ) (w count : ℕ) → length leaves ≡ count * w → TreeFits leaves w count count
+full-fits leaves w count long j h other = rw (place-below count j h) (omega (arith, long, row-end j count w h))
+
+pub full-byte : (leaves : List ℕ) (w count j b : ℕ) → j < count → b < w → leafByte leaves w count j b ≡ byteAt leaves (j * w + b)
+unfolding openedLeaf
+full-byte leaves w count j b h l =
+    ap (λ q. cond q 0 (byteAt (openedLeaf w count leaves j) b)) (eqb-other j count (λ e. omega arith))
+    ∙ ap (λ i. byteAt (blockAt leaves w i) b) (place-below count j h)
+    ∙ row-byte leaves w j b l
+
+pub opened-fits : (tree : List ℕ) (w δ : ℕ) → δ < 256 → length tree ≡ 255 * w → TreeFits tree w δ 256
+opened-fits tree w δ d long j h other = go (decLt j δ)
+  where
+    go : Dec (j < δ) → place δ j * w + w ≤ length tree
+    go (yes lt) = rw (place-below δ j lt) (omega (arith, long, row-end j 255 w (omega arith)))
+    go (no ge) = rw (place-above δ j (omega arith)) (omega (arith, long, row-end (j - 1) 255 w (omega arith)))
 
 -- a byte from its bits, each in the plane of its own
 pub planes-byte : (planes : List ℕ) (w c x : ℕ) → c < 8 * w → x < 256 → ((p : ℕ) → p < 8 → bitOf (byteAt planes (p * w + c / 8)) (c % 8) ≡ bitOf x p)

@@ -1,3 +1,4 @@
 pub mod Sums
+pub mod Trees
 pub mod Opened
 pub mod Hash

@@ -1,7 +1,7 @@
 -- The verifier's W_e on bytes, and the table that holds W of every repetition, coordinate by coordinate.
 --   correctionBit C w e c == coordinate c of C_e: 0 at e = 0, since C_0 is all zero and not sent; the first row of the section C is C_1
 --   wByte opened C w e δ c == coordinate c of W_e = Σ over j≠δ of (j+δ)·ℓ(e,j), plus δ·C_e, as a byte, at δ = Δ_e
---   leafByte tree w δ j b == byte b of leaf j of an opened tree, with 0 for the leaf δ that is left out;  correctionByte C w e b == byte b of C_e
+--   correctionByte C w e b == byte b of C_e
 --   OpenedTableIs table opened Δ C τ w == a table has the lanes W_e, for each repetition e below τ
 -- Assumes nothing.
 use mathlib.Core.Path.{_≡_}
@@ -22,9 +22,6 @@ correctionBit C w (suc e) c = bit (blockAt C w e) c
 
 abbrev pub wByte : List ℕ → List ℕ → ℕ → ℕ → ℕ → ℕ → ℕ
 wByte opened C w e δ c = bitXor (xorSum 256 (λ j. cond (eqb j δ) 0 (bitXor j δ * bit (openedLeaf w δ (blockAt opened (255 * w) e) j) c))) (δ * correctionBit C w e c)
-
-abbrev pub leafByte : List ℕ → ℕ → ℕ → ℕ → ℕ → ℕ
-leafByte tree w δ j b = cond (eqb j δ) 0 (byteAt (openedLeaf w δ tree j) b)
 
 abbrev pub correctionByte : List ℕ → ℕ → ℕ → ℕ → ℕ
 correctionByte C w zero b = 0

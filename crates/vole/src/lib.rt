@@ -1,5 +1,7 @@
 // Leaf sums for all repetitions, and the sections C, d and ũ that are made of them.
+mod chunks;
 pub mod opened;
+pub mod trees;
 
 use field::Gf256;
 ghost use mathlib.Core.Path.{_≡_};
@@ -30,22 +32,14 @@ pub fn absorb(planes: &mut [u8], r: usize, j: usize, row: &[u8])
 }
 
 // 01's u_e and v_e of one tree: u is the sum of its leaves, and plane p has the bits p of v, the sum of the leaves j with bit p of j set.
-// Plane p takes the running sum of the leaves where bit p of the leaf's number changes, so that three rows are added for each leaf, and not
-// five. It needs a count whose low r bits are 0.
+// It needs a count whose low r bits are 0.
 pub fn leaf_sums(u: &mut [u8], planes: &mut [u8], r: usize, leaves: &[u8], count: usize, w: usize)
     requires { ⌜ (length (now leaves) ≡ count * w) × (length (now u) ≡ w) × (length (now planes) ≡ r * w) × (r ≤ 8) ⌝ }
     requires { ⌜ ((p : ℕ) → p < r → bitOf count p ≡ 0) × (count < 65536) ⌝ }
     ensures { λ _. ⌜ ((b : ℕ) → b < w → byteAt (now (u .exit)) b ≡ xorSum count (λ j. byteAt (now (leaves .entry)) (j * w + b))) ⌝ }
     ensures { λ _. ⌜ ((p b : ℕ) → p < r → b < w → byteAt (now (planes .exit)) (p * w + b) ≡ planeByte (now (leaves .entry)) count w p b) ⌝ }
 {
-    strings::clear(u);
-    strings::clear(planes);
-    let mut j = 0;
-    while j < count {
-        strings::xor_into(u, strings::row_at(leaves, w, j));
-        absorb(planes, r, j ^ (j + 1), u);
-        j += 1;
-    }
+    trees::tree_sums(u, planes, r, leaves, count, count, w);
 }
 
 // The byte whose bit p is bit i of byte b of plane p.

@@ -4,62 +4,19 @@ ghost use mathlib.Core.Path.{_≡_};
 ghost use Prim.Native.Nat.{ℕ, _+_, _*_, _-_, _<_, _≤_};
 ghost use lib.Bits.{bitXor};
 ghost use lib.ListN.{length};
-ghost use Rattle.protocol.specs.Leaves.{place, openedLeaf};
-ghost use Rattle.strings.specs.Sums.{byteAt, bitOf, xorSum};
+ghost use Rattle.strings.specs.Sums.{byteAt};
 ghost use Rattle.vole.specs.Sums.{lanes, mostWidth};
-ghost use Rattle.vole.specs.Opened.{leafByte, correctionByte, wByte, OpenedTableIs};
+ghost use Rattle.vole.specs.Opened.{correctionByte, wByte, OpenedTableIs};
 use super::MOST_WIDTH;
 use super::absorb;
 use super::spread;
+use super::trees::tree_sums;
 use field::Gf256;
 
 fn wide(x: u8) -> usize
     ensures { λ r. ⌜ r ≡ x ⌝ }
 {
     x as usize
-}
-
-// Where leaf j stands in an opened tree (01): above the leaf that is left out, the place is j - 1.
-fn place_of(delta: usize, j: usize) -> usize
-    requires { ⌜ (delta < 256) × (j < 256) × (j ≡ delta → ⊥) ⌝ }
-    ensures { λ r. ⌜ (r ≡ place delta j) × (r < 255) ⌝ }
-{
-    if j < delta { j } else { j - 1 }
-}
-
-// Leaf j of an opened tree, as that very part of the lent bytes (01).
-pub fn opened_leaf(tree: &[u8], w: usize, delta: usize, j: usize) -> &[u8]
-    requires { ⌜ (length (now tree) ≡ 255 * w) × (delta < 256) × (j < 256) × (j ≡ delta → ⊥) ⌝ }
-    ensures { λ r. ⌜ (now r ≡ openedLeaf w delta (now (tree .entry)) j) × (length (now r) ≡ w) ⌝ }
-{
-    strings::row_at(tree, w, place_of(delta, j))
-}
-
-// Adds leaf j to u, and nothing for the leaf that is left out.
-fn add_leaf(u: &mut [u8], tree: &[u8], delta: usize, j: usize)
-    requires { ⌜ (length (now tree) ≡ 255 * length (now u)) × (delta < 256) × (j < 256) ⌝ }
-    ensures { λ _. ⌜ ((b : ℕ) → b < length (now (u .entry)) → byteAt (now (u .exit)) b ≡ bitXor (byteAt (now (u .entry)) b) (leafByte (now (tree .entry)) (length (now (u .entry))) delta j b)) ⌝ }
-{
-    let w = u.len();
-    if j != delta {
-        strings::xor_into(u, opened_leaf(tree, w, delta, j));
-    }
-}
-
-// u and v of one tree, as `leaf_sums` has them, with 0 for the leaf that is left out.
-fn opened_sums(u: &mut [u8], planes: &mut [u8], tree: &[u8], delta: usize, w: usize)
-    requires { ⌜ (length (now tree) ≡ 255 * w) × (length (now u) ≡ w) × (length (now planes) ≡ 8 * w) × (delta < 256) ⌝ }
-    ensures { λ _. ⌜ ((b : ℕ) → b < w → byteAt (now (u .exit)) b ≡ xorSum 256 (λ j. leafByte (now (tree .entry)) w delta j b)) ⌝ }
-    ensures { λ _. ⌜ ((p b : ℕ) → p < 8 → b < w → byteAt (now (planes .exit)) (p * w + b) ≡ xorSum 256 (λ j. bitOf j p * leafByte (now (tree .entry)) w delta j b)) ⌝ }
-{
-    strings::clear(u);
-    strings::clear(planes);
-    let mut j = 0;
-    while j < Gf256::SIZE {
-        add_leaf(u, tree, delta, j);
-        absorb(planes, Gf256::DEGREE, j ^ (j + 1), u);
-        j += 1;
-    }
 }
 
 // Adds C_e to u. C_0 is all zero and not sent, so that C_e is row e - 1 of the section.
@@ -89,7 +46,7 @@ fn load_lane(
 {
     let w = u.len();
     let tree = strings::row_at(opened, (Gf256::SIZE - 1) * w, e);
-    opened_sums(u, planes, tree, delta, w);
+    tree_sums(u, planes, Gf256::DEGREE, tree, Gf256::SIZE, delta, w);
     add_correction(u, corrections, e);
     absorb(planes, Gf256::DEGREE, delta, u);
     spread(table, e, planes, w);

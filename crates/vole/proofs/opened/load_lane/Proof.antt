@@ -1,7 +1,7 @@
 -- `vole::opened::load_lane` meets its contract. u and the planes of v are those of the opened tree; then u takes C_e, and the planes δ·(u + C_e).
 -- Assumes nothing.
 use Prim.Native.Nat.{ℕ, _+_, _*_, _/_, _<_}
-use mathlib.Core.Path.{_≡_, ap, ap₂, _∙_}
+use mathlib.Core.Path.{_≡_, refl, ap, ap₂, _∙_}
 use mathlib.Core.List.{List}
 use native.Mathlib.Omega.{arith}
 use denote.Ref.{now}
@@ -9,7 +9,10 @@ use lib.Bits.{bitXor}
 use lib.ListN.{length}
 use Rattle.protocol.specs.Lists.{blockAt}
 use Rattle.strings.specs.Sums.{byteAt, bitOf, xorSum}
-use Rattle.vole.specs.Opened.{leafByte, correctionByte}
+use Rattle.vole.specs.Trees.{leafByte}
+use Rattle.vole.specs.Opened.{correctionByte}
+use Rattle.vole.proofs.PartialLaws.{leaves-even}
+use Rattle.vole.proofs.TreeLaws.{opened-fits}
 use Rattle.vole.proofs.OpenedLaws.{planes-w}
 use borrow.Author.Needs.{needs}
 use Rattle.vole.proofs.opened.load_lane.Statement.{statement}
@@ -24,13 +27,17 @@ mul-row-at c = search needs
 row-at-requires : tie.Need-row-at-requires
 row-at-requires c κs = search needs
 
-opened-sums-requires : tie.Need-opened-sums-requires
-opened-sums-requires c κs = search needs
+tree-sums-requires : tie.Need-tree-sums-requires
+tree-sums-requires c κs =
+    let start = c .before .before .before .before .before .before .before .before in
+    let a = start .args in
+    let tree = c .before .before .row-at in
+    ((refl, start .pre .1, omega arith, omega arith, opened-fits (now (tree .result)) (length (now (a .u))) (a .delta) (start .pre .3) (tree .ensures .1)), leaves-even)
 
 add-correction-requires : tie.Need-add-correction-requires
 add-correction-requires c κs =
     let pre = c .before .before .before .before .before .before .before .before .before .before .before .before .before .before .pre in
-    rw (c .before .before .before .before .before .opened-sums .kept .0) (pre .4, pre .2)
+    rw (c .before .before .before .before .before .tree-sums .kept .0) (pre .4, pre .2)
 
 absorb-requires : tie.Need-absorb-requires
 absorb-requires c κs = search needs
@@ -53,7 +60,7 @@ returns c =
     let a = start .args in
     let w = length (now (a .u)) in
     let tree = c .before .before .before .before .before .before .before .before .before .before .before .before .before .before .before .before .before .before .before .before .before .row-at in
-    let sums = c .before .before .before .before .before .before .before .before .before .before .before .before .before .before .before .before .before .before .opened-sums in
+    let sums = c .before .before .before .before .before .before .before .before .before .before .before .before .before .before .before .before .before .before .tree-sums in
     let corrected = c .before .before .before .before .before .before .before .before .before .before .before .before .add-correction in
     let added = c .before .before .before .before .before .before .before .absorb in
     let lane = c .before .before .spread in
@@ -81,7 +88,7 @@ load-lane-spec =
     sub-row-at
     mul-row-at
     row-at-requires
-    opened-sums-requires
+    tree-sums-requires
     add-correction-requires
     absorb-requires
     spread-requires

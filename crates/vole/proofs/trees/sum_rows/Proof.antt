@@ -1,21 +1,23 @@
--- `vole::opened::opened_sums` meets its contract, by the invariant of `vole::leaf_sums`, of other leaves.
+-- `vole::trees::sum_rows` meets its contract. The invariant: plane p is its sum of the j leaves passed, plus their whole sum where bit p of j is 1.
 -- Assumes nothing.
 use borrow.Author.Needs.{needs}
-use Prim.Native.Nat.{ℕ, _*_, _-_, _≤_}
+use Prim.Native.Nat.{ℕ, _+_, _*_, _-_, _≤_}
 use mathlib.Core.Path.{_≡_, _∙_}
 use denote.Ref.{now}
 use lib.ListN.{length}
 use native.Mathlib.Omega.{arith}
-use Rattle.vole.specs.Opened.{leafByte}
-use Rattle.vole.proofs.PartialLaws.{Running, running-none, running-more, running-all, leaves-even}
-use Rattle.vole.proofs.opened.opened_sums.Statement.{statement}
-use Rattle.vole.proofs.opened.opened_sums.Tie as tie
+use Rattle.strings.specs.Sums.{byteAt}
+use Rattle.strings.proofs.Rows.{row-end}
+use Rattle.vole.specs.Trees.{leafByte}
+use Rattle.vole.proofs.PartialLaws.{Running, running-none, running-more, running-all}
+use Rattle.vole.proofs.trees.sum_rows.Statement.{statement}
+use Rattle.vole.proofs.trees.sum_rows.Tie as tie
 
 abbrev Inv-loop : tie.InvT-loop
-Inv-loop u₀ planes₀ tree delta w j₀ u planes j = (j ≤ 256) × (length u ≡ w) × (length planes ≡ 8 * w) × Running (leafByte tree w delta) 8 w u planes j
+Inv-loop u₀ planes₀ r tree count delta w j₀ u planes j = (j ≤ count) × (length u ≡ w) × (length planes ≡ r * w) × Running (leafByte tree w delta) r w (byteAt u) (λ p b. byteAt planes (p * w + b)) j
 
 abbrev μ-loop : tie.MeasureT-loop
-μ-loop u₀ planes₀ tree delta w j₀ u planes j = 256 - j
+μ-loop u₀ planes₀ r tree count delta w j₀ u planes j = count - j
 
 clear-requires : tie.Need-clear-requires Inv-loop μ-loop
 clear-requires c κs = search needs
@@ -27,15 +29,20 @@ loop-holds : tie.Need-loop-holds Inv-loop μ-loop
 loop-holds c =
     let a = c .before .before .before .before .before .before .before .before .before .before .before .args in
     let clear-u = c .before .before .before .before .before .before .clear in
-    let clear-planes = c .before .before .clear2 in (
+    let clear-planes = c .before .before .clear2 in
+    let rows : length (now (a .planes)) ≡ a .r * a .w = omega arith in (
       search needs,
       clear-u .kept .0 ∙ omega arith,
-      clear-planes .kept .0 ∙ omega arith,
-      running-none (leafByte (now (a .tree)) (a .w) (a .delta)) 8 (a .w) (clear-u .last .0) (clear-planes .last .0) (λ b h. clear-u .ensures b (omega arith)) (λ i h. clear-planes .ensures i (omega arith)),
+      clear-planes .kept .0 ∙ rows,
+      running-none (leafByte (now (a .tree)) (a .w) (a .delta)) (a .r) (a .w) (byteAt (clear-u .last .0)) (λ p b. byteAt (clear-planes .last .0) (p * a .w + b))
+          (λ b h. clear-u .ensures b (omega arith))
+          (λ p b hp hb. clear-planes .ensures (p * a .w + b) (omega (arith, row-end p (a .r) (a .w) hp))),
     )
 
 add-leaf-requires : tie.Need-add-leaf-requires Inv-loop μ-loop
-add-leaf-requires c κs = let l = c .before .before .loop in omega (arith, l .inv .1)
+add-leaf-requires c κs =
+    let l = c .before .before .loop in
+    rw (l .inv .1) (c .before .before .before .before .before .before .before .before .before .before .before .before .before .before .pre .0 .4 (l .j) (search needs))
 
 add-absorb : tie.Need-add-absorb Inv-loop μ-loop
 add-absorb c = search needs
@@ -57,12 +64,12 @@ loop-again c =
     let l = c .before .before .before .before .before .before .before .before .before .before .loop in
     let add-u = c .before .before .before .before .before .before .before .add-leaf in
     let add-planes = c .before .before .absorb in
-    let f : ℕ → ℕ → ℕ = leafByte (now (a .tree)) (a .w) (a .delta) in
     let long : length (add-u .last .0) ≡ a .w = add-u .kept .0 ∙ l .inv .1 in (
       omega arith,
       long,
       add-planes .kept .0 ∙ l .inv .2,
-      running-more f 8 (a .w) (l .u) (l .planes) (l .j) (add-u .last .0) (add-planes .last .0) (l .inv .3) (rw (l .inv .1) at (add-u .ensures)) (rw long at (add-planes .ensures)),
+      running-more (leafByte (now (a .tree)) (a .w) (a .delta)) (a .r) (a .w) (byteAt (l .u)) (λ p b. byteAt (l .planes) (p * a .w + b)) (l .j) (byteAt (add-u .last .0)) (λ p b. byteAt (add-planes .last .0) (p * a .w + b))
+          (l .inv .3) (rw (l .inv .1) at (add-u .ensures)) (rw long at (add-planes .ensures)),
     )
 
 same-length : tie.Need-same-length Inv-loop μ-loop
@@ -73,15 +80,16 @@ same-length-2 c = search needs
 
 returns : tie.Need-returns Inv-loop μ-loop
 returns c =
-    let a = c .before .before .before .before .before .before .before .before .before .before .before .before .before .args in
+    let start = c .before .before .before .before .before .before .before .before .before .before .before .before .before in
+    let a = start .args in
     let l = c .before .loop in
     let f : ℕ → ℕ → ℕ = leafByte (now (a .tree)) (a .w) (a .delta) in
-    let end : l .j ≡ 256 = omega arith in
-    let run : Running f 8 (a .w) (l .u) (l .planes) 256 = rw end at (l .inv .3) in
-    (run .0, running-all f 8 (a .w) (l .u) (l .planes) 256 run leaves-even)
+    let end : l .j ≡ a .count = omega arith in
+    let run : Running f (a .r) (a .w) (byteAt (l .u)) (λ p b. byteAt (l .planes) (p * a .w + b)) (a .count) = rw end at (l .inv .3) in
+    (run .0, running-all f (a .r) (a .w) (byteAt (l .u)) (λ p b. byteAt (l .planes) (p * a .w + b)) (a .count) run (start .pre .1))
 
-pub opened-sums-spec : {M : Type 1} → statement M
-opened-sums-spec =
+pub sum-rows-spec : {M : Type 1} → statement M
+sum-rows-spec =
     tie.close
     (tie.spec
     Inv-loop

@@ -1,7 +1,7 @@
--- `vole::opened::add_leaf` meets its contract. Byte b of leaf j is added, or 0 where leaf j is left out.
+-- `vole::trees::add_leaf` meets its contract. Byte b of leaf j is added, or 0 where leaf j is left out.
 -- Assumes nothing.
 use Prim.Native.Nat.{ℕ}
-use mathlib.Core.Path.{sym, ap, _∙_}
+use mathlib.Core.Path.{_≡_, sym, ap, _∙_}
 use mathlib.Core.Bool.{cond}
 use mathlib.Core.List.{List}
 use native.Mathlib.Omega.{arith}
@@ -12,11 +12,14 @@ use Rattle.protocol.specs.Leaves.{openedLeaf}
 use Rattle.protocol.proofs.TestLaws.{eqb-same, eqb-other}
 use Rattle.strings.specs.Sums.{byteAt}
 use borrow.Author.Needs.{needs}
-use Rattle.vole.proofs.opened.add_leaf.Statement.{statement}
-use Rattle.vole.proofs.opened.add_leaf.Tie as tie
+use Rattle.vole.proofs.trees.add_leaf.Statement.{statement}
+use Rattle.vole.proofs.trees.add_leaf.Tie as tie
 
 opened-leaf-requires : tie.Need-opened-leaf-requires
-opened-leaf-requires c κs = search needs
+opened-leaf-requires c κs =
+    let start = c .before .before .before .before in
+    let other : start .args .j ≡ start .args .delta → ⊥ = λ e. omega arith in
+    (other, start .pre other)
 
 xor-into-requires : tie.Need-xor-into-requires
 xor-into-requires c κs = search needs
