@@ -1,7 +1,7 @@
 // Leaf sums for all repetitions, and the sections C, d and ũ that are made of them.
 mod chunks;
 pub mod opened;
-pub mod trees;
+mod trees;
 
 use field::Gf256;
 ghost use mathlib.Core.Path.{_≡_};
