@@ -1,0 +1,4 @@
+pub mod BlockLaws
+pub mod ColumnLaws
+pub mod SelectLaws
+pub mod StackLaws

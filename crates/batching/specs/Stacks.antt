@@ -1,0 +1,58 @@
+-- Polynomials in α whose coefficients are bits, in planes: plane s of a stack holds the coefficients of α^s, one bit for each place.
+--   planes == the planes of a stack: the product of two elements has as many coefficients;  stack == its bytes
+--   alpha s == α^s as a byte, where α is the element 02
+--   stackAt t f z == the value of a stack at bit z of byte f;  stackOf T e f z == that of stack e of a table of them
+--   Masks v masks == masks holds eight masks: byte f of mask b is 255 where bit b of byte f of v is set, and 0 elsewhere
+--   Planed χ m w X r == row r of X, of w bytes, is plane r mod 8 of the m bytes χ of repetition ⌊r/8⌋
+--   Weighed S χ m sums X w r == sums is the table of the m rows S, and the eight rows of X from r on, of w bytes, are the planes of the bytes χ
+--   foldOf T e w j z == the sum of the values of stack e at bit z of byte j of each of four parts of w bytes
+--   batchedByte w size m A χ e ρ j z == Σ_i χ(e, i)·A_i(ρ, 8·j + z), where A_i is string i of A, of size bytes, in rows of w bytes
+--   columnByte N w m A W χ e j z == Σ_ρ<N W[ρ][e]·Σ_i χ(e, i)·A_i(ρ, 8·j + z)
+-- Assumes nothing.
+use mathlib.Core.Path.{_≡_}
+use mathlib.Core.List.{List}
+use Prim.Native.Nat.{ℕ, _+_, _*_, _/_, _%_, _≤_, _<_}
+use lib.ListN.{length}
+use Rattle.algebra.specs.Coded.{mulByte, powByte}
+use Rattle.field.specs.Gf256.{gf256}
+use Rattle.protocol.specs.Lists.{blockAt}
+use Rattle.protocol.specs.Strings.{bit}
+use Rattle.strings.specs.Sums.{byteAt, bitOf, xorSum}
+use Rattle.lanes.specs.Lanes.{laneAt}
+use Rattle.batching.specs.Chunks.{chunk, Tabled}
+
+abbrev pub planes : ℕ
+planes = 15
+
+abbrev pub stack : ℕ
+stack = 1200
+
+unfoldable pub alpha : ℕ → ℕ
+alpha s = powByte gf256 2 s
+
+unfoldable pub product : ℕ → ℕ → ℕ
+product x y = mulByte gf256 x y
+
+abbrev pub stackAt : List ℕ → ℕ → ℕ → ℕ
+stackAt t f z = xorSum planes (λ s. bitOf (byteAt t (s * chunk + f)) z * alpha s)
+
+abbrev pub stackOf : List ℕ → ℕ → ℕ → ℕ → ℕ
+stackOf T e f z = xorSum planes (λ s. bitOf (byteAt T (e * stack + (s * chunk + f))) z * alpha s)
+
+abbrev pub Masks : List ℕ → List ℕ → Type 0
+Masks v masks = (b f : ℕ) → b < 8 → f < chunk → byteAt masks (b * chunk + f) ≡ bitOf (byteAt v f) b * 255
+
+abbrev pub Planed : List ℕ → ℕ → ℕ → List ℕ → ℕ → Type 0
+Planed χ m w X r = (i : ℕ) → i < m → bit (blockAt X w r) i ≡ bitOf (byteAt χ (r / 8 * m + i)) (r % 8)
+
+abbrev pub Weighed : List ℕ → (ℕ → ℕ) → ℕ → List ℕ → List ℕ → ℕ → ℕ → Type 0
+Weighed S χ m sums X w r = Tabled S sums (w * 32) × (length S ≡ m * chunk) × (m ≤ w * 8) × ((i : ℕ) → i < m → χ i < 256) × ((p i : ℕ) → p < 8 → i < m → bit (blockAt X w (r + p)) i ≡ bitOf (χ i) p)
+
+unfoldable pub foldOf : List ℕ → ℕ → ℕ → ℕ → ℕ → ℕ
+foldOf T e w j z = xorSum 4 (λ g. stackOf T e (g * w + j) z)
+
+unfoldable pub batchedByte : ℕ → ℕ → ℕ → List ℕ → List ℕ → ℕ → ℕ → ℕ → ℕ → ℕ
+batchedByte w size m A χ e ρ j z = xorSum m (λ i. bitOf (byteAt (blockAt A size i) (ρ * w + j)) z * byteAt χ (e * m + i))
+
+unfoldable pub columnByte : ℕ → ℕ → ℕ → List ℕ → List ℕ → List ℕ → ℕ → ℕ → ℕ → ℕ
+columnByte N w m A W χ e j z = xorSum N (λ ρ. product (laneAt W ρ e) (batchedByte w (N * w) m A χ e ρ j z))

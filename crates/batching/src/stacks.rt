@@ -1,0 +1,212 @@
+// The batched matrix times the vectors of the repetitions. The planes are public; the vectors and the stacks are secret: no branch and no
+// index goes by them.
+ghost use mathlib.Core.Path.{_≡_};
+ghost use mathlib.Core.List.{List};
+ghost use Prim.Native.Nat.{ℕ, _+_, _*_, _/_, _%_, _<_, _≤_};
+ghost use lib.ListN.{length};
+ghost use lib.Bits.{bitXor, bitAnd};
+ghost use Rattle.protocol.specs.Strings.{bytesFor};
+ghost use Rattle.strings.specs.Sums.{byteAt, bitOf, xorSum};
+ghost use Rattle.lanes.specs.Lanes.{lanes, laneAt};
+ghost use Rattle.batching.specs.Chunks.{chunk, cellAt, Tabled};
+ghost use Rattle.batching.specs.Stacks.{stack, alpha, product, stackAt, stackOf, Masks, Planed, Weighed, batchedByte};
+use super::CHUNK;
+use lanes::LANES;
+
+// The bytes of a stack of 15 planes.
+pub const STACK: usize = 15 * CHUNK;
+
+// The bytes of eight masks.
+const MASKS: usize = 8 * CHUNK;
+
+// Coordinate c of the vector of repetition e, 0 from n on.
+fn lane_byte(table: &[u8], c: usize, n: usize, e: usize) -> u8
+    requires { ⌜ (length (now table) ≡ n * lanes) × (e < lanes) ⌝ }
+    ensures { λ r. ⌜ r ≡ laneAt (now (table .entry)) c e ⌝ }
+{
+    if c < n { table[c * LANES + e] } else { 0 }
+}
+
+fn fill(dst: &mut [u8], x: u8)
+    ensures { λ _. ⌜ ((f : ℕ) → f < length (now (dst .entry)) → byteAt (now (dst .exit)) f ≡ x) ⌝ }
+{
+    let mut f = 0;
+    while f < dst.len() {
+        dst[f] = x;
+        f += 1;
+    }
+}
+
+fn fill_part(dst: &mut [u8], g: usize, w: usize, x: u8)
+    requires { ⌜ g * w + w ≤ length (now dst) ⌝ }
+    ensures { λ _. ⌜ ((j : ℕ) → j < w → byteAt (now (dst .exit)) (g * w + j) ≡ x) ⌝ }
+    ensures { λ _. ⌜ ((q j : ℕ) → (q ≡ g → ⊥) → j < w → byteAt (now (dst .exit)) (q * w + j) ≡ byteAt (now (dst .entry)) (q * w + j)) ⌝ }
+{
+    let at = g * w;
+    fill(&mut dst[at..at + w], x);
+}
+
+// Four coordinates of the vector of repetition e, from `first` on, each in as many bytes as a row has.
+fn spread(v: &mut [u8], table: &[u8], first: usize, n: usize, e: usize, w: usize)
+    requires { ⌜ (4 * w ≤ length (now v)) × (length (now table) ≡ n * lanes) × (e < lanes) × (first < n) ⌝ }
+    ensures { λ _. ⌜ ((g j : ℕ) → g < 4 → j < w → byteAt (now (v .exit)) (g * w + j) ≡ laneAt (now (table .entry)) (first + g) e) ⌝ }
+{
+    let mut g = 0;
+    while g < 4 {
+        fill_part(v, g, w, lane_byte(table, first + g, n, e));
+        g += 1;
+    }
+}
+
+// out[f] is 255 where bit b of v[f] is set, and 0 elsewhere.
+fn fill_mask(out: &mut [u8], v: &[u8], b: usize)
+    requires { ⌜ (length (now out) ≡ chunk) × (length (now v) ≡ chunk) × (b < 8) ⌝ }
+    ensures { λ _. ⌜ ((f : ℕ) → f < chunk → byteAt (now (out .exit)) f ≡ bitOf (byteAt (now (v .entry)) f) b * 255) ⌝ }
+{
+    let mut f = 0;
+    while f < CHUNK {
+        out[f] = (v[f] >> b) % 2 * 255;
+        f += 1;
+    }
+}
+
+fn fill_mask_at(masks: &mut [u8], v: &[u8], b: usize)
+    requires { ⌜ (length (now masks) ≡ 8 * chunk) × (length (now v) ≡ chunk) × (b < 8) ⌝ }
+    ensures { λ _. ⌜ ((f : ℕ) → f < chunk → byteAt (now (masks .exit)) (b * chunk + f) ≡ bitOf (byteAt (now (v .entry)) f) b * 255) ⌝ }
+    ensures { λ _. ⌜ ((q f : ℕ) → (q ≡ b → ⊥) → f < chunk → byteAt (now (masks .exit)) (q * chunk + f) ≡ byteAt (now (masks .entry)) (q * chunk + f)) ⌝ }
+{
+    let at = b * CHUNK;
+    fill_mask(&mut masks[at..at + CHUNK], v, b);
+}
+
+fn fill_masks(masks: &mut [u8], v: &[u8])
+    requires { ⌜ (length (now masks) ≡ 8 * chunk) × (length (now v) ≡ chunk) ⌝ }
+    ensures { λ _. ⌜ Masks (now (v .entry)) (now (masks .exit)) ⌝ }
+{
+    let mut b = 0;
+    while b < 8 {
+        fill_mask_at(masks, v, b);
+        b += 1;
+    }
+}
+
+// dst[f] ^= m[f] & mask[f], for each byte of a chunk.
+fn xor_and(dst: &mut [u8], m: &[u8], mask: &[u8])
+    requires { ⌜ (length (now dst) ≡ chunk) × (length (now m) ≡ chunk) × (length (now mask) ≡ chunk) ⌝ }
+    ensures { λ _. ⌜ ((f : ℕ) → f < chunk → byteAt (now (dst .exit)) f ≡ bitXor (byteAt (now (dst .entry)) f) (bitAnd (byteAt (now (m .entry)) f) (byteAt (now (mask .entry)) f))) ⌝ }
+{
+    let mut f = 0;
+    while f < CHUNK {
+        dst[f] ^= m[f] & mask[f];
+        f += 1;
+    }
+}
+
+// The same for row s of a table.
+pub fn xor_and_row(t: &mut [u8], s: usize, m: &[u8], mask: &[u8])
+    requires { ⌜ (s * chunk + chunk ≤ length (now t)) × (length (now m) ≡ chunk) × (length (now mask) ≡ chunk) ⌝ }
+    ensures { λ _. ⌜ ((f : ℕ) → f < chunk → cellAt (now (t .exit)) s f ≡ bitXor (cellAt (now (t .entry)) s f) (bitAnd (byteAt (now (m .entry)) f) (byteAt (now (mask .entry)) f))) ⌝ }
+    ensures { λ _. ⌜ ((q f : ℕ) → (q ≡ s → ⊥) → f < chunk → cellAt (now (t .exit)) q f ≡ cellAt (now (t .entry)) q f) ⌝ }
+{
+    let at = s * CHUNK;
+    xor_and(&mut t[at..at + CHUNK], m, mask);
+}
+
+// Adds m, a plane whose weight is α^p, times v, whose masks are lent: mask b is that of α^b.
+fn absorb_plane(t: &mut [u8], p: usize, m: &[u8], masks: &[u8])
+    requires { ⌜ (length (now t) ≡ stack) × (p < 8) × (length (now m) ≡ chunk) × (length (now masks) ≡ 8 * chunk) ⌝ }
+    ensures { λ _. ⌜ ((v : List ℕ) (f z : ℕ) → Masks v (now (masks .entry)) → byteAt v f < 256 → f < chunk → stackAt (now (t .exit)) f z ≡ bitXor (stackAt (now (t .entry)) f z) (bitOf (byteAt (now (m .entry)) f) z * product (alpha p) (byteAt v f))) ⌝ }
+{
+    let mut b = 0;
+    while b < 8 {
+        xor_and_row(t, p + b, m, strings::row_at(masks, CHUNK, b));
+        b += 1;
+    }
+}
+
+// Adds to a stack the chunk of the batched matrix times v: the sum of the rows S, each times its byte χ, whose planes are rows of `planes`.
+fn absorb(t: &mut [u8], planes: &[u8], base: usize, w: usize, sums: &[u8], masks: &[u8])
+    requires { ⌜ (length (now t) ≡ stack) × ((base + 8) * w ≤ length (now planes)) × (w * 32 * chunk ≤ length (now sums)) × (length (now masks) ≡ 8 * chunk) × (base ≤ 1000) ⌝ }
+    ensures { λ _. ⌜ ((S v : List ℕ) (χ : ℕ → ℕ) (m f z : ℕ) → Weighed S χ m (now (sums .entry)) (now (planes .entry)) w base → Masks v (now (masks .entry)) → byteAt v f < 256 → f < chunk → stackAt (now (t .exit)) f z ≡ bitXor (stackAt (now (t .entry)) f z) (product (byteAt v f) (xorSum m (λ i. bitOf (cellAt S i f) z * χ i)))) ⌝ }
+{
+    let mut p = 0;
+    while p < 8 {
+        let mut sum = [0u8; CHUNK];
+        super::sums::look_up_row(&mut sum, strings::row_at(planes, w, base + p), sums);
+        absorb_plane(t, p, &sum, masks);
+        p += 1;
+    }
+}
+
+// Adds to the stack of repetition e four rows of the batched matrix, from `first` on, each times its coordinate.
+fn absorb_lane(
+    stacks: &mut [u8],
+    e: usize,
+    planes: &[u8],
+    w: usize,
+    sums: &[u8],
+    table: &[u8],
+    first: usize,
+    n: usize,
+    width: usize,
+)
+    requires { ⌜ (e * stack + stack ≤ length (now stacks)) × ((e * 8 + 8) * w ≤ length (now planes)) × (w * 32 * chunk ≤ length (now sums)) × (length (now table) ≡ n * lanes) × (e < lanes) × (first < n) × (4 * width ≤ chunk) ⌝ }
+    ensures { λ _. ⌜ ((S : List ℕ) (χ : ℕ → ℕ) (m g j z : ℕ) → Weighed S χ m (now (sums .entry)) (now (planes .entry)) w (e * 8) → g < 4 → j < width → stackOf (now (stacks .exit)) e (g * width + j) z ≡ bitXor (stackOf (now (stacks .entry)) e (g * width + j) z) (product (laneAt (now (table .entry)) (first + g) e) (xorSum m (λ i. bitOf (cellAt S i (g * width + j)) z * χ i)))) ⌝ }
+    ensures { λ _. ⌜ ((q b : ℕ) → (q ≡ e → ⊥) → b < stack → byteAt (now (stacks .exit)) (q * stack + b) ≡ byteAt (now (stacks .entry)) (q * stack + b)) ⌝ }
+{
+    let mut v = [0u8; CHUNK];
+    let mut masks = [0u8; MASKS];
+    spread(&mut v, table, first, n, e, width);
+    fill_masks(&mut masks, &v);
+    let at = e * STACK;
+    absorb(&mut stacks[at..at + STACK], planes, e * 8, w, sums, &masks);
+}
+
+// The same for each of the tau repetitions.
+fn absorb_lanes(
+    stacks: &mut [u8],
+    tau: usize,
+    planes: &[u8],
+    w: usize,
+    sums: &[u8],
+    table: &[u8],
+    first: usize,
+    n: usize,
+    width: usize,
+)
+    requires { ⌜ (tau * stack ≤ length (now stacks)) × (tau * 8 * w ≤ length (now planes)) × (w * 32 * chunk ≤ length (now sums)) × (length (now table) ≡ n * lanes) × (tau ≤ lanes) × (first < n) × (4 * width ≤ chunk) ⌝ }
+    ensures { λ _. ⌜ ((S : List ℕ) (χ : ℕ → ℕ → ℕ) (m e g j z : ℕ) → ((q : ℕ) → q < tau → Weighed S (χ q) m (now (sums .entry)) (now (planes .entry)) w (q * 8)) → e < tau → g < 4 → j < width → stackOf (now (stacks .exit)) e (g * width + j) z ≡ bitXor (stackOf (now (stacks .entry)) e (g * width + j) z) (product (laneAt (now (table .entry)) (first + g) e) (xorSum m (λ i. bitOf (cellAt S i (g * width + j)) z * χ e i)))) ⌝ }
+{
+    let mut e = 0;
+    while e < tau {
+        absorb_lane(stacks, e, planes, w, sums, table, first, n, width);
+        e += 1;
+    }
+}
+
+// Adds the whole batched matrix times the vectors, its rows side by side in four parts of a stack: part g has the rows ρ with ρ mod 4 = g.
+// The matrices are the m strings of a, of n rows of `width` bytes. The batching bytes are public, and so are the tables that they index.
+pub fn collect(
+    stacks: &mut [u8],
+    a: &[u8],
+    n: usize,
+    width: usize,
+    m: usize,
+    tau: usize,
+    planes: &[u8],
+    w: usize,
+    table: &[u8],
+)
+    requires { ⌜ (tau * stack ≤ length (now stacks)) × (length (now a) ≡ m * (n * width)) × (n ≤ 160) × (m ≤ 160) × (w ≡ bytesFor m) × (tau * 8 * w ≤ length (now planes)) × (length (now table) ≡ n * lanes) × (tau ≤ lanes) × (4 * width ≤ chunk) ⌝ }
+    ensures { λ _. ⌜ ((χ : List ℕ) (e g j z : ℕ) → ((k : ℕ) → byteAt χ k < 256) → ((r : ℕ) → r < tau * 8 → Planed χ m w (now (planes .entry)) r) → e < tau → g < 4 → j < width → stackOf (now (stacks .exit)) e (g * width + j) z ≡ bitXor (stackOf (now (stacks .entry)) e (g * width + j) z) (xorSum ((n + 3) / 4) (λ k. product (laneAt (now (table .entry)) (k * 4 + g) e) (batchedByte width (n * width) m (now (a .entry)) χ e (k * 4 + g) j z)))) ⌝ }
+{
+    let mut cells = [0u8; 160 * CHUNK];
+    let mut sums = [0u8; 640 * CHUNK];
+    let mut k = 0;
+    while k * 4 < n {
+        super::cells::load(&mut cells, a, n * width, k * 4 * width, 4 * width, m);
+        super::sums::fill_sums(&mut sums, w * 32, m, &cells[..m * CHUNK]);
+        absorb_lanes(stacks, tau, planes, w, &sums, table, k * 4, n, width);
+        k += 1;
+    }
+}
