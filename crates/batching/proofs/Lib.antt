@@ -1,4 +1,5 @@
 pub mod BlockLaws
 pub mod ColumnLaws
+pub mod FormLaws
 pub mod SelectLaws
 pub mod StackLaws

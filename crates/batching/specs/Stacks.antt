@@ -6,6 +6,7 @@
 --   Planed χ m w X r == row r of X, of w bytes, is plane r mod 8 of the m bytes χ of repetition ⌊r/8⌋
 --   Weighed S χ m sums X w r == sums is the table of the m rows S, and the eight rows of X from r on, of w bytes, are the planes of the bytes χ
 --   foldOf T e w j z == the sum of the values of stack e at bit z of byte j of each of four parts of w bytes
+--   Spread xs w masks k == row k of masks, of a chunk, is four masks of w bytes: mask g is 255 where byte 4·k + g of xs is 1, and 0 where it is 0
 --   batchedByte w size m A χ e ρ j z == Σ_i χ(e, i)·A_i(ρ, 8·j + z), where A_i is string i of A, of size bytes, in rows of w bytes
 --   columnByte N w m A W χ e j z == Σ_ρ<N W[ρ][e]·Σ_i χ(e, i)·A_i(ρ, 8·j + z)
 -- Assumes nothing.
@@ -50,6 +51,9 @@ Weighed S χ m sums X w r = Tabled S sums (w * 32) × (length S ≡ m * chunk) �
 
 unfoldable pub foldOf : List ℕ → ℕ → ℕ → ℕ → ℕ → ℕ
 foldOf T e w j z = xorSum 4 (λ g. stackOf T e (g * w + j) z)
+
+abbrev pub Spread : List ℕ → ℕ → List ℕ → ℕ → Type 0
+Spread xs w masks k = (g j : ℕ) → g < 4 → j < w → byteAt masks (k * chunk + (g * w + j)) ≡ byteAt xs (k * 4 + g) * 255
 
 unfoldable pub batchedByte : ℕ → ℕ → ℕ → List ℕ → List ℕ → ℕ → ℕ → ℕ → ℕ → ℕ
 batchedByte w size m A χ e ρ j z = xorSum m (λ i. bitOf (byteAt (blockAt A size i) (ρ * w + j)) z * byteAt χ (e * m + i))

@@ -7,14 +7,14 @@ ghost use Rattle.strings.specs.Sums.{byteAt};
 ghost use Rattle.batching.specs.Chunks.{chunk, cellAt};
 use super::CHUNK;
 
-fn least(a: usize, b: usize) -> usize
+pub fn least(a: usize, b: usize) -> usize
     ensures { λ r. ⌜ (r ≤ a) × (r ≤ b) × ((r < a) → r ≡ b) ⌝ }
 {
     if a < b { a } else { b }
 }
 
 // The first bytes of dst become those of src from `from` on.
-fn copy_front(dst: &mut [u8], src: &[u8], from: usize, len: usize)
+pub fn copy_front(dst: &mut [u8], src: &[u8], from: usize, len: usize)
     requires { ⌜ (len ≤ length (now dst)) × (from + len ≤ length (now src)) ⌝ }
     ensures { λ _. ⌜ ((f : ℕ) → f < len → byteAt (now (dst .exit)) f ≡ byteAt (now (src .entry)) (from + f)) ⌝ }
     ensures { λ _. ⌜ ((f : ℕ) → len ≤ f → byteAt (now (dst .exit)) f ≡ byteAt (now (dst .entry)) f) ⌝ }

@@ -5,6 +5,7 @@ pub mod forms;
 pub mod planes;
 pub mod stacks;
 pub mod sums;
+pub mod witness;
 
 // The bytes of a chunk: four rows of a matrix.
 pub const CHUNK: usize = 80;

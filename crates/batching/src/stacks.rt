@@ -37,7 +37,7 @@ fn fill(dst: &mut [u8], x: u8)
     }
 }
 
-fn fill_part(dst: &mut [u8], g: usize, w: usize, x: u8)
+pub fn fill_part(dst: &mut [u8], g: usize, w: usize, x: u8)
     requires { ⌜ g * w + w ≤ length (now dst) ⌝ }
     ensures { λ _. ⌜ ((j : ℕ) → j < w → byteAt (now (dst .exit)) (g * w + j) ≡ x) ⌝ }
     ensures { λ _. ⌜ ((q j : ℕ) → (q ≡ g → ⊥) → j < w → byteAt (now (dst .exit)) (q * w + j) ≡ byteAt (now (dst .entry)) (q * w + j)) ⌝ }
@@ -91,7 +91,7 @@ fn fill_masks(masks: &mut [u8], v: &[u8])
 }
 
 // dst[f] ^= m[f] & mask[f], for each byte of a chunk.
-fn xor_and(dst: &mut [u8], m: &[u8], mask: &[u8])
+pub fn xor_and(dst: &mut [u8], m: &[u8], mask: &[u8])
     requires { ⌜ (length (now dst) ≡ chunk) × (length (now m) ≡ chunk) × (length (now mask) ≡ chunk) ⌝ }
     ensures { λ _. ⌜ ((f : ℕ) → f < chunk → byteAt (now (dst .exit)) f ≡ bitXor (byteAt (now (dst .entry)) f) (bitAnd (byteAt (now (m .entry)) f) (byteAt (now (mask .entry)) f))) ⌝ }
 {

@@ -1,0 +1,73 @@
+-- A sum over three indices of products, each under a bit, whichever index is summed first: the forms of the batched matrix are the batched forms.
+-- Assumes nothing.
+use mathlib.Core.Path.{_≡_, refl, sym, ap, ap₂, _∙_}
+use Prim.Native.Nat.{ℕ, zero, suc, _+_, _*_, _-_, _<_}
+use native.Mathlib.Nat.{zero-mul, one-mul}
+use native.Mathlib.Omega.{arith}
+use Rattle.algebra.specs.Ring.{Ring}
+use Rattle.algebra.specs.Field.{Field}
+use Rattle.algebra.specs.Coded.{Coded, mulByte}
+use Rattle.algebra.proofs.RingLaws.{ring}
+use Rattle.field.specs.Gf256.{gf256}
+use Rattle.strings.specs.Sums.{xorSum}
+use Rattle.strings.proofs.SumLaws.{sum-same, sum-lt}
+use Rattle.batching.specs.Stacks.{product}
+use Rattle.batching.proofs.StackLaws.{sum-swap, product-sum, product-bits, product-comm, product-bit}
+
+module _ (C : Coded) where
+  open Coded C using (base, elem, byte)
+  open Field base using (R)
+  open Ring R using (F, 𝟙, add as _⊕_, mul as _⊗_)
+
+  infixl 65 _⊕_
+  infixl 70 _⊗_
+  outer : (a b c : F) → a ⊗ (b ⊗ c) ≡ c ⊗ (b ⊗ a)
+  outer a b c = simp ring
+
+  coded-outer : (a b c : ℕ) → mulByte C a (mulByte C b c) ≡ mulByte C c (mulByte C b a)
+  coded-outer a b c =
+      ap (λ x. byte (elem a ⊗ x)) (C .elem-byte (elem b ⊗ elem c)) ∙ ap byte (outer (elem a) (elem b) (elem c)) ∙ ap (λ x. byte (elem c ⊗ x)) (sym (C .elem-byte (elem b ⊗ elem a)))
+
+  coded-one : (a : ℕ) → a < base .size → mulByte C 1 a ≡ a
+  coded-one a h = ap byte (ap (λ x. x ⊗ elem a) (C .elem-one) ∙ R .mul-comm 𝟙 (elem a) ∙ R .mul-one (elem a)) ∙ C .byte-elem a h
+
+  coded-lt : (a b : ℕ) → mulByte C a b < base .size
+  coded-lt a b = C .byte-lt (elem a ⊗ elem b)
+
+pub product-outer : (a b c : ℕ) → product a (product b c) ≡ product c (product b a)
+unfolding product
+product-outer a b c = coded-outer gf256 a b c
+
+pub product-one : (a : ℕ) → a < 256 → product 1 a ≡ a
+unfolding product
+product-one a h = coded-one gf256 a h
+
+pub product-lt : (a b : ℕ) → product a b < 256
+unfolding product
+product-lt a b = coded-lt gf256 a b
+
+-- a bit, as an element
+pub product-scale : (q a : ℕ) → q < 2 → a < 256 → product q a ≡ q * a
+product-scale zero a h k = product-comm 0 a ∙ ap (product a) (sym (zero-mul 0)) ∙ product-bit a 0 0 h ∙ zero-mul (product a 0) ∙ sym (zero-mul a)
+product-scale (suc zero) a h k = product-one a k ∙ sym (one-mul a)
+product-scale (suc (suc q)) a h k = absurd (omega arith)
+
+module _ (K n m : ℕ) (y W χ : ℕ → ℕ) (a : ℕ → ℕ → ℕ → ℕ) (bits : (i ρ c : ℕ) → a i ρ c < 2) where
+  -- a bit at each place, and the factors of its row and of the two other indices
+  inner : (x : ℕ) (k : ℕ) (f : ℕ → ℕ) (q : ℕ → ℕ → ℕ) → ((ρ j : ℕ) → q ρ j < 2)
+      → product x (xorSum n (λ ρ. product (W ρ) (xorSum k (λ j. q ρ j * f j)))) ≡ xorSum n (λ ρ. xorSum k (λ j. q ρ j * product x (product (W ρ) (f j))))
+  inner x k f q h =
+      product-sum x n (λ ρ. product (W ρ) (xorSum k (λ j. q ρ j * f j)))
+      ∙ sum-same n _ _ (λ ρ l.
+      ap (product x) (sym (product-bits (W ρ) k (q ρ) f (h ρ))) ∙ sym (product-bits x k (q ρ) (λ j. product (W ρ) (f j)) (h ρ)))
+
+  pub batch-first : xorSum K (λ c. product (y c) (xorSum n (λ ρ. product (W ρ) (xorSum m (λ i. a i ρ c * χ i)))))
+      ≡ xorSum m (λ i. product (χ i) (xorSum n (λ ρ. product (W ρ) (xorSum K (λ c. a i ρ c * y c)))))
+  batch-first =
+      sum-same K _ (λ c. xorSum n (λ ρ. xorSum m (λ i. a i ρ c * product (y c) (product (W ρ) (χ i))))) (λ c l. inner (y c) m χ (λ ρ i. a i ρ c) (λ ρ i. bits i ρ c))
+      ∙ sum-swap K n (λ c ρ. xorSum m (λ i. a i ρ c * product (y c) (product (W ρ) (χ i))))
+      ∙ sum-same n _ (λ ρ. xorSum m (λ i. xorSum K (λ c. a i ρ c * product (y c) (product (W ρ) (χ i))))) (λ ρ l. sum-swap K m (λ c i. a i ρ c * product (y c) (product (W ρ) (χ i))))
+      ∙ sum-swap n m (λ ρ i. xorSum K (λ c. a i ρ c * product (y c) (product (W ρ) (χ i))))
+      ∙ sum-same m _ _ (λ i l.
+      sum-same n _ (λ ρ. xorSum K (λ c. a i ρ c * product (χ i) (product (W ρ) (y c)))) (λ ρ k. sum-same K _ _ (λ c j. ap (λ x. a i ρ c * x) (product-outer (y c) (W ρ) (χ i))))
+      ∙ sym (inner (χ i) K y (a i) (bits i)))
