@@ -1,4 +1,5 @@
 pub mod BlockLaws
+pub mod BatchLaws
 pub mod ElementLaws
 pub mod EquationsMeaning
 pub mod PrefixLaws

@@ -1,6 +1,5 @@
 -- The forms of one equation, on bytes: of the vectors of all repetitions side by side in a table T, and of the bits of a witness.
 --   formByte n A T e == Σ_ρ T[ρ][e] · Σ_c A(ρ, c)·T[c][e], the form of repetition e at its vector
---   crossByte n A xs ys T e == Σ_ρ xs_ρ · Σ_c A(ρ, c)·T[c][e] + ys_ρ · T[ρ][e], xs and ys being bits, one to a byte
 --   middleByte n A b x T e == xᵀ·A·f + (A·x)ᵀ·f + b·f, where f is the vector of repetition e: 01's a₁
 -- Assumes nothing.
 use mathlib.Core.List.{List}
@@ -15,9 +14,6 @@ use Rattle.quadratic.specs.Equations.{rowProduct, rowOf}
 
 abbrev pub formByte : ℕ → List ℕ → List ℕ → ℕ → ℕ
 formByte n A T e = xorSum n (λ ρ. mulByte gf256 (laneAt T ρ e) (selected n (rowOf n A ρ) T lanes e))
-
-abbrev pub crossByte : ℕ → List ℕ → List ℕ → List ℕ → List ℕ → ℕ → ℕ
-crossByte n A xs ys T e = xorSum n (λ ρ. bitXor (byteAt xs ρ * selected n (rowOf n A ρ) T lanes e) (byteAt ys ρ * laneAt T ρ e))
 
 abbrev pub middleByte : ℕ → List ℕ → List ℕ → List ℕ → List ℕ → ℕ → ℕ
 middleByte n A b x T e =

@@ -1,105 +1,110 @@
 // QS0 and QS1 of all repetitions at once (01, prover's rules). The key and the batching bytes are public; the table, the witness and the
 // string u are secret.
 ghost use mathlib.Core.Path.{_≡_};
-ghost use Prim.Native.Nat.{ℕ, _+_, _*_, _<_, _≤_};
+ghost use mathlib.Core.List.{List};
+ghost use Prim.Native.Nat.{ℕ, _+_, _*_, _/_, _<_, _≤_};
 ghost use lib.ListN.{length};
 ghost use lib.Bits.{bitXor};
-ghost use Rattle.algebra.specs.Coded.{mulByte};
 ghost use Rattle.field.specs.Gf256.{gf256};
 ghost use Rattle.protocol.specs.Strings.{bytesFor, bit};
-ghost use Rattle.strings.specs.Sums.{byteAt};
-ghost use Rattle.lanes.specs.Lanes.{lanes, Tabled, maskLane, maskBits};
-ghost use Rattle.quadratic.specs.Equations.{rowOf, matrixOf};
-ghost use Rattle.quadratic.specs.Forms.{formByte, middleByte};
+ghost use Rattle.strings.specs.Sums.{byteAt, xorSum, selected};
+ghost use Rattle.lanes.specs.Lanes.{lanes, laneAt, maskLane, maskBits};
+ghost use Rattle.batching.specs.Chunks.{chunk};
+ghost use Rattle.batching.specs.Stacks.{Spread};
+ghost use Rattle.quadratic.specs.Equations.{rowProduct, rowOf, matrixOf};
+ghost use Rattle.quadratic.specs.Forms.{formByte};
 ghost use Rattle.quadratic.specs.Batch.{batchByte, qs0Byte, qs1Byte};
+use super::EQUATIONS;
+use super::MASKS;
 use super::VARIABLES;
+use super::WIDTH;
 use lanes::LANES;
 
-// The bytes of a table of sums for that many variables.
-const SUMS: usize = VARIABLES / 8 * lanes::PER_BYTE * LANES;
+// The bytes of the planes of as many batching bytes as a key may have, and of a row of bits for each equation.
+const PLANES: usize = 8 * LANES * (EQUATIONS / 8);
 
-// out[e] = χ(e, i), for each repetition e.
-pub fn gather(out: &mut [u8], chi: &[u8], m: usize, i: usize, tau: usize)
-    requires { ⌜ (tau ≤ length (now out)) × (length (now chi) ≡ tau * m) × (i < m) ⌝ }
-    ensures { λ _. ⌜ ((e : ℕ) → e < tau → byteAt (now (out .exit)) e ≡ byteAt (now (chi .entry)) (e * m + i)) ⌝ }
-{
-    let mut e = 0;
-    while e < tau {
-        out[e] = chi[e * m + i];
-        e += 1;
-    }
-}
+const ROWS: usize = EQUATIONS * WIDTH;
 
-// Adds the coefficients of one equation, each times the weight of its repetition. A·x is left in products.
-fn add_equation(
-    qs0: &mut [u8],
-    qs1: &mut [u8],
-    products: &mut [u8],
-    matrix: &[u8],
-    row: &[u8],
-    weights: &[u8],
-    x: &[u8],
-    xs: &[u8],
-    n: usize,
-    table: &[u8],
-    sums: &[u8],
-)
-    requires { ⌜ (length (now qs0) ≡ lanes) × (length (now qs1) ≡ lanes) × (length (now weights) ≡ lanes) × (n ≤ 160) × (length (now row) ≡ bytesFor n) × (length (now matrix) ≡ n * bytesFor n) × (length (now table) ≡ n * lanes) × (bytesFor n * 32 * lanes ≤ length (now sums)) × Tabled (now table) (now sums) (bytesFor n * 32) ⌝ }
-    requires { ⌜ (length (now x) ≡ bytesFor n) × (n ≤ length (now products)) × (n ≤ length (now xs)) × ((c : ℕ) → c < n → byteAt (now xs) c ≡ bit (now x) c) ⌝ }
-    ensures { λ _. ⌜ ((e : ℕ) → e < lanes → byteAt (now (qs0 .exit)) e ≡ bitXor (byteAt (now (qs0 .entry)) e) (mulByte gf256 (byteAt (now (weights .entry)) e) (formByte n (now (matrix .entry)) (now (table .entry)) e))) ⌝ }
-    ensures { λ _. ⌜ ((e : ℕ) → e < lanes → byteAt (now (qs1 .exit)) e ≡ bitXor (byteAt (now (qs1 .entry)) e) (mulByte gf256 (byteAt (now (weights .entry)) e) (middleByte n (now (matrix .entry)) (now (row .entry)) (now (x .entry)) (now (table .entry)) e))) ⌝ }
-{
-    let mut a0 = [0u8; LANES];
-    let mut a1 = [0u8; LANES];
-    super::equations::multiply_rows(products, matrix, x, n);
-    lanes::look_up_row(&mut a1, row, sums);
-    super::forms::expand(&mut a0, &mut a1, matrix, n, table, sums, xs, products);
-    lanes::accumulate(qs0, weights, &a0);
-    lanes::accumulate(qs1, weights, &a1);
-}
-
-// Adds the coefficients of every equation, each times its batching byte.
-fn add_equations(
-    qs0: &mut [u8],
-    qs1: &mut [u8],
-    products: &mut [u8],
+// The batched forms of a key, added to what stands there: fᵀ·A·f to quad, the products of the rows with f to lin, and (A·x)ᵀ·f to right, where f is
+// the vector of repetition e, which the table holds. The bits of x are lent one to a byte.
+pub fn batch_forms(
+    quad: &mut [u8],
+    lin: &mut [u8],
+    right: &mut [u8],
     a: &[u8],
-    b: &[u8],
-    x: &[u8],
+    rows: &[u8],
     xs: &[u8],
     chi: &[u8],
     n: usize,
     m: usize,
     tau: usize,
     table: &[u8],
-    sums: &[u8],
 )
-    requires { ⌜ (length (now qs0) ≡ lanes) × (length (now qs1) ≡ lanes) × (n ≤ 160) × (tau ≤ lanes) × (length (now a) ≡ m * (n * bytesFor n)) × (length (now b) ≡ m * bytesFor n) × (length (now chi) ≡ tau * m) × (length (now table) ≡ n * lanes) × (bytesFor n * 32 * lanes ≤ length (now sums)) × Tabled (now table) (now sums) (bytesFor n * 32) ⌝ }
-    requires { ⌜ (length (now x) ≡ bytesFor n) × (n ≤ length (now products)) × (n ≤ length (now xs)) × ((c : ℕ) → c < n → byteAt (now xs) c ≡ bit (now x) c) ⌝ }
-    ensures { λ _. ⌜ ((e : ℕ) → e < tau → byteAt (now (qs0 .exit)) e ≡ bitXor (byteAt (now (qs0 .entry)) e) (batchByte m (now (chi .entry)) e (λ i. formByte n (matrixOf n (now (a .entry)) i) (now (table .entry)) e))) ⌝ }
-    ensures { λ _. ⌜ ((e : ℕ) → e < tau → byteAt (now (qs1 .exit)) e ≡ bitXor (byteAt (now (qs1 .entry)) e) (batchByte m (now (chi .entry)) e (λ i. middleByte n (matrixOf n (now (a .entry)) i) (rowOf n (now (b .entry)) i) (now (x .entry)) (now (table .entry)) e))) ⌝ }
+    requires { ⌜ (length (now quad) ≡ lanes) × (length (now lin) ≡ lanes) × (length (now right) ≡ lanes) × (n ≤ 160) × (m ≤ 160) × (tau ≤ lanes) × (length (now a) ≡ m * (n * bytesFor n)) × (length (now rows) ≡ m * bytesFor n) × (length (now chi) ≡ tau * m) × (length (now table) ≡ n * lanes) ⌝ }
+    requires { ⌜ (bytesFor n * 8 ≤ length (now xs)) × ((c : ℕ) → byteAt (now xs) c < 2) ⌝ }
+    ensures { λ _. ⌜ ((e : ℕ) → e < tau → byteAt (now (quad .exit)) e ≡ bitXor (byteAt (now (quad .entry)) e) (batchByte m (now (chi .entry)) e (λ i. formByte n (matrixOf n (now (a .entry)) i) (now (table .entry)) e))) ⌝ }
+    ensures { λ _. ⌜ ((e : ℕ) → e < tau → byteAt (now (lin .exit)) e ≡ bitXor (byteAt (now (lin .entry)) e) (batchByte m (now (chi .entry)) e (λ i. selected n (rowOf n (now (rows .entry)) i) (now (table .entry)) lanes e))) ⌝ }
+    ensures { λ _. ⌜ ((x : List ℕ) (e : ℕ) → ((c : ℕ) → byteAt (now (xs .entry)) c ≡ bit x c) → e < tau → byteAt (now (right .exit)) e ≡ bitXor (byteAt (now (right .entry)) e) (batchByte m (now (chi .entry)) e (λ i. xorSum n (λ ρ. rowProduct (rowOf n (matrixOf n (now (a .entry)) i) ρ) x * laneAt (now (table .entry)) ρ e)))) ⌝ }
 {
-    let width = x.len();
+    let w = (m + 7) / 8;
+    let width = (n + 7) / 8;
+    let mut planes = [0u8; PLANES];
+    let mut rest = [0u8; LANES];
+    let ones = [1u8; LANES];
+    batching::planes::fill_planes(&mut planes, chi, m, w, tau);
+    batching::forms::add_forms(
+        quad,
+        right,
+        a,
+        n,
+        table,
+        &planes,
+        w,
+        m,
+        tau,
+        width,
+        n,
+        table,
+        xs,
+    );
+    batching::forms::add_forms(
+        lin,
+        &mut rest,
+        rows,
+        1,
+        &ones,
+        &planes,
+        w,
+        m,
+        tau,
+        width,
+        n,
+        table,
+        xs,
+    );
+}
+
+// Row i becomes b + xᵀ·A of equation i.
+fn fill_row(rows: &mut [u8], i: usize, a: &[u8], b: &[u8], masks: &[u8], n: usize, width: usize)
+    requires { ⌜ (width ≡ bytesFor n) × (n ≤ 160) × (i * width + width ≤ length (now rows)) × (i * (n * width) + n * width ≤ length (now a)) × (i * width + width ≤ length (now b)) × ((n + 3) / 4 * chunk ≤ length (now masks)) ⌝ }
+    ensures { λ _. ⌜ ((xs : List ℕ) (j : ℕ) → ((c : ℕ) → byteAt xs c < 2) → ((k : ℕ) → k < (n + 3) / 4 → Spread xs width (now (masks .entry)) k) → j < width → byteAt (now (rows .exit)) (i * width + j) ≡ bitXor (byteAt (now (b .entry)) (i * width + j)) (xorSum n (λ ρ. byteAt xs ρ * byteAt (matrixOf n (now (a .entry)) i) (ρ * width + j)))) ⌝ }
+    ensures { λ _. ⌜ ((q j : ℕ) → (q ≡ i → ⊥) → j < width → byteAt (now (rows .exit)) (q * width + j) ≡ byteAt (now (rows .entry)) (q * width + j)) ⌝ }
+{
+    let at = i * width;
     let size = n * width;
+    let matrix = strings::row_at(a, size, i);
+    let row = strings::row_at(b, width, i);
+    batching::witness::witness_row(&mut rows[at..at + width], matrix, row, masks, n);
+}
+
+// Row i becomes b + xᵀ·A of equation i, for each of the m equations.
+fn fill_rows(rows: &mut [u8], m: usize, a: &[u8], b: &[u8], masks: &[u8], n: usize, width: usize)
+    requires { ⌜ (width ≡ bytesFor n) × (n ≤ 160) × (m * width ≤ length (now rows)) × (length (now a) ≡ m * (n * width)) × (length (now b) ≡ m * width) × ((n + 3) / 4 * chunk ≤ length (now masks)) ⌝ }
+    ensures { λ _. ⌜ ((xs : List ℕ) (i j : ℕ) → ((c : ℕ) → byteAt xs c < 2) → ((k : ℕ) → k < (n + 3) / 4 → Spread xs width (now (masks .entry)) k) → i < m → j < width → byteAt (now (rows .exit)) (i * width + j) ≡ bitXor (byteAt (now (b .entry)) (i * width + j)) (xorSum n (λ ρ. byteAt xs ρ * byteAt (matrixOf n (now (a .entry)) i) (ρ * width + j)))) ⌝ }
+{
     let mut i = 0;
     while i < m {
-        let mut weights = [0u8; LANES];
-        gather(&mut weights, chi, m, i, tau);
-        let matrix = strings::row_at(a, size, i);
-        let row = strings::row_at(b, width, i);
-        add_equation(
-            qs0,
-            qs1,
-            products,
-            matrix,
-            row,
-            &weights,
-            x,
-            xs,
-            n,
-            table,
-            sums,
-        );
+        fill_row(rows, i, a, b, masks, n, width);
         i += 1;
     }
 }
@@ -130,32 +135,33 @@ pub fn batch_lanes(
     tau: usize,
     table: &[u8],
 )
-    requires { ⌜ (length (now qs0) ≡ lanes) × (length (now qs1) ≡ lanes) × (n ≤ 160) × (tau ≤ lanes) × (length (now a) ≡ m * (n * bytesFor n)) × (length (now b) ≡ m * bytesFor n) × (length (now x) ≡ bytesFor n) × (length (now chi) ≡ tau * m) × ((n + gf256 .degree) * lanes ≤ length (now table)) × (n + gf256 .degree ≤ length (now u) * 8) ⌝ }
+    requires { ⌜ (length (now qs0) ≡ lanes) × (length (now qs1) ≡ lanes) × (n ≤ 160) × (tau ≤ lanes) × (length (now a) ≡ m * (n * bytesFor n)) × (length (now b) ≡ m * bytesFor n) × (length (now x) ≡ bytesFor n) × (length (now chi) ≡ tau * m) × ((n + gf256 .degree) * lanes ≤ length (now table)) × (n + gf256 .degree ≤ length (now u) * 8) × (m ≤ 160) ⌝ }
     ensures { λ _. ⌜ ((e : ℕ) → e < tau → byteAt (now (qs0 .exit)) e ≡ qs0Byte n m (now (a .entry)) (now (chi .entry)) (now (table .entry)) e) ⌝ }
     ensures { λ _. ⌜ ((e : ℕ) → e < tau → byteAt (now (qs1 .exit)) e ≡ qs1Byte n m (now (a .entry)) (now (b .entry)) (now (x .entry)) (now (chi .entry)) (now (u .entry)) (now (table .entry)) e) ⌝ }
 {
-    let mut sums = [0u8; SUMS];
+    let width = x.len();
     let mut xs = [0u8; VARIABLES];
-    let mut products = [0u8; VARIABLES];
+    let mut masks = [0u8; MASKS];
+    let mut rows = [0u8; ROWS];
+    let mut right = [0u8; LANES];
     let front = &table[..n * LANES];
-    lanes::fill_sums(&mut sums, (n + 7) / 8 * lanes::PER_BYTE, n, front);
-    super::equations::unpack(&mut xs, x, n);
+    super::equations::prepare(&mut xs, &mut masks, x, n);
+    fill_rows(&mut rows, m, a, b, &masks, n, width);
     strings::clear(qs0);
     strings::clear(qs1);
-    add_equations(
+    batch_forms(
         qs0,
         qs1,
-        &mut products,
+        &mut right,
         a,
-        b,
-        x,
+        &rows[..m * width],
         &xs,
         chi,
         n,
         m,
         tau,
         front,
-        &sums,
     );
+    strings::xor_into(qs1, &right);
     add_masks(qs0, qs1, table, u, n);
 }

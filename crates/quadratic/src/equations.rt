@@ -1,13 +1,17 @@
-// Whether a witness solves the equations of a key: arithmetic over GF(2), one bit to a byte. The witness is secret, so no branch goes by it
-// before every equation is looked at.
+// Whether a witness solves the equations of a key: arithmetic over GF(2). The witness is secret, so no branch goes by it before every equation
+// is looked at.
 ghost use mathlib.Core.Path.{_≡_};
+ghost use mathlib.Core.List.{List};
 ghost use Prim.Native.Nat.{ℕ, _+_, _*_, _/_, _<_, _≤_};
 ghost use lib.ListN.{length};
-ghost use Rattle.protocol.specs.Lists.{blockAt};
 ghost use Rattle.protocol.specs.Strings.{bytesFor, bit};
-ghost use Rattle.strings.specs.Sums.{byteAt, xorSum};
-ghost use Rattle.quadratic.specs.Equations.{rowProduct, errorBit, errorOf, FirstIn};
+ghost use Rattle.strings.specs.Sums.{byteAt};
+ghost use Rattle.batching.specs.Chunks.{chunk};
+ghost use Rattle.batching.specs.Stacks.{Spread};
+ghost use Rattle.quadratic.specs.Equations.{errorBit, errorOf, FirstIn};
+use super::MASKS;
 use super::VARIABLES;
+use super::WIDTH;
 
 // The first equation that fails, or that none does.
 pub enum Found {
@@ -19,6 +23,7 @@ pub enum Found {
 pub fn unpack(out: &mut [u8], x: &[u8], n: usize)
     requires { ⌜ (n ≤ length (now out)) × (n ≤ length (now x) * 8) ⌝ }
     ensures { λ _. ⌜ ((c : ℕ) → c < n → byteAt (now (out .exit)) c ≡ bit (now (x .entry)) c) ⌝ }
+    ensures { λ _. ⌜ ((c : ℕ) → n ≤ c → byteAt (now (out .exit)) c ≡ byteAt (now (out .entry)) c) ⌝ }
 {
     let mut c = 0;
     while c < n {
@@ -27,66 +32,38 @@ pub fn unpack(out: &mut [u8], x: &[u8], n: usize)
     }
 }
 
-// A·x, for a matrix of n rows as long as x: out[ρ] = row ρ times x.
-pub fn multiply_rows(out: &mut [u8], matrix: &[u8], x: &[u8], n: usize)
-    requires { ⌜ (n ≤ length (now out)) × (length (now matrix) ≡ n * length (now x)) × (length (now x) ≤ 100000) ⌝ }
-    ensures { λ _. ⌜ ((ρ : ℕ) → ρ < n → byteAt (now (out .exit)) ρ ≡ rowProduct (blockAt (now (matrix .entry)) (length (now (x .entry))) ρ) (now (x .entry))) ⌝ }
-{
-    let width = x.len();
-    let mut i = 0;
-    while i < n {
-        out[i] = strings::row_product(strings::row_at(matrix, width, i), x);
-        i += 1;
-    }
-}
-
-// Σ xs_i·ys_i over the first n, which are bits, one to a byte.
-fn dot(xs: &[u8], ys: &[u8], n: usize) -> u8
-    requires { ⌜ (n ≤ length (now xs)) × (n ≤ length (now ys)) × ((i : ℕ) → i < n → (byteAt (now xs) i < 2) × (byteAt (now ys) i < 2)) ⌝ }
-    ensures { λ r. ⌜ r ≡ xorSum n (λ i. byteAt (now (xs .entry)) i * byteAt (now (ys .entry)) i) ⌝ }
-{
-    let mut sum: u8 = 0;
-    let mut i = 0;
-    while i < n {
-        sum ^= xs[i] & ys[i];
-        i += 1;
-    }
-    sum
-}
-
-// The error of one equation at x: its left side plus y (01, verifier's rules). The bits of x are lent in xs too, one to a byte; A·x is left
-// in products.
+// The error of one equation at x: its left side plus y (01, verifier's rules), which is (b + xᵀ·A)·x + y. The masks are those of the bits of
+// x; the space is as long as x, and b + xᵀ·A is left in it.
 fn equation_error(
-    products: &mut [u8],
+    space: &mut [u8],
     matrix: &[u8],
     row: &[u8],
     y: u8,
     x: &[u8],
-    xs: &[u8],
+    masks: &[u8],
     n: usize,
 ) -> u8
-    requires { ⌜ (n ≤ length (now products)) × (length (now x) ≡ bytesFor n) × (length (now row) ≡ length (now x)) × (length (now matrix) ≡ n * length (now x)) × (n ≤ 160) ⌝ }
-    requires { ⌜ (n ≤ length (now xs)) × ((c : ℕ) → c < n → byteAt (now xs) c ≡ bit (now x) c) ⌝ }
-    ensures { λ r. ⌜ r ≡ errorBit n (now (matrix .entry)) (now (row .entry)) y (now (x .entry)) ⌝ }
+    requires { ⌜ (length (now x) ≡ bytesFor n) × (length (now space) ≡ length (now x)) × (length (now row) ≡ length (now x)) × (length (now matrix) ≡ n * length (now x)) × (n ≤ 160) × ((n + 3) / 4 * chunk ≤ length (now masks)) ⌝ }
+    ensures { λ r. ⌜ ((xs : List ℕ) → ((c : ℕ) → byteAt xs c ≡ bit (now (x .entry)) c) → ((k : ℕ) → k < (n + 3) / 4 → Spread xs (bytesFor n) (now (masks .entry)) k) → r ≡ errorBit n (now (matrix .entry)) (now (row .entry)) y (now (x .entry))) ⌝ }
 {
-    multiply_rows(products, matrix, x, n);
-    dot(xs, products, n) ^ strings::row_product(row, x) ^ y
+    batching::witness::witness_row(space, matrix, row, masks, n);
+    strings::row_product(space, x) ^ y
 }
 
 // errors[i] = the error of equation i. Every equation is looked at, whatever the others gave.
 fn fill_errors(
     errors: &mut [u8],
-    products: &mut [u8],
+    space: &mut [u8],
     a: &[u8],
     b: &[u8],
     y: &[u8],
     x: &[u8],
-    xs: &[u8],
+    masks: &[u8],
     n: usize,
 )
     requires { ⌜ (n ≤ 160) × (length (now x) ≡ bytesFor n) × (length (now a) ≡ length (now errors) * (n * bytesFor n)) × (length (now b) ≡ length (now errors) * bytesFor n) × (length (now errors) ≤ length (now y) * 8) ⌝ }
-    requires { ⌜ (n ≤ length (now products)) × (n ≤ length (now xs)) × ((c : ℕ) → c < n → byteAt (now xs) c ≡ bit (now x) c) ⌝ }
-    ensures { λ _. ⌜ ((i : ℕ) → i < length (now (errors .entry)) → byteAt (now (errors .exit)) i ≡ errorOf n (now (a .entry)) (now (b .entry)) (now (y .entry)) (now (x .entry)) i) ⌝ }
+    requires { ⌜ (length (now space) ≡ length (now x)) × ((n + 3) / 4 * chunk ≤ length (now masks)) ⌝ }
+    ensures { λ _. ⌜ ((xs : List ℕ) (i : ℕ) → ((c : ℕ) → byteAt xs c ≡ bit (now (x .entry)) c) → ((k : ℕ) → k < (n + 3) / 4 → Spread xs (bytesFor n) (now (masks .entry)) k) → i < length (now (errors .entry)) → byteAt (now (errors .exit)) i ≡ errorOf n (now (a .entry)) (now (b .entry)) (now (y .entry)) (now (x .entry)) i) ⌝ }
 {
     let width = x.len();
     let size = n * width;
@@ -94,9 +71,19 @@ fn fill_errors(
     while i < errors.len() {
         let matrix = strings::row_at(a, size, i);
         let row = strings::row_at(b, width, i);
-        errors[i] = equation_error(products, matrix, row, strings::bit_at(y, i), x, xs, n);
+        errors[i] = equation_error(space, matrix, row, strings::bit_at(y, i), x, masks, n);
         i += 1;
     }
+}
+
+// The bits of x, one to a byte, and their masks, four to a chunk.
+pub fn prepare(xs: &mut [u8], masks: &mut [u8], x: &[u8], n: usize)
+    requires { ⌜ (n ≤ 160) × (length (now x) ≡ bytesFor n) × (length (now xs) ≡ 160) × (length (now masks) ≡ 40 * chunk) × ((c : ℕ) → byteAt (now xs) c ≡ 0) ⌝ }
+    ensures { λ _. ⌜ ((c : ℕ) → byteAt (now (xs .exit)) c ≡ bit (now (x .entry)) c) × ((k : ℕ) → k < (n + 3) / 4 → Spread (now (xs .exit)) (bytesFor n) (now (masks .exit)) k) ⌝ }
+{
+    let width = x.len();
+    unpack(xs, x, width * 8);
+    batching::witness::spread_rows(masks, (n + 3) / 4, xs, width);
 }
 
 // The error of each equation of the sections A, b, y of a key at the witness x, 0 or 1 (question 11).
@@ -105,9 +92,11 @@ pub fn equation_errors(errors: &mut [u8], a: &[u8], b: &[u8], y: &[u8], x: &[u8]
     ensures { λ _. ⌜ ((i : ℕ) → i < length (now (errors .entry)) → byteAt (now (errors .exit)) i ≡ errorOf n (now (a .entry)) (now (b .entry)) (now (y .entry)) (now (x .entry)) i) ⌝ }
 {
     let mut xs = [0u8; VARIABLES];
-    let mut products = [0u8; VARIABLES];
-    unpack(&mut xs, x, n);
-    fill_errors(errors, &mut products, a, b, y, x, &xs, n);
+    let mut masks = [0u8; MASKS];
+    let mut space = [0u8; WIDTH];
+    let width = x.len();
+    prepare(&mut xs, &mut masks, x, n);
+    fill_errors(errors, &mut space[..width], a, b, y, x, &masks, n);
 }
 
 // The first equation whose error is not 0. This is the answer to question 11, which the caller is told, so it may branch.

@@ -64,6 +64,7 @@ batch-lanes-requires c κs =
       s .pre .0 .3,
       omega (arith, s .pre .0 .4 .table-length, mask-fits shape),
       omega (arith, long, mask-fits shape),
+      in-limits shape within .m-most,
     )
 
 same-length : tie.Need-same-length

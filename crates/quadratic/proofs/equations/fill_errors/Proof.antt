@@ -1,7 +1,7 @@
 -- `quadratic::equations::fill_errors` meets its contract. Each element is changed once (`Elementwise`), to the error of its equation.
 -- Assumes nothing.
 use borrow.Author.Needs.{needs}
-use Prim.Native.Nat.{ℕ, _*_, _-_, _/_, _≤_, _<_}
+use Prim.Native.Nat.{ℕ, _+_, _*_, _-_, _/_, _≤_, _<_}
 use mathlib.Core.Path.{_≡_, refl, sym, ap, ap₂, _∙_}
 use mathlib.Core.List.{List}
 use native.Mathlib.Nat.{mul-le-mul}
@@ -10,8 +10,10 @@ use denote.Ref.{now}
 use lib.ListN.{length, length-set}
 use Rattle.protocol.specs.Lists.{blockAt}
 use Rattle.protocol.specs.Strings.{bytesFor, bit}
+use Rattle.strings.specs.Sums.{byteAt}
 use Rattle.strings.proofs.Elementwise.{changed, changed-more, changed-all}
 use Rattle.strings.proofs.Rows.{row-end}
+use Rattle.batching.specs.Stacks.{Spread}
 use Rattle.quadratic.specs.Equations.{errorBit, errorOf}
 use Rattle.quadratic.proofs.equations.fill_errors.Statement.{statement}
 use Rattle.quadratic.proofs.equations.fill_errors.Tie as tie
@@ -20,43 +22,42 @@ abbrev change : List ℕ → List ℕ → List ℕ → List ℕ → ℕ → ℕ 
 change a b y x n k e = errorOf n a b y x k
 
 abbrev Inv-loop : tie.InvT-loop
-Inv-loop errors₀ products₀ a b y x xs n width size i₀ errors products i = (i ≤ length errors₀) × (errors ≡ changed (change a b y x n) errors₀ i) × (length errors ≡ length errors₀) × (length products ≡ length products₀)
+Inv-loop errors₀ space₀ a b y x masks n width size i₀ errors space i = (i ≤ length errors₀) × (length errors ≡ length errors₀) × (length space ≡ length x) × ((xs : List ℕ) → ((c : ℕ) → byteAt xs c ≡ bit x c) → ((k : ℕ) → k < (n + 3) / 4 → Spread xs (bytesFor n) masks k) → errors ≡ changed (change a b y x n) errors₀ i)
 
 abbrev μ-loop : tie.MeasureT-loop
-μ-loop errors₀ products₀ a b y x xs n width size i₀ errors products i = length errors₀ - i
+μ-loop errors₀ space₀ a b y x masks n width size i₀ errors space i = length errors₀ - i
 
 mul-size : tie.Need-mul-size Inv-loop μ-loop
 unfolding bytesFor
 mul-size c =
-    let start = c .before .before .before .before .before .before .before in
-    let short : length (now (start .args .x)) ≤ 20 = omega arith in
-    omega (arith, mul-le-mul (start .pre .0 .0) short)
+    let start = c .before .before .before .before .before .before .before .pre in
+    let short : length (now (c .before .before .before .before .before .before .before .args .x)) ≤ 20 = omega (arith, start .0 .0, start .0 .1) in
+    omega (arith, mul-le-mul (start .0 .0) short)
 
 loop-holds : tie.Need-loop-holds Inv-loop μ-loop
 unfolding changed
 loop-holds c =
-    (search needs, refl, refl, refl)
+    (search needs, refl, c .before .before .before .before .before .before .before .pre .1 .0, λ xs h k. refl)
 
 row-at-requires : tie.Need-row-at-requires Inv-loop μ-loop
 row-at-requires c κs =
-    let start = c .before .before .before .before .before .before .before .before .before in
-    let a = start .args in
-    rw (start .pre .0 .1) (omega (arith, start .pre .0 .2, row-end (c .before .loop .i) (length (now (a .errors))) (a .n * bytesFor (a .n)) (omega arith)))
+    let pre = c .before .before .before .before .before .before .before .before .before .pre in
+    let a = c .before .before .before .before .before .before .before .before .before .args in
+    rw (pre .0 .1) (omega (arith, pre .0 .2, row-end (c .before .loop .i) (length (now (a .errors))) (a .n * bytesFor (a .n)) (omega arith)))
 
 row-at-requires-2 : tie.Need-row-at-requires-2 Inv-loop μ-loop
 row-at-requires-2 c κs =
-    let start = c .before .before .before .before .before .before .before .before .before .before in
-    let a = start .args in
-    rw (start .pre .0 .1) (omega (arith, start .pre .0 .3, row-end (c .before .before .loop .i) (length (now (a .errors))) (bytesFor (a .n)) (omega arith)))
+    let pre = c .before .before .before .before .before .before .before .before .before .before .pre in
+    let a = c .before .before .before .before .before .before .before .before .before .before .args in
+    rw (pre .0 .1) (omega (arith, pre .0 .3, row-end (c .before .before .loop .i) (length (now (a .errors))) (bytesFor (a .n)) (omega arith)))
 
 bit-at-requires : tie.Need-bit-at-requires Inv-loop μ-loop
-bit-at-requires c κs =
-    search needs
+bit-at-requires c κs = search needs
 
 equation-error-requires : tie.Need-equation-error-requires Inv-loop μ-loop
 equation-error-requires c κs =
-    let start = c .before .before .before .before .before .before .before .before .before .before .before .before .before in
-    ((omega arith, start .pre .0 .1, c .before .before .row-at2 .ensures .1, c .before .before .before .row-at .ensures .1, start .pre .0 .0), (start .pre .1 .1, start .pre .1 .2))
+    let pre = c .before .before .before .before .before .before .before .before .before .before .before .before .before .pre in
+    (pre .0 .1, c .before .before .before .before .before .loop .inv .2, c .before .before .row-at2 .ensures .1, c .before .before .before .row-at .ensures .1, pre .0 .0, pre .1 .1)
 
 slice-write-errors : tie.Need-slice-write-errors Inv-loop μ-loop
 slice-write-errors c = search needs
@@ -70,19 +71,20 @@ loop-less c = search needs
 loop-again : tie.Need-loop-again Inv-loop μ-loop
 unfolding errorOf
 loop-again c =
-    let start = c .before .before .before .before .before .before .before .before .before .before .before .before .before .before .before .before in
-    let a = start .args in
+    let pre = c .before .before .before .before .before .before .before .before .before .before .before .before .before .before .before .before .pre in
+    let a = c .before .before .before .before .before .before .before .before .before .before .before .before .before .before .before .before .args in
     let l = c .before .before .before .before .before .before .before .before .loop in
     let made = c .before .before .equation-error in
     let n = a .n in
-    let width : length (now (a .x)) ≡ bytesFor n = start .pre .0 .1 in
+    let width : length (now (a .x)) ≡ bytesFor n = pre .0 .1 in
     let matrix : now (c .before .before .before .before .before .before .row-at .result) ≡ blockAt (now (a .a)) (n * bytesFor n) (l .i) = c .before .before .before .before .before .before .row-at .ensures .0 ∙ ap (λ (w : ℕ). blockAt (now (a .a)) (n * w) (l .i)) width in
     let row : now (c .before .before .before .before .before .row-at2 .result) ≡ blockAt (now (a .b)) (bytesFor n) (l .i) = c .before .before .before .before .before .row-at2 .ensures .0 ∙ ap (λ (w : ℕ). blockAt (now (a .b)) w (l .i)) width in (
       omega (arith, c .before .before .before .before .before .before .before .loop-test .taken),
-      changed-more (change (now (a .a)) (now (a .b)) (now (a .y)) (now (a .x)) n) (now (a .errors)) (l .errors) (l .i) _ (l .inv .1)
-          (made .ensures ∙ rw (matrix, row, c .before .before .before .bit-at .ensures)),
-      simp length-set (l .inv .2),
-      made .kept .0 ∙ l .inv .3,
+      simp length-set (l .inv .1),
+      made .kept .0 ∙ l .inv .2,
+      (λ xs is spread.
+          changed-more (change (now (a .a)) (now (a .b)) (now (a .y)) (now (a .x)) n) (now (a .errors)) (l .errors) (l .i) _ (l .inv .3 xs is spread)
+          (made .ensures xs is spread ∙ rw (matrix, row, c .before .before .before .bit-at .ensures))),
     )
 
 same-length : tie.Need-same-length Inv-loop μ-loop
@@ -92,10 +94,10 @@ same-length-2 : tie.Need-same-length-2 Inv-loop μ-loop
 same-length-2 c = search needs
 
 returns : tie.Need-returns Inv-loop μ-loop
-returns c =
+returns c xs i is spread h =
     let a = c .before .before .before .before .before .before .before .before .before .args in
     let l = c .before .loop in
-    changed-all (change (now (a .a)) (now (a .b)) (now (a .y)) (now (a .x)) (a .n)) (now (a .errors)) (l .errors) (l .i) (l .inv .1) (omega arith) (l .inv .0)
+    changed-all (change (now (a .a)) (now (a .b)) (now (a .y)) (now (a .x)) (a .n)) (now (a .errors)) (l .errors) (l .i) (l .inv .3 xs is spread) (omega arith) (l .inv .0) i h
 
 pub fill-errors-spec : {M : Type 1} → statement M
 fill-errors-spec =

@@ -1,13 +1,15 @@
 -- `quadratic::equations::unpack` meets its contract. Each element is changed once (`Elementwise`).
 -- Assumes nothing.
 use borrow.Author.Needs.{needs}
-use Prim.Native.Nat.{ℕ, _-_, _≤_}
-use mathlib.Core.Path.{_≡_, refl}
+use Prim.Native.Nat.{ℕ, _-_, _≤_, _<_}
+use mathlib.Core.Path.{_≡_, refl, ap, _∙_}
+use mathlib.Core.List.{List}
 use native.Mathlib.Omega.{arith}
 use denote.Ref.{now}
 use lib.ListN.{length, length-set}
 use Rattle.protocol.specs.Strings.{bit}
-use Rattle.strings.proofs.Elementwise.{changed, changed-more, changed-at}
+use Rattle.strings.specs.Sums.{byteAt}
+use Rattle.strings.proofs.Elementwise.{changed, changed-more, changed-at, changed-past}
 use Rattle.quadratic.proofs.equations.unpack.Statement.{statement}
 use Rattle.quadratic.proofs.equations.unpack.Tie as tie
 
@@ -19,7 +21,8 @@ abbrev μ-loop : tie.MeasureT-loop
 
 loop-holds : tie.Need-loop-holds Inv-loop μ-loop
 unfolding changed
-loop-holds c = (search needs, refl, refl)
+loop-holds c =
+    (search needs, refl, refl)
 
 bit-at-requires : tie.Need-bit-at-requires Inv-loop μ-loop
 bit-at-requires c κs = search needs
@@ -46,11 +49,14 @@ same-length : tie.Need-same-length Inv-loop μ-loop
 same-length c = search needs
 
 returns : tie.Need-returns Inv-loop μ-loop
-returns c i h =
+returns c =
     let a = c .before .before .before .before .args in
     let l = c .before .loop in
     let end : l .c ≡ a .n = omega arith in
-    rw (l .inv .1, end) (changed-at (λ k y. bit (now (a .x)) k) (now (a .out)) (a .n) i (omega arith) h)
+    let is : l .out ≡ changed (λ k y. bit (now (a .x)) k) (now (a .out)) (a .n) = rw end at (l .inv .1) in (
+      (λ i h. ap (λ (d : List ℕ). byteAt d i) is ∙ changed-at (λ k y. bit (now (a .x)) k) (now (a .out)) (a .n) i (c .before .before .before .before .pre .0) h),
+      (λ i h. ap (λ (d : List ℕ). byteAt d i) is ∙ changed-past (λ k y. bit (now (a .x)) k) (now (a .out)) (a .n) i h),
+    )
 
 pub unpack-spec : {M : Type 1} → statement M
 unpack-spec =
