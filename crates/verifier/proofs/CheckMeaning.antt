@@ -8,7 +8,11 @@ use native.Mathlib.Omega.{arith}
 use lib.Dec.{eqb}
 use lib.ListN.{length}
 use lib.Bits.{bitXor}
+use Rattle.algebra.specs.Ring.{Ring}
 use Rattle.algebra.specs.Coded.{mulByte}
+use Rattle.algebra.specs.Sum.{sum}
+use Rattle.algebra.proofs.RingLaws.{ring}
+use Rattle.algebra.proofs.SumLaws.{sum-ext, sum-add, sum-mul}
 use Rattle.field.specs.Gf256.{gf256, maskElement}
 use Rattle.protocol.specs.Lists.{blockAt}
 use Rattle.protocol.specs.Strings.{bytesFor, bit}
@@ -16,7 +20,7 @@ use Rattle.protocol.specs.Alphabet.{sym as symbol, elemAt}
 use Rattle.protocol.specs.Binary.{bits256}
 use Rattle.protocol.specs.Shape.{Shape, kOf, lOf}
 use Rattle.protocol.specs.Key.{sectionA, sectionB, sectionY, ySym}
-use Rattle.protocol.specs.Forms.{quad, lin, yOf, batch, maskOf}
+use Rattle.protocol.specs.Forms.{quad, lin, yOf, χAt, batch}
 use Rattle.protocol.specs.Sections.{Sections}
 use Rattle.protocol.specs.Verifier.{keyAt, consistent, productLeft, productHolds}
 use Rattle.protocol.proofs.StringLaws.{bit-lt}
@@ -24,15 +28,14 @@ use Rattle.protocol.proofs.TestLaws.{eqb-eq, eqb-same, bool-iff, all-congr}
 use Rattle.strings.specs.Sums.{byteAt}
 use Rattle.strings.proofs.Rows.{row-byte}
 use Rattle.strings.proofs.SumLaws.{sum-same}
-use Rattle.strings.proofs.Meaning.{byte-times, byte-scale}
+use Rattle.strings.proofs.Meaning.{byte-sum, byte-times}
 use Rattle.lanes.specs.Lanes.{lanes, laneAt}
-use Rattle.quadratic.specs.Equations.{rowOf, matrixOf}
 use Rattle.quadratic.proofs.FormsMeaning.{form-is, lin-is, batch-is, mask-is}
 use Rattle.vole.proofs.SumsMeaning.{byteOf}
 use Rattle.core.specs.Hashed.{hashLane}
 use Rattle.core.specs.Loaded.{HashForm}
 use Rattle.core.proofs.HashMeaning.{hash-lane-is}
-use Rattle.verifier.specs.Checks.{rowConsistent, leftByte, productByte}
+use Rattle.verifier.specs.Checks.{rowConsistent, valueByte, productByte}
 
 abbrev F : Type 0
 F = bits256 .K .base .R .F
@@ -47,6 +50,22 @@ _⊕_ = bits256 .K .base .R .add
 infixl 70 _⊗_
 abbrev _⊗_ : F → F → F
 _⊗_ = bits256 .K .base .R .mul
+
+-- a sum of products with three parts
+module _ (R : Ring) where
+  open Ring R using (add as _⊞_, mul as _⊠_)
+
+  infixl 65 _⊞_
+  infixl 70 _⊠_
+  part-of : (c f g y d : R .F) → c ⊠ (f ⊞ d ⊠ g ⊞ y ⊠ (d ⊠ d)) ≡ c ⊠ f ⊞ d ⊠ (c ⊠ g) ⊞ (d ⊠ d) ⊠ (c ⊠ y)
+  part-of c f g y d = simp ring
+
+  sums-apart : (n : ℕ) (c f g y : ℕ → R .F) (d : R .F)
+      → sum R n (λ i. c i ⊠ (f i ⊞ d ⊠ g i ⊞ y i ⊠ (d ⊠ d))) ≡ sum R n (λ i. c i ⊠ f i) ⊞ d ⊠ sum R n (λ i. c i ⊠ g i) ⊞ (d ⊠ d) ⊠ sum R n (λ i. c i ⊠ y i)
+  sums-apart n c f g y d =
+      sum-ext R n _ (λ i. c i ⊠ f i ⊞ d ⊠ (c i ⊠ g i) ⊞ (d ⊠ d) ⊠ (c i ⊠ y i)) (λ i. part-of (c i) (f i) (g i) (y i) d)
+      ∙ sum-add R n (λ i. c i ⊠ f i ⊞ d ⊠ (c i ⊠ g i)) (λ i. (d ⊠ d) ⊠ (c i ⊠ y i))
+      ∙ ap₂ _⊞_ (sum-add R n (λ i. c i ⊠ f i) (λ i. d ⊠ (c i ⊠ g i)) ∙ ap (λ z. sum R n (λ i. c i ⊠ f i) ⊞ z) (sum-mul R n d (λ i. c i ⊠ g i))) (sum-mul R n (d ⊠ d) (λ i. c i ⊠ y i))
 
 -- two elements are the same where their bytes are
 same-bytes : (a b : F) → eqb (byteOf a) (byteOf b) ≡ bits256 .K .base .eqb a b
@@ -74,36 +93,45 @@ module _ (s : Shape) (p : Sections) (e δ : ℕ) (small : δ < 256) (w : ℕ →
     abbrev K : ℕ → F
     K = keyAt bits256 s p (elem δ) w
 
-    -- what one equation adds
-    left-is : (i : ℕ) → leftByte (s .n) (matrixOf (s .n) (sectionA bits256 s key) i) (rowOf (s .n) (sectionB bits256 s key) i) (bit (sectionY bits256 s key) i) δ T e
-        ≡ byteOf (quad bits256 s key i K K ⊕ elem δ ⊗ lin bits256 s key i K ⊕ yOf bits256 s key i ⊗ (elem δ ⊗ elem δ))
-    unfolding yOf ySym symbol
-    left-is i =
-        ap₂ bitXor
-        (ap₂ bitXor (form-is gf256 s key i T e K front) (ap (mulByte gf256 δ) (lin-is gf256 s key i T e K front) ∙ ap (λ z. byteOf (elem δ ⊗ z)) (bits256 .K .elem-byte (lin bits256 s key i K)))
-        ∙ sym (bits256 .K .byte-add _ _))
-        (sym (byte-scale gf256 (bit (sectionY bits256 s key) i) (elem δ ⊗ elem δ) (bit-lt (sectionY bits256 s key) i)))
-        ∙ sym (bits256 .K .byte-add _ _)
+    abbrev forms : ℕ → F
+    forms i = quad bits256 s key i K K
+
+    abbrev linear : ℕ → F
+    linear i = lin bits256 s key i K
+
+    -- the parts of each equation, batched apart
+    apart : batch bits256 s χ e (λ i. forms i ⊕ elem δ ⊗ linear i ⊕ yOf bits256 s key i ⊗ (elem δ ⊗ elem δ))
+        ≡ batch bits256 s χ e forms ⊕ elem δ ⊗ batch bits256 s χ e linear ⊕ (elem δ ⊗ elem δ) ⊗ batch bits256 s χ e (yOf bits256 s key)
+    unfolding batch
+    apart = sums-apart (bits256 .K .base .R) (s .m) (χAt bits256 s χ e) forms linear (yOf bits256 s key) (elem δ)
+
+    values-are : ((i : ℕ) → byteAt χ i < 256) → valueByte (s .m) χ (sectionY bits256 s key) e ≡ byteOf (batch bits256 s χ e (yOf bits256 s key))
+    unfolding batch χAt elemAt yOf ySym symbol
+    values-are bytes =
+        sum-same (s .m) _ _ (λ i l. sym (byte-times gf256 (byteAt χ (e * s .m + i)) (bit (sectionY bits256 s key) i) (bytes (e * s .m + i)) (bit-lt (sectionY bits256 s key) i)))
+        ∙ sym (byte-sum gf256 (s .m) _)
 
     mask-of : (i : ℕ) → i < gf256 .degree → laneAt T (s .n + i) e ≡ byteOf (w (s .n + i))
     unfolding kOf
     mask-of i h = masked (s .n + i) (omega arith) (omega (arith, h))
 
-    pub product-is : (Δ : List ℕ) → byteAt Δ e ≡ δ
-        → productByte (s .n) (s .m) (sectionA bits256 s key) (sectionB bits256 s key) (sectionY bits256 s key) χ Δ T e ≡ byteOf (productLeft bits256 s key χ p e (elem δ) w)
+    pub product-is : ((i : ℕ) → byteAt χ i < 256)
+        → productByte (s .n) (s .m) (sectionA bits256 s key) (sectionB bits256 s key) (sectionY bits256 s key) χ δ T e ≡ byteOf (productLeft bits256 s key χ p e (elem δ) w)
     unfolding productLeft
-    product-is Δ at =
+    product-is bytes =
         ap₂ bitXor
-        (batch-is gf256 s χ e _ (λ i. quad bits256 s key i K K ⊕ elem δ ⊗ lin bits256 s key i K ⊕ yOf bits256 s key i ⊗ (elem δ ⊗ elem δ))
-        (λ i. ap (λ (z : ℕ). leftByte (s .n) (matrixOf (s .n) (sectionA bits256 s key) i) (rowOf (s .n) (sectionB bits256 s key) i) (bit (sectionY bits256 s key) i) z T e) at ∙ left-is i))
+        (ap₂ bitXor
+        (ap₂ bitXor (batch-is gf256 s χ e _ forms (λ i. form-is gf256 s key i T e K front))
+        (ap (mulByte gf256 δ) (batch-is gf256 s χ e _ linear (λ i. lin-is gf256 s key i T e K front)) ∙ ap (λ z. byteOf (elem δ ⊗ z)) (bits256 .K .elem-byte (batch bits256 s χ e linear)))
+        ∙ sym (bits256 .K .byte-add _ _))
+        (ap (mulByte gf256 (mulByte gf256 δ δ)) (values-are bytes) ∙ ap₂ (λ y z. byteOf (y ⊗ z)) (bits256 .K .elem-byte (elem δ ⊗ elem δ)) (bits256 .K .elem-byte (batch bits256 s χ e (yOf bits256 s key))))
+        ∙ sym (bits256 .K .byte-add _ _) ∙ ap byteOf (sym apart))
         (sum-same (gf256 .degree) _ _ (λ i h. ap (mulByte gf256 (maskElement i)) (mask-of i h)) ∙ mask-is s e (λ c. byteOf (w c)) w (λ c h. refl))
         ∙ sym (bits256 .K .byte-add _ _)
 
-    pub holds-is : (left Δ : List ℕ) → byteAt Δ e ≡ δ → byteAt left e ≡ productByte (s .n) (s .m) (sectionA bits256 s key) (sectionB bits256 s key) (sectionY bits256 s key) χ Δ T e
-        → byteAt (p .QS0) e < 256
-        → eqb (byteAt left e) (bitXor (byteAt (p .QS0) e) (mulByte gf256 (byteAt (p .QS1) e) (byteAt Δ e))) ≡ productHolds bits256 s key χ p e (elem δ) w
+    pub holds-is : ((i : ℕ) → byteAt χ i < 256) → (left : List ℕ)
+        → byteAt left e ≡ productByte (s .n) (s .m) (sectionA bits256 s key) (sectionB bits256 s key) (sectionY bits256 s key) χ δ T e → byteAt (p .QS0) e < 256
+        → eqb (byteAt left e) (bitXor (byteAt (p .QS0) e) (mulByte gf256 (byteAt (p .QS1) e) δ)) ≡ productHolds bits256 s key χ p e (elem δ) w
     unfolding productHolds elemAt
-    holds-is left Δ at lefts byte =
-        ap₂ eqb (lefts ∙ product-is Δ at)
-        (ap₂ (λ (x y : ℕ). bitXor x (mulByte gf256 (byteAt (p .QS1) e) y)) (sym (bits256 .K .byte-elem _ byte)) at ∙ sym (bits256 .K .byte-add _ _))
-        ∙ same-bytes _ _
+    holds-is bytes left lefts byte =
+        ap₂ eqb (lefts ∙ product-is bytes) (ap (λ (x : ℕ). bitXor x (mulByte gf256 (byteAt (p .QS1) e) δ)) (sym (bits256 .K .byte-elem _ byte)) ∙ sym (bits256 .K .byte-add _ _)) ∙ same-bytes _ _

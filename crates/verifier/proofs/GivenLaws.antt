@@ -125,16 +125,16 @@ module _ (s : Shape) (Δ opened proof T : List ℕ) (is : Opened s Δ opened pro
         (ap (λ z. bit (p .d) c * z) (same e l) ∙ mul-comm (bit (p .d) c) (byteAt Δ e) ∙ sym (byte-times gf256 (byteAt Δ e) (bit (p .d) c) (challenges e) (bit-lt (p .d) c)))
         ∙ sym (bits256 .K .byte-add _ _)
 
-    pub first-differing-is : (key χ left : List ℕ) → ((i : ℕ) → byteAt (p .QS0) i < 256)
-        → ((e : ℕ) → e < s .τ → byteAt left e ≡ productByte (s .n) (s .m) (sectionA bits256 s key) (sectionB bits256 s key) (sectionY bits256 s key) χ challenge T′ e)
+    pub first-differing-is : (key χ left : List ℕ) → ((i : ℕ) → byteAt χ i < 256) → ((i : ℕ) → byteAt (p .QS0) i < 256)
+        → ((e : ℕ) → e < s .τ → byteAt left e ≡ productByte (s .n) (s .m) (sectionA bits256 s key) (sectionB bits256 s key) (sectionY bits256 s key) χ (byteAt challenge e) T′ e)
         → firstDiffering left (p .QS0) (p .QS1) Δ ≡ firstNot (s .τ) (productIn bits256 s key Δ χ opened proof)
     unfolding productIn productAt
-    first-differing-is key χ left bytes lefts =
+    first-differing-is key χ left bytes sent lefts =
         ap (λ n. firstNot n (λ e. eqb (byteAt left e) (bitXor (byteAt (p .QS0) e) (mulByte gf256 (byteAt (p .QS1) e) (byteAt Δ e))))) long
         ∙ first-congr (s .τ) _ _
         (λ e l.
-        ap (λ z. eqb (byteAt left e) (bitXor (byteAt (p .QS0) e) (mulByte gf256 (byteAt (p .QS1) e) z))) (sym (same e l))
-        ∙ holds-is s p e (byteAt Δ e) (challenges e) (w e) key χ T′ (front e l) (λ c low h. stays c e low (lane e l) ∙ holds e c l (in-l c h)) left challenge (same e l) (lefts e l) (bytes e))
+        holds-is s p e (byteAt Δ e) (challenges e) (w e) key χ T′ (front e l) (λ c low h. stays c e low (lane e l) ∙ holds e c l (in-l c h)) bytes left
+        (lefts e l ∙ ap (λ z. productByte (s .n) (s .m) (sectionA bits256 s key) (sectionB bits256 s key) (sectionY bits256 s key) χ z T′ e) (same e l)) (sent e))
 
 take-lt : (l : List ℕ) (n j : ℕ) → ((k : ℕ) → byteAt l k < 256) → byteAt (take n l) j < 256
 take-lt l zero j h = lit< tt

@@ -85,6 +85,7 @@ product-lanes-requires c κs =
       omega (arith, y, bits-fit (shape .m)),
       s .pre .4,
       omega (arith, c .before .before .before .before .before .before .before .before .add-difference .kept .0, s .pre .5 .table-length, mask-fits shape),
+      in-limits shape within .m-most,
     )
 
 slice-aggregate-first-differing : tie.Need-slice-aggregate-first-differing
@@ -133,12 +134,12 @@ returns c =
     c .first-differing .ensures
     ∙ ap₂ (λ (x y : List ℕ). firstDiffering left x y (now (a .delta))) (c .before .before .proof-section2 .ensures .0) (c .before .proof-section3 .ensures .0)
     ∙ first-differing-is shape (now (a .delta)) (now (a .opened)) (now (a .proof)) (now (a .table)) (s .pre .5) (s .pre .3) (λ i. c .before .before .before .before .before .before .before .before .before .before .before .before .before .before .before .before .before .before .before .before .before .before .before .before .shared-slice-known2 .given i .fits) challenge T′ same
-    (λ e l. omega (arith, l, in-limits shape within .τ-most)) changed (λ k e h l. c .before .before .before .before .before .before .before .before .before .before .before .before .before .before .add-difference .ensures .1 k e h l) key (now (a .batching)) left
+    (λ e l. omega (arith, l, in-limits shape within .τ-most)) changed (λ k e h l. c .before .before .before .before .before .before .before .before .before .before .before .before .before .before .add-difference .ensures .1 k e h l) key (now (a .batching)) left (λ i. c .before .before .before .before .before .before .before .before .before .before .before .before .before .before .before .before .before .before .before .before .before .before .before .shared-slice-known3 .given i .fits)
     (section-bytes (lengths bits256 shape) (now (a .proof)) 4 (lit< tt) (λ i. c .before .before .before .before .before .before .before .before .before .before .before .before .before .before .before .before .before .before .before .before .before .shared-slice-known5 .given i .fits))
     (λ e l.
     c .before .before .before .before .before .product-lanes .ensures e l
-    ∙ ap₂ (λ (r q : List ℕ). productByte (a .s .n) (a .s .m) r q (now (c .before .before .before .before .before .before .before .before .section-y .result)) (now (a .batching)) challenge T′ e) forms linear
-    ∙ ap (λ (r : List ℕ). productByte (a .s .n) (a .s .m) (sectionA bits256 shape key) (sectionB bits256 shape key) r (now (a .batching)) challenge T′ e) right)
+    ∙ ap₂ (λ (r q : List ℕ). productByte (a .s .n) (a .s .m) r q (now (c .before .before .before .before .before .before .before .before .section-y .result)) (now (a .batching)) (byteAt challenge e) T′ e) forms linear
+    ∙ ap (λ (r : List ℕ). productByte (a .s .n) (a .s .m) (sectionA bits256 shape key) (sectionB bits256 shape key) r (now (a .batching)) (byteAt challenge e) T′ e) right)
 
 pub check-product-spec : {M : Type 1} → statement M
 check-product-spec =
