@@ -1,0 +1,62 @@
+-- Decimal digits: the last one after the digits of a tenth; and how many there are.
+-- Assumes nothing.
+use mathlib.Core.Path.{_≡_, refl, sym, ap, _∙_}
+use mathlib.Core.List.{List, [], _∷_, _++_, append-assoc}
+use Prim.Native.Nat.{ℕ, zero, suc, _+_, _/_, _%_, _≤_, _<_}
+use native.Mathlib.Decide.{decLe}
+use native.Mathlib.Omega.{arith}
+use lib.Dec.{ltb}
+use lib.ListN.{length, length-append}
+use Rattle.protocol.specs.Check.{decimalDigits, decimal}
+use Rattle.protocol.proofs.TestLaws.{ltb-yes, ltb-no}
+
+digits-one : (f x : ℕ) → x < 10 → decimalDigits (suc f) x ≡ (48 + x) ∷ []
+unfolding decimalDigits
+digits-one f x h = rw (decimalDigits, ltb-yes x 10 h)
+
+digits-more : (f x : ℕ) → 10 ≤ x → decimalDigits (suc f) x ≡ decimalDigits f (x / 10) ++ ((48 + x % 10) ∷ [])
+unfolding decimalDigits
+digits-more f x h = rw (decimalDigits, ltb-no x 10 h)
+
+-- more digits than there are change nothing
+enough-step : (f g x : ℕ) → Dec (10 ≤ x) → (10 ≤ x → decimalDigits f (x / 10) ≡ decimalDigits g (x / 10)) → decimalDigits (suc f) x ≡ decimalDigits (suc g) x
+enough-step f g x (yes h) ih = digits-more f x h ∙ ap (λ l. l ++ ((48 + x % 10) ∷ [])) (ih h) ∙ sym (digits-more g x h)
+enough-step f g x (no n) ih =
+    let h : x < 10 = omega arith in
+    digits-one f x h ∙ sym (digits-one g x h)
+
+enough : (f g x : ℕ) → x < f → x < g → decimalDigits f x ≡ decimalDigits g x
+enough zero g x h k = absurd (omega arith)
+enough (suc f) zero x h k = absurd (omega arith)
+enough (suc f) (suc g) x h k = enough-step f g x (decLe 10 x) (λ l. enough f g (x / 10) (omega arith) (omega arith))
+
+pub decimal-one : (x : ℕ) → x < 10 → decimal x ≡ (48 + x) ∷ []
+unfolding decimal
+decimal-one x h = digits-one x x h
+
+pub decimal-more : (x : ℕ) → 10 ≤ x → decimal x ≡ decimal (x / 10) ++ ((48 + x % 10) ∷ [])
+unfolding decimal
+decimal-more x h = digits-more x x h ∙ ap (λ l. l ++ ((48 + x % 10) ∷ [])) (enough x (suc (x / 10)) (x / 10) (omega arith) (omega arith))
+
+pub length-one : (x : ℕ) → x < 10 → length (decimal x) ≡ 1
+length-one x h = ap length (decimal-one x h)
+
+pub length-more : (x : ℕ) → 10 ≤ x → length (decimal x) ≡ length (decimal (x / 10)) + 1
+length-more x h = ap length (decimal-more x h) ∙ length-append (decimal (x / 10)) _
+
+one-more : (n x : ℕ) → length (decimal (x / 10)) ≤ n → length (decimal x) ≤ n + 1
+one-more n x h = go (decLe 10 x)
+  where
+    go : Dec (10 ≤ x) → length (decimal x) ≤ n + 1
+    go (yes l) = omega (arith, length-more x l)
+    go (no l) = omega (arith, length-one x (omega arith))
+
+pub five-digits : (x : ℕ) → x < 65536 → length (decimal x) ≤ 5
+five-digits x h =
+    let one : length (decimal (x / 10 / 10 / 10 / 10)) ≤ 1 = omega (arith, length-one (x / 10 / 10 / 10 / 10) (omega arith)) in
+    one-more 4 x (one-more 3 (x / 10) (one-more 2 (x / 10 / 10) (one-more 1 (x / 10 / 10 / 10) one)))
+
+-- the parts of a line, as they are written one after the other
+pub line-parts : (word number place end : List ℕ) → word ++ (32 ∷ number) ++ (32 ∷ place) ++ end ≡ word ++ (32 ∷ (number ++ (32 ∷ place)) ++ end)
+line-parts w n p e =
+    append-assoc (w ++ (32 ∷ n)) (32 ∷ p) e ∙ append-assoc w (32 ∷ n) ((32 ∷ p) ++ e) ∙ ap (λ l. w ++ l) (sym (append-assoc (32 ∷ n) (32 ∷ p) e))

@@ -1,0 +1,98 @@
+-- `checking::line::write_line` meets its contract.
+-- Assumes nothing.
+use mathlib.Core.Path.{sym, ap, _∙_}
+use Rattle.protocol.specs.Check.{decimal, lineOf}
+use Rattle.checking.specs.Checked.{checkedOf}
+use borrow.Author.Needs.{needs}
+use Rattle.checking.proofs.line.write_line.Statement.{statement}
+use Rattle.checking.proofs.line.write_line.Tie as tie
+
+enum-told : tie.Need-enum-told
+enum-told c = search needs
+
+slice-aggregate-put-line : tie.Need-slice-aggregate-put-line
+slice-aggregate-put-line c = search needs
+
+put-line-requires : tie.Need-put-line-requires
+put-line-requires c κs = search needs
+
+enum-known-outcome : tie.Need-enum-known-outcome
+enum-known-outcome c = search needs
+
+enum-told-2 : tie.Need-enum-told-2
+enum-told-2 c = search needs
+
+slice-aggregate-put-line-2 : tie.Need-slice-aggregate-put-line-2
+slice-aggregate-put-line-2 c = search needs
+
+put-line-requires-2 : tie.Need-put-line-requires-2
+put-line-requires-2 c κs = search needs
+
+enum-known-verdict : tie.Need-enum-known-verdict
+enum-known-verdict c = search needs
+
+slice-aggregate-put-line-3 : tie.Need-slice-aggregate-put-line-3
+slice-aggregate-put-line-3 c = search needs
+
+number-requires : tie.Need-number-requires
+number-requires c κs = search needs
+
+cast-put-line : tie.Need-cast-put-line
+cast-put-line c = search needs
+
+cast-put-line-2 : tie.Need-cast-put-line-2
+cast-put-line-2 c = search needs
+
+put-line-requires-3 : tie.Need-put-line-requires-3
+put-line-requires-3 c κs = search needs
+
+same-length : tie.Need-same-length
+same-length c = search needs
+
+returns : tie.Need-returns
+unfolding lineOf
+returns c =
+    let put = c .before .before .put-line in
+    (put .ensures .0, put .ensures .1 ∙ ap (λ o. lineOf (checkedOf o)) (sym (c .before .before .before .before .before .enum-told .given .1)))
+
+same-length-2 : tie.Need-same-length-2
+same-length-2 c = search needs
+
+returns-2 : tie.Need-returns-2
+unfolding lineOf
+returns-2 c =
+    let put = c .before .before .put-line2 in
+    (put .ensures .0, put .ensures .1 ∙ rw (c .before .before .before .before .before .before .before .before .outcome .given .1, c .before .before .before .before .before .enum-told2 .given .1))
+
+same-length-3 : tie.Need-same-length-3
+same-length-3 c = search needs
+
+returns-3 : tie.Need-returns-3
+unfolding lineOf
+returns-3 c =
+    let put = c .before .before .put-line3 in
+    (put .ensures .0, put .ensures .1 ∙ rw (c .before .before .before .before .before .before .before .before .before .before .outcome .given .1, c .before .before .before .before .before .before .before .verdict .given .1, c .before .before .before .number .ensures .0))
+
+pub write-line-spec : {M : Type 1} → statement M
+write-line-spec =
+    tie.close
+    (tie.spec
+    enum-told
+    slice-aggregate-put-line
+    put-line-requires
+    enum-known-outcome
+    enum-told-2
+    slice-aggregate-put-line-2
+    put-line-requires-2
+    enum-known-verdict
+    slice-aggregate-put-line-3
+    number-requires
+    cast-put-line
+    cast-put-line-2
+    put-line-requires-3
+    same-length
+    returns
+    same-length-2
+    returns-2
+    same-length-3
+    returns-3)

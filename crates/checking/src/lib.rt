@@ -1,0 +1,27 @@
+// The check program's work, on slices: six sections read, the verifier asked, one line written.
+mod input;
+mod line;
+
+pub use input::read_and_verify;
+pub use line::write_line;
+ghost use mathlib.Core.Path.{_≡_};
+ghost use Prim.Native.Nat.{_≤_};
+ghost use lib.ListN.{length, take};
+ghost use Rattle.protocol.specs.Binary.{bits256};
+ghost use Rattle.protocol.specs.Check.{checkLine};
+use format::Verdict;
+
+// What the program prints: an answer of the verifier, or that the input could not be read.
+pub enum Checked {
+    Answered(Verdict),
+    Unread,
+}
+
+// The check program of 01, from its whole input to its whole output: the number of bytes written at the start of out.
+pub fn check_line(input: &[u8], out: &mut [u8]) -> usize
+    requires { ⌜ 32 ≤ length (now out) ⌝ }
+    ensures { λ r. ⌜ r ≤ length (now (out .exit)) ⌝ }
+    ensures line { λ r. ⌜ take r (now (out .exit)) ≡ checkLine bits256 (now (input .entry)) ⌝ }
+{
+    write_line(read_and_verify(input), out)
+}
