@@ -7,3 +7,4 @@ pub mod Challenges
 pub mod Forged
 pub mod Table
 pub mod Hypotheses
+pub mod CheckLine

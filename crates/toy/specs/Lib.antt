@@ -1,3 +1,4 @@
 pub mod Toy
 pub mod Table
 pub mod Hypotheses
+pub mod CheckLine
