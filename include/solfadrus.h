@@ -1,5 +1,5 @@
 /*
- * Solfadrus: a prover for knowledge of a solution of a quadratic system over GF(2).
+ * Solfadrus: a prover and a verifier for knowledge of a solution of a quadratic system over GF(2).
  *
  * The library is libsolfadrus.a. It is written in Rattle, and every function below is proved to
  * meet its contract; this header says the same in words, for callers in C and C++. The order of
@@ -13,7 +13,7 @@
  *   3. Answers            the numbers 1 to 15, and what each asks
  *   4. The caller's duty  what the library cannot see, and relies on
  *   5. Size functions and macros
- *   6. The calls          mq_test, mq_commit, mq_hash, mq_batch, mq_prove
+ *   6. The calls          mq_test, mq_commit, mq_hash, mq_batch, mq_prove, mq_verify
  *
  *
  * 1. CONVENTIONS
@@ -28,7 +28,8 @@
  *     number * 65536 + place   refused; MQ_NUMBER(word) and MQ_PLACE(word) take it apart
  *
  * An accepted call has written every byte of its output. A refused call has written none: `out`
- * is as it was. So read the word before you use the output.
+ * is as it was. So read the word before you use the output. mq_test and mq_verify have no output,
+ * and never write.
  *
  *
  * 2. SIZES AND FORMATS
@@ -60,7 +61,8 @@
  *   hash_matrix  H', t rows of k bits.
  *   batching     chi, for each repetition, rising, m elements of K, one for each equation, rising.
  *   delta        for each repetition one element of K.
- *   opened       for each repetition e, rising, the 255 leaves with j other than delta[e], rising.
+ *   opened       for each repetition e, rising, the 255 leaves with j other than delta[e], rising:
+ *                leaf j is the j-th of them below delta[e], and the (j - 1)-th above it.
  *   proof        the sections  C, d, u~, V~, QS0, QS1 :
  *                C     for each repetition but the first, rising, L bits   (count 0 at tau = 1)
  *                d     n bits
@@ -94,8 +96,8 @@
  *   15  Does the product check hold in every repetition?   place: the first one where not
  *
  * The place is 0 for all numbers but 11, 14 and 15. Where several equations fail, 11 names one of
- * them, and not always the lowest: do not rely on which. 12 to 15 are questions of the verifier,
- * which this version does not have; they are listed because the list is published whole.
+ * them, and not always the lowest: do not rely on which. 12 to 15 are questions of mq_verify alone.
+ * 14 is put of every repetition before 15 of any.
  *
  *
  * 4. THE CALLER'S DUTY
@@ -106,15 +108,17 @@
  *   Pointers   Each pointer is valid for the length that stands beside it: an input for reading,
  *              `out` for writing. Where the length is 0, any pointer will do, NULL too. No
  *              alignment is asked for.
- *   Overlap    `out` overlaps no input. Inputs may overlap each other.
+ *   Overlap    `out` overlaps no input. Inputs may overlap each other, and the same inputs may be
+ *              lent to several calls at once.
  *   Stillness  Nobody else writes an input, or reads or writes `out`, until the call returns.
  *
  * What the proof is worth rests on these.
  *
- *   Secrets    Leaves and witness are secret. Answers 8, 9 and 11 tell something about them, and
- *              the place of 11 does too: keep them from strangers. That nothing else does, no
- *              branch and no address, is tested on the built library (tests/secrets.sh), and is
- *              not proved.
+ *   Secrets    Leaves and witness are secret. Answers 8, 9 and 11 of the prover's calls tell
+ *              something about them, and the place of 11 does too: keep them from strangers. That
+ *              nothing else does, no branch and no address, is tested on the built library
+ *              (tests/secrets.sh), and is not proved. Nothing lent to mq_verify is secret, and its
+ *              time depends on what it is lent.
  *   Leaves     All bits of all leaves (but the spare ones) are drawn uniformly and independently,
  *              from a generator fit for keys, anew for each proof. A set of leaves serves ONE
  *              proof: one witness, one hash_matrix, one batching, one delta.
@@ -122,7 +126,10 @@
  *              its leaves, and they and d give the witness away.
  *   Challenges hash_matrix is drawn after the output of mq_commit is fixed, batching after that
  *              of mq_hash, and delta after that of mq_batch; each so that the prover can neither
- *              foresee nor choose it.
+ *              foresee nor choose it. mq_verify is lent them, and cannot see who drew them, or
+ *              when.
+ *   Binding    The prover fixes all leaves before the first challenge is drawn. mq_verify takes
+ *              opened leaves as they are lent: that they are those is for the caller to see to.
  *   Wiping     Wipe leaves and witness when they have served. The calls work on the stack, and do
  *              not wipe it: where that matters, run them on a stack that you wipe.
  *
@@ -209,7 +216,8 @@ extern "C" {
  *     MQ_BATCH_SIZE           mq_batch_size         what mq_batch writes, counts included
  *     MQ_PROOF_SIZE           mq_proof_size         what mq_prove writes, counts included
  *
- * With the largest sizes the key has 515240 bytes, the leaves 503808 and the proof 9767.
+ * With the largest sizes the key has 515240 bytes, the leaves 503808, the opened leaves 501840 and
+ * the proof 9767.
  */
 #define MQ_COUNT_SIZE 4
 #define MQ_HEADER_SIZE 8
@@ -345,6 +353,34 @@ uint32_t mq_prove(const uint8_t *key, size_t key_len,
                   const uint8_t *hash_matrix, size_t hash_matrix_len,
                   const uint8_t *batching, size_t batching_len,
                   uint8_t *out, size_t out_len);
+
+/*
+ * The verifier: does the proof hold for this key, under these challenges, with these leaves opened?
+ *
+ * With W_e the sum over j other than delta[e] of (j + delta[e]) times leaf j, plus delta[e] C_e
+ * (C_0 is 0, and the first correction sent is C_1), and K_e the first n coordinates of W_e plus
+ * delta[e] d, it accepts exactly when in every repetition e
+ *
+ *     14   H W_e = V~_e + delta[e] u~
+ *     15   sum over i of chi(e, i) (K_e^T A_i K_e + delta[e] b_i K_e + delta[e]^2 y_i)
+ *          + sum over s of alpha^s W_e[n + s]  =  QS0_e + delta[e] QS1_e
+ *
+ * with s = 0 .. 7 and alpha the element 02. The place is the first repetition where 14 fails; where
+ * it fails in none, the first where 15 fails.
+ *
+ * What mq_prove writes is accepted at every delta. A proof that was changed can be accepted too, at
+ * few delta: where delta[e] is 0, for one, neither C_e nor d enters.
+ *
+ *     questions   1 2 3 4, 5 (delta, hash_matrix and batching), 6, 7 8 (opened), 12, 13, 14, 15
+ *     writes      nothing
+ */
+MQ_LOOK_AT_ANSWER
+uint32_t mq_verify(const uint8_t *key, size_t key_len,
+                   const uint8_t *delta, size_t delta_len,
+                   const uint8_t *hash_matrix, size_t hash_matrix_len,
+                   const uint8_t *batching, size_t batching_len,
+                   const uint8_t *opened, size_t opened_len,
+                   const uint8_t *proof, size_t proof_len);
 
 #ifdef __cplusplus
 }

@@ -11,5 +11,8 @@ int main()
     for (auto call : calls_with_output)
         if (MQ_NUMBER(call(nullptr, 0, nullptr, 0, nullptr, 0, nullptr, 0)) != MQ_REFUSED_SHORT_HEADER)
             return 1;
+    if (MQ_NUMBER(mq_verify(nullptr, 0, nullptr, 0, nullptr, 0, nullptr, 0, nullptr, 0, nullptr, 0))
+        != MQ_REFUSED_SHORT_HEADER)
+        return 1;
     return mq_version() == MQ_VERSION ? 0 : 1;
 }

@@ -133,6 +133,8 @@ int main(void)
     expect(MQ_PLACE(word) == 159, "MQ_PLACE");
     /* An empty key is refused 1, and lengths 0 are taken with any pointer. */
     expect(mq_test(NULL, 0, NULL, 0) == UINT32_C(1) * 65536, "mq_test of nothing");
+    expect(mq_verify(NULL, 0, NULL, 0, NULL, 0, NULL, 0, NULL, 0, NULL, 0) == UINT32_C(1) * 65536,
+           "mq_verify of nothing");
     printf("sizes: %lu compared, %lu differ\n", compared, failures);
     return failures != 0;
 }
