@@ -1,7 +1,8 @@
 /*
- * The prover in C, written for speed on any x86-64 (SSE2, no other instructions), as the yardstick of
- * the benchmark. The same job as the library: the same questions, the same bytes, and no branch and no
- * address that depends on leaves or witness, but for what the answer tells. Nothing here is proved.
+ * Prover and verifier in C, written for speed on any x86-64 (SSE2, no other instructions), as the yardstick
+ * of the benchmark. The same job as the library: the same questions, the same bytes, and in the prover no
+ * branch and no address that depends on leaves or witness, but for what the answer tells. Nothing here is
+ * proved.
  *
  * Lanes. Sixteen repetitions make a group. An element of K for each of the sixteen is one register:
  * eight words of 16 bits, word p being bit p of the sixteen elements. A sum is one exclusive or for the
@@ -17,6 +18,10 @@
  * eight rows' sums with v are taken at once, by Karatsuba on the planes: 27 ands, added up over all
  * rows; they are joined and reduced once for each equation. The witness test and g = A x + A^T x + b
  * come from the same blocks, and a1 = g v is a masked sum.
+ *
+ * Verifier. With 0 for the leaf that is not opened, W = v + delta (u + C), so K = v + delta (u + C + d), made
+ * on the bit planes; then lanes, table and forms are the prover's, with K for v. The hash of W is that of K
+ * plus delta H' d, which goes over to u~. Nothing is secret there.
  */
 #include <emmintrin.h>
 
@@ -48,18 +53,41 @@ struct sums {
     uint8_t u[STRIDE], plane[8][STRIDE];
 };
 
+/* Sixteen leaves, one of them not there: with zeros in its place. */
+struct patch {
+    int number; /* which sixteen of the 256; -1 where all leaves are there */
+    uint8_t leaves[16 * STRIDE];
+};
+
+static void make_patch(const uint8_t *opened, size_t w, size_t missing, struct patch *patch)
+{
+    const uint8_t *from = opened + missing / 16 * 16 * w;
+    const size_t before = missing % 16 * w;
+    patch->number = (int)(missing / 16);
+    memcpy(patch->leaves, from, before);
+    memset(patch->leaves + before, 0, w);
+    memcpy(patch->leaves + before + w, from + before, 15 * w - before);
+}
+
 /* Sixteen bytes of the sums, from 256 leaves that lie w bytes apart. */
-static void sum_sixteen(const uint8_t *leaf, size_t w, struct sums *sums, size_t at)
+static void sum_sixteen(const uint8_t *leaf, size_t w, const struct patch *patch, struct sums *sums, size_t at)
 {
     reg u = _mm_setzero_si128(), p[9];
+    leaf += at;
     for (int i = 0; i < 9; i++)
         p[i] = u;
     for (int b = 0; b < 16; b++) {
+        const uint8_t *next = leaf + 16 * w;
+        if (b == patch->number) {
+            leaf = patch->leaves + at;
+            next -= w;
+        }
 #define LEAF(plane) u = xor(u, load(leaf)), leaf += w, p[plane] = xor(p[plane], u)
         LEAF(0), LEAF(1), LEAF(0), LEAF(2), LEAF(0), LEAF(1), LEAF(0), LEAF(3);
         LEAF(0), LEAF(1), LEAF(0), LEAF(2), LEAF(0), LEAF(1), LEAF(0);
         LEAF(4 + __builtin_ctz(b + 1));
 #undef LEAF
+        leaf = next;
     }
     store(sums->u + at, u);
     for (int i = 7; i >= 0; i--) {
@@ -68,19 +96,29 @@ static void sum_sixteen(const uint8_t *leaf, size_t w, struct sums *sums, size_t
     }
 }
 
-static void sum_leaves(const uint8_t *leaves, size_t w, struct sums *sums)
+enum { NONE = MQ_FIELD_SIZE };
+
+/* Where a leaf is missing, those after it stand one place earlier, and the sums have 0 for it. */
+static void sum_leaves(const uint8_t *leaves, size_t w, size_t missing, struct sums *sums)
 {
+    struct patch patch;
+    patch.number = -1;
     memset(sums, 0, sizeof *sums);
     if (w < 16) {
         uint8_t tree[MQ_FIELD_SIZE * 16] = { 0 };
         for (size_t j = 0; j < MQ_FIELD_SIZE; j++)
-            memcpy(tree + 16 * j, leaves + w * j, w);
-        sum_sixteen(tree, 16, sums, 0);
+            if (j != missing) {
+                memcpy(tree + 16 * j, leaves, w);
+                leaves += w;
+            }
+        sum_sixteen(tree, 16, &patch, sums, 0);
         return;
     }
+    if (missing != NONE)
+        make_patch(leaves, w, missing, &patch);
     for (size_t at = 0; at + 16 < w; at += 16)
-        sum_sixteen(leaves + at, w, sums, at);
-    sum_sixteen(leaves + w - 16, w, sums, w - 16);
+        sum_sixteen(leaves, w, &patch, sums, at);
+    sum_sixteen(leaves, w, &patch, sums, w - 16);
 }
 
 /* ---- Lanes -------------------------------------------------------------------------------- */
@@ -461,14 +499,20 @@ static size_t groups_of(const struct key *key)
 static void sum_all(const struct key *key, const uint8_t *leaves, struct work *work)
 {
     for (size_t e = 0; e < key->tau; e++)
-        sum_leaves(leaves + e * MQ_FIELD_SIZE * key->w, key->w, &work->sums[e]);
+        sum_leaves(leaves + e * MQ_FIELD_SIZE * key->w, key->w, NONE, &work->sums[e]);
+}
+
+/* What is looked up, from the sums. */
+static void make_look_up(const struct key *key, size_t bytes, struct work *work)
+{
+    make_lanes(work->sums, key->tau, key->w, groups_of(key), work->lanes);
+    make_table(work->lanes, bytes, groups_of(key), &work->table);
 }
 
 static void make_all(const struct key *key, const uint8_t *leaves, size_t bytes, struct work *work)
 {
     sum_all(key, leaves, work);
-    make_lanes(work->sums, key->tau, key->w, groups_of(key), work->lanes);
-    make_table(work->lanes, bytes, groups_of(key), &work->table);
+    make_look_up(key, bytes, work);
 }
 
 static uint8_t *write_commit(const struct key *key, const struct work *work, const uint8_t *x, uint8_t *out)
@@ -500,6 +544,25 @@ INLINE void hash_rows(const struct key *key, const struct work *work, const uint
     }
 }
 
+/* H v of all repetitions, as the proof has it. */
+static void hash_all(const struct key *key, const struct work *work, const uint8_t *h, uint8_t *out)
+{
+    switch (groups_of(key)) {
+    case 1: hash_rows(key, work, h, out, 1); break;
+    case 2: hash_rows(key, work, h, out, 2); break;
+    default: hash_rows(key, work, h, out, 3);
+    }
+}
+
+/* The product of a row of hash_matrix with as much of a string as it has. */
+static uint8_t hash_bit(const uint8_t *row, const uint8_t *string, size_t len)
+{
+    uint8_t sum = 0;
+    for (size_t b = 0; b < len; b++)
+        sum ^= row[b] & string[b];
+    return parity(sum);
+}
+
 static uint8_t *write_hash(const struct key *key, const struct work *work, const uint8_t *h, uint8_t *out)
 {
     const uint8_t *u = work->sums[0].u;
@@ -507,21 +570,15 @@ static uint8_t *write_hash(const struct key *key, const struct work *work, const
     memset(out, 0, MQ_STRING_SIZE(key->t));
     for (size_t r = 0; r < key->t; r++) {
         const size_t own = key->k + r;
-        uint8_t sum = 0;
-        for (size_t b = 0; b < key->hash_row; b++)
-            sum ^= h[r * key->hash_row + b] & u[b];
-        out[r / 8] |= (uint8_t)((parity(sum) ^ (u[own / 8] >> own % 8 & 1)) << r % 8);
+        const uint8_t sum = hash_bit(h + r * key->hash_row, u, key->hash_row);
+        out[r / 8] |= (uint8_t)((sum ^ (u[own / 8] >> own % 8 & 1)) << r % 8);
     }
     out = put_count(out + MQ_STRING_SIZE(key->t), key->tau * key->t);
-    switch (groups_of(key)) {
-    case 1: hash_rows(key, work, h, out, 1); break;
-    case 2: hash_rows(key, work, h, out, 2); break;
-    default: hash_rows(key, work, h, out, 3);
-    }
+    hash_all(key, work, h, out);
     return out + key->tau * key->t;
 }
 
-/* The forms of one equation: lanes of a0 and of a1. */
+/* The forms of one equation: lanes of v^T A v and, where gx is given, of gx v. */
 INLINE void forms(const struct key *key, const struct work *work, const struct blocks *blocks, const uint8_t *gx,
                   const reg *factors, size_t groups, reg *a0, reg *a1)
 {
@@ -531,7 +588,7 @@ INLINE void forms(const struct key *key, const struct work *work, const struct b
     memset(acc, 0, sizeof acc);
     memset(line, 0, sizeof line);
     for (size_t R = 0; R < key->row; R++) {
-        const reg set = _mm_cmpeq_epi16(and(_mm_set1_epi16(gx[R]), bits), bits);
+        const reg set = _mm_cmpeq_epi16(and(_mm_set1_epi16(gx ? gx[R] : 0), bits), bits);
         reg rows[8 * MAX_GROUPS], own[8];
         for (size_t i = 0; i < 8 * groups; i++)
             rows[i] = _mm_setzero_si128();
@@ -543,13 +600,14 @@ INLINE void forms(const struct key *key, const struct work *work, const struct b
             for (size_t r = 0; r < 8; r++)
                 own[r] = rows[r * groups + g];
             add_products(acc[g], factor, own);
-            for (size_t p = 0; p < 8; p++)
+            for (size_t p = 0; gx && p < 8; p++)
                 line[g][p] = xor(line[g][p], and(factor[alone[p]], set));
         }
     }
     for (size_t g = 0; g < groups; g++) {
         a0[g] = finish(acc[g]);
-        a1[g] = fold_words(line[g]);
+        if (gx)
+            a1[g] = fold_words(line[g]);
     }
 }
 
@@ -589,24 +647,64 @@ static void make_batching_lanes(const struct key *key, const uint8_t *batching, 
         }
 }
 
+/* Two forms of each equation, times its batching byte, summed: eight equations at a time. */
+struct batch {
+    reg chi[(MQ_MAX_EQUATIONS + 16) * MAX_GROUPS], weights[MAX_ROW * MAX_GROUPS * PRODUCTS];
+    reg sum0[MAX_GROUPS][PRODUCTS], sum1[MAX_GROUPS][PRODUCTS], a0[MAX_GROUPS][8], a1[MAX_GROUPS][8];
+};
+
+INLINE void start_batch(const struct key *key, const uint8_t *batching, size_t groups, struct batch *batch)
+{
+    memset(batch->sum0, 0, sizeof batch->sum0);
+    memset(batch->sum1, 0, sizeof batch->sum1);
+    make_batching_lanes(key, batching, groups, batch->chi);
+    make_factors(batch->chi, (key->m + 7) / 8, groups, batch->weights);
+}
+
+INLINE void add_forms(const struct key *key, size_t i, size_t groups, const reg *one0, const reg *one1,
+                      struct batch *batch)
+{
+    if (i % 8 == 0) {
+        memset(batch->a0, 0, sizeof batch->a0);
+        memset(batch->a1, 0, sizeof batch->a1);
+    }
+    for (size_t g = 0; g < groups; g++) {
+        batch->a0[g][i % 8] = one0[g];
+        batch->a1[g][i % 8] = one1[g];
+    }
+    if (i % 8 == 7 || i + 1 == key->m)
+        for (size_t g = 0; g < groups; g++) {
+            const reg *weight = batch->weights + (i / 8 * groups + g) * PRODUCTS;
+            add_products(batch->sum0[g], weight, batch->a0[g]);
+            add_products(batch->sum1[g], weight, batch->a1[g]);
+        }
+}
+
+/* The two sums; the first with the mask. */
+INLINE void finish_batch(const struct key *key, const struct work *work, const struct batch *batch, size_t groups,
+                         uint8_t *sum0, uint8_t *sum1)
+{
+    for (size_t g = 0; g < groups; g++) {
+        const reg mask = mask_lanes(work->lanes, key->n, groups, g);
+        store(sum0 + GROUP * g, lanes_to_bytes(xor(finish(batch->sum0[g]), mask)));
+        store(sum1 + GROUP * g, lanes_to_bytes(finish(batch->sum1[g])));
+    }
+}
+
 /* QS0 and QS1 of all repetitions, and question 11 on the way. */
 INLINE uint32_t batch_equations(const struct key *key, const struct work *work, const uint8_t *x,
                                 const uint8_t *batching, size_t groups, uint8_t *qs0, uint8_t *qs1)
 {
-    reg chi[(MQ_MAX_EQUATIONS + 16) * MAX_GROUPS];
-    reg factors[MAX_ROW * MAX_GROUPS * PRODUCTS], weights[MAX_ROW * MAX_GROUPS * PRODUCTS];
-    reg sum0[MAX_GROUPS][PRODUCTS], sum1[MAX_GROUPS][PRODUCTS], a0[MAX_GROUPS][8], a1[MAX_GROUPS][8];
+    reg factors[MAX_ROW * MAX_GROUPS * PRODUCTS];
+    struct batch batch;
     struct blocks blocks;
     struct masks masks;
     uint8_t gx[MAX_ROW];
 
     memset(&blocks, 0, sizeof blocks);
-    memset(sum0, 0, sizeof sum0);
-    memset(sum1, 0, sizeof sum1);
     make_masks(x, key->row, &masks);
     make_factors(work->lanes, key->row, groups, factors);
-    make_batching_lanes(key, batching, groups, chi);
-    make_factors(chi, (key->m + 7) / 8, groups, weights);
+    start_batch(key, batching, groups, &batch);
     for (size_t i = 0; i < key->m; i++) {
         reg one0[MAX_GROUPS], one1[MAX_GROUPS];
         cut_matrix(key->a + i * key->n * key->row, key->n, key->row, &blocks);
@@ -615,26 +713,10 @@ INLINE uint32_t batch_equations(const struct key *key, const struct work *work, 
         PUBLISH(error);
         if (error)
             return MQ_REFUSED_EQUATION_FAILS * 65536 + (uint32_t)i;
-        if (i % 8 == 0) {
-            memset(a0, 0, sizeof a0);
-            memset(a1, 0, sizeof a1);
-        }
         forms(key, work, &blocks, gx, factors, groups, one0, one1);
-        for (size_t g = 0; g < groups; g++) {
-            a0[g][i % 8] = one0[g];
-            a1[g][i % 8] = one1[g];
-        }
-        if (i % 8 == 7 || i + 1 == key->m)
-            for (size_t g = 0; g < groups; g++) {
-                const reg *weight = weights + (i / 8 * groups + g) * PRODUCTS;
-                add_products(sum0[g], weight, a0[g]);
-                add_products(sum1[g], weight, a1[g]);
-            }
+        add_forms(key, i, groups, one0, one1, &batch);
     }
-    for (size_t g = 0; g < groups; g++) {
-        store(qs0 + GROUP * g, lanes_to_bytes(xor(finish(sum0[g]), mask_lanes(work->lanes, key->n, groups, g))));
-        store(qs1 + GROUP * g, lanes_to_bytes(finish(sum1[g])));
-    }
+    finish_batch(key, work, &batch, groups, qs0, qs1);
     return MQ_ACCEPTED;
 }
 
@@ -651,6 +733,108 @@ static uint32_t make_batch(const struct key *key, const struct work *work, const
     for (size_t e = 0; e < key->tau; e++)
         made->qs1[e] ^= mask;
     return word;
+}
+
+/* ---- The verifier, once the form is known ------------------------------------------------- */
+
+/* K = v + delta (u + C + d), with the leaf at delta taken for 0; past the first n coordinates it is W. */
+static void sum_opened(const struct key *key, const struct claim *in, const struct proof *proof, size_t e,
+                       struct sums *sums)
+{
+    const uint8_t delta = in->delta.at[e];
+    sum_leaves(in->opened.at + e * (MQ_FIELD_SIZE - 1) * key->w, key->w, delta, sums);
+    for (size_t b = 0; e > 0 && b < key->w; b++)
+        sums->u[b] ^= proof->c[(e - 1) * key->w + b];
+    for (size_t b = 0; b < key->row; b++)
+        sums->u[b] ^= proof->d[b];
+    for (int p = 0; p < 8; p++)
+        if (delta >> p & 1)
+            for (size_t b = 0; b < STRIDE; b++)
+                sums->plane[p][b] ^= sums->u[b];
+}
+
+/* Question 14. H K is compared with V~ + delta (u~ + H' d). */
+static uint32_t check_hashes(const struct key *key, const struct claim *in, const struct proof *proof,
+                             const struct work *work)
+{
+    uint8_t hashed[MQ_MAX_REPETITIONS * MQ_MAX_HASH_ROWS], u[MQ_MAX_HASH_ROWS];
+    const uint8_t *h = in->hash_matrix.at;
+    for (size_t r = 0; r < key->t; r++, h += key->hash_row)
+        u[r] = (uint8_t)-((proof->u[r / 8] >> r % 8 & 1) ^ hash_bit(h, proof->d, key->row));
+    hash_all(key, work, in->hash_matrix.at, hashed);
+    for (size_t e = 0; e < key->tau; e++) {
+        const uint8_t *seen = hashed + e * key->t, *sent = proof->v + e * key->t, delta = in->delta.at[e];
+        uint8_t differs = 0;
+        for (size_t r = 0; r < key->t; r++)
+            differs |= seen[r] ^ sent[r] ^ (delta & u[r]);
+        if (differs)
+            return MQ_REFUSED_INCONSISTENT * 65536 + (uint32_t)e;
+    }
+    return MQ_ACCEPTED;
+}
+
+/* Of all repetitions: the batched K^T A K with the mask, the batched b K, and the batched y. */
+struct batched_forms {
+    uint8_t square[MQ_MAX_REPETITIONS], line[MQ_MAX_REPETITIONS], constant[MQ_MAX_REPETITIONS];
+};
+
+INLINE void batch_forms(const struct key *key, const struct work *work, const uint8_t *batching, size_t groups,
+                        struct batched_forms *made)
+{
+    reg factors[MAX_ROW * MAX_GROUPS * PRODUCTS], y[MAX_GROUPS];
+    struct batch batch;
+    struct blocks blocks;
+
+    memset(&blocks, 0, sizeof blocks);
+    memset(y, 0, sizeof y);
+    make_factors(work->lanes, key->row, groups, factors);
+    start_batch(key, batching, groups, &batch);
+    for (size_t i = 0; i < key->m; i++) {
+        reg one0[MAX_GROUPS], one1[MAX_GROUPS];
+        cut_matrix(key->a + i * key->n * key->row, key->n, key->row, &blocks);
+        fold_matrix(key->row, &blocks);
+        forms(key, work, &blocks, NULL, factors, groups, one0, NULL);
+        for (size_t g = 0; g < groups; g++)
+            one1[g] = _mm_setzero_si128();
+        look_up(&work->table, key->b + i * key->row, 1, 0, key->row, 1, groups, one1);
+        add_forms(key, i, groups, one0, one1, &batch);
+        if (key->y[i / 8] >> i % 8 & 1)
+            for (size_t g = 0; g < groups; g++)
+                y[g] = xor(y[g], batch.chi[i * groups + g]);
+    }
+    finish_batch(key, work, &batch, groups, made->square, made->line);
+    for (size_t g = 0; g < groups; g++)
+        store(made->constant + GROUP * g, lanes_to_bytes(y[g]));
+}
+
+/* Question 15. */
+static uint32_t check_products(const struct key *key, const struct claim *in, const struct proof *proof,
+                               const struct work *work)
+{
+    struct batched_forms made;
+    switch (groups_of(key)) {
+    case 1: batch_forms(key, work, in->batching.at, 1, &made); break;
+    case 2: batch_forms(key, work, in->batching.at, 2, &made); break;
+    default: batch_forms(key, work, in->batching.at, 3, &made);
+    }
+    for (size_t e = 0; e < key->tau; e++) {
+        const uint8_t delta = in->delta.at[e];
+        const uint8_t slope = made.line[e] ^ multiply(delta, made.constant[e]) ^ proof->qs1[e];
+        if ((made.square[e] ^ multiply(delta, slope)) != proof->qs0[e])
+            return MQ_REFUSED_PRODUCT_DIFFERS * 65536 + (uint32_t)e;
+    }
+    return MQ_ACCEPTED;
+}
+
+static uint32_t check_proof(const struct key *key, const struct claim *in, const struct proof *proof,
+                            struct work *work)
+{
+    uint32_t word;
+    for (size_t e = 0; e < key->tau; e++)
+        sum_opened(key, in, proof, e, &work->sums[e]);
+    make_look_up(key, key->hash_row, work);
+    word = check_hashes(key, in, proof, work);
+    return word ? word : check_products(key, in, proof, work);
 }
 
 #include "calls.h"

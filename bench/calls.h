@@ -1,11 +1,12 @@
 /*
- * The five calls, over what the program that includes this has defined: `struct work`, and
+ * The six calls, over what the program that includes this has defined: `struct work`, and
  *
  *     ask_solves    question 11
  *     sum_all       the leaf sums
  *     make_all      the leaf sums, and all else that hash and batch look up
  *     make_batch    QS0 and QS1, and question 11
  *     write_commit, write_hash, write_batch   sections with their counts; they answer where these end
+ *     check_proof   questions 14 and 15
  *
  * PREFIX stands before the name of each call, so that one program can hold several.
  */
@@ -99,4 +100,19 @@ uint32_t CALL(prove)(const uint8_t *key_at, size_t key_len, const uint8_t *leave
     out = write_hash(&key, &work, h, out);
     write_batch(&key, &made, out);
     return MQ_ACCEPTED;
+}
+
+uint32_t CALL(verify)(const uint8_t *key_at, size_t key_len, const uint8_t *delta, size_t delta_len,
+                      const uint8_t *h, size_t h_len, const uint8_t *chi, size_t chi_len,
+                      const uint8_t *opened, size_t opened_len, const uint8_t *proof_at, size_t proof_len)
+{
+    const struct claim in = {
+        { key_at, key_len }, { delta, delta_len }, { h, h_len }, { chi, chi_len }, { opened, opened_len },
+        { proof_at, proof_len }
+    };
+    struct key key;
+    struct proof proof;
+    struct work work;
+    const uint32_t number = ask_claim(&in, &key, &proof);
+    return number ? number * 65536 : check_proof(&key, &in, &proof, &work);
 }

@@ -1,6 +1,6 @@
 /*
- * The questions on form, as the programs of this folder put them: all but 11. Each function answers
- * 0, or the number of the question that gets a no.
+ * The questions on form, as the programs of this folder put them: all but 11, 14 and 15. Each function
+ * answers 0, or the number of the question that gets a no.
  *
  * The key is public. Leaves and witness are secret: their spare bits are gathered with no branch,
  * and only the answer is looked at.
@@ -91,12 +91,11 @@ static inline int in_range(size_t size, size_t limit)
 /* Takes one section, which must have so many bytes; NULL where it is not there whole. */
 static const uint8_t *take_section(struct text *rest, size_t expected)
 {
-    const uint8_t *section = rest->at + MQ_COUNT_SIZE;
     if (rest->len < MQ_COUNT_SIZE + expected || four_bytes(rest->at) != expected)
         return NULL;
     rest->at += MQ_COUNT_SIZE + expected;
     rest->len -= MQ_COUNT_SIZE + expected;
-    return section;
+    return rest->at - expected;
 }
 
 /* Questions 1 to 4. */
@@ -130,14 +129,25 @@ static uint32_t ask_key(struct text lent, struct key *key)
     return MQ_ACCEPTED;
 }
 
-/* Questions 5 and 6. */
-static uint32_t ask_challenges(const struct key *key, const struct text *hash_matrix, const struct text *batching)
+/* Questions 5 and 6, of the challenges that are not NULL. */
+static uint32_t ask_challenges(const struct key *key, const struct text *hash_matrix, const struct text *batching,
+                               const struct text *delta)
 {
     if ((hash_matrix && hash_matrix->len != key->t * key->hash_row)
-        || (batching && batching->len != key->tau * key->m))
+        || (batching && batching->len != key->tau * key->m) || (delta && delta->len != key->tau))
         return MQ_REFUSED_CHALLENGE_LENGTH;
     if (hash_matrix && spare_bits(hash_matrix->at, key->t, key->k))
         return MQ_REFUSED_HASH_SPARE_BIT;
+    return MQ_ACCEPTED;
+}
+
+/* Questions 7 and 8, of so many leaves for each repetition. */
+static uint32_t ask_leaves(const struct key *key, struct text leaves, size_t each)
+{
+    if (leaves.len != key->tau * each * key->w)
+        return MQ_REFUSED_LEAF_LENGTH;
+    if (spare_bits(leaves.at, key->tau * each, key->L))
+        return MQ_REFUSED_LEAF_SPARE_BIT;
     return MQ_ACCEPTED;
 }
 
@@ -160,11 +170,9 @@ static uint32_t ask_form(const struct inputs *in, struct key *key, size_t (*to_b
 {
     uint32_t number = ask_key(in->key, key);
     if (!number)
-        number = ask_challenges(key, in->hash_matrix, in->batching);
-    if (!number && in->leaves.len != key->tau * MQ_FIELD_SIZE * key->w)
-        number = MQ_REFUSED_LEAF_LENGTH;
-    if (!number && spare_bits(in->leaves.at, key->tau * MQ_FIELD_SIZE, key->L))
-        number = MQ_REFUSED_LEAF_SPARE_BIT;
+        number = ask_challenges(key, in->hash_matrix, in->batching, NULL);
+    if (!number)
+        number = ask_leaves(key, in->leaves, MQ_FIELD_SIZE);
     if (!number && in->witness)
         number = ask_witness(key, *in->witness);
     if (!number && in->out_len != to_be_written(key))
@@ -190,6 +198,60 @@ static size_t batch_size(const struct key *key)
 static size_t proof_size(const struct key *key)
 {
     return MQ_PROOF_SIZE(key->n, key->m, key->tau, key->t);
+}
+
+/* The sections of a proof, without their counts. The first correction of C is that of repetition 1. */
+struct proof {
+    const uint8_t *c, *d, *u, *v, *qs0, *qs1;
+};
+
+/* Questions 12 and 13. */
+static uint32_t ask_proof(const struct key *key, struct text rest, struct proof *proof)
+{
+    const size_t lengths[6] = {
+        (key->tau - 1) * key->w, key->row, MQ_STRING_SIZE(key->t), key->tau * key->t, key->tau, key->tau
+    };
+    const uint8_t **const sections[6] = { &proof->c, &proof->d, &proof->u, &proof->v, &proof->qs0, &proof->qs1 };
+    for (int i = 0; i < 6; i++)
+        if (!(*sections[i] = take_section(&rest, lengths[i])))
+            return MQ_REFUSED_PROOF_LENGTH;
+    if (rest.len != 0)
+        return MQ_REFUSED_PROOF_LENGTH;
+    if (spare_bits(proof->c, key->tau - 1, key->L) | spare_bits(proof->d, 1, key->n) | spare_bits(proof->u, 1, key->t))
+        return MQ_REFUSED_PROOF_SPARE_BIT;
+    return MQ_ACCEPTED;
+}
+
+/* All inputs of the verifier, none of them secret. */
+struct claim {
+    struct text key, delta, hash_matrix, batching, opened, proof;
+};
+
+/* Questions 1 to 8, 12 and 13. */
+static uint32_t ask_claim(const struct claim *in, struct key *key, struct proof *proof)
+{
+    uint32_t number = ask_key(in->key, key);
+    if (!number)
+        number = ask_challenges(key, &in->hash_matrix, &in->batching, &in->delta);
+    if (!number)
+        number = ask_leaves(key, in->opened, MQ_FIELD_SIZE - 1);
+    if (!number)
+        number = ask_proof(key, in->proof, proof);
+    return number;
+}
+
+/* The product of two elements of K that are not secret. */
+static inline uint8_t multiply(uint8_t a, uint8_t b)
+{
+    unsigned product = 0;
+    for (int s = MQ_FIELD_DEGREE - 1; s >= 0; s--) {
+        product <<= 1;
+        if (product & MQ_FIELD_SIZE)
+            product ^= MQ_FIELD_MODULUS;
+        if (b >> s & 1)
+            product ^= a;
+    }
+    return (uint8_t)product;
 }
 
 /* The parity of the ones of a byte. */

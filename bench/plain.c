@@ -1,12 +1,13 @@
 /*
- * The prover in C by the algorithm that the library is designed for, so that the two differ in language
- * and compiler alone. (baseline.c has a faster algorithm.) No branch and no address depends on leaves or
- * witness, but for what the answer tells.
+ * Prover and verifier in C by the algorithm that the library is designed for, so that the two differ in
+ * language and compiler alone. (baseline.c has a faster algorithm.) In the prover no branch and no address
+ * depends on leaves or witness, but for what the answer tells.
  *
  * Leaf sums: three exclusive ors for a leaf, into bit planes. Forms: all repetitions side by side, a
  * byte each, with a stride of 48; a row's sum is looked up, four coordinates at a time, in a table of
  * the sixteen sums of these, indexed by the row, which is public. H v by the same tables. With
- * g = A x + A^T x + b, a1 is a masked sum.
+ * g = A x + A^T x + b, a1 is a masked sum. In the verifier W stands for v, with 0 for the leaf that is not
+ * opened, and then K.
  */
 #include "form.h"
 
@@ -62,12 +63,18 @@ static inline void add_products(union lanes *to, const union lanes *a, const uni
 
 /* ---- Leaf sums and tables ----------------------------------------------------------------- */
 
-static void sum_leaves(const uint8_t *leaves, size_t w, uint8_t *u, uint8_t *planes)
+enum { NONE = MQ_FIELD_SIZE };
+
+/* Where a leaf is missing, those after it stand one place earlier, and the sums have 0 for it. */
+static void sum_leaves(const uint8_t *leaves, size_t w, size_t missing, uint8_t *u, uint8_t *planes)
 {
     memset(u, 0, w);
     memset(planes, 0, 8 * w);
     for (size_t j = 0; j < MQ_FIELD_SIZE; j++) {
-        add(u, leaves + j * w, w);
+        if (j != missing) {
+            add(u, leaves, w);
+            leaves += w;
+        }
         for (size_t p = 0; p < 8; p++)
             if ((j ^ (j + 1)) >> p & 1)
                 add(planes + p * w, u, w);
@@ -91,14 +98,14 @@ static void sum_all(const struct key *key, const uint8_t *leaves, struct work *w
     uint8_t planes[8 * MAX_W];
     memset(work->v, 0, sizeof work->v);
     for (size_t e = 0; e < key->tau; e++) {
-        sum_leaves(leaves + e * MQ_FIELD_SIZE * key->w, key->w, work->u[e], planes);
+        sum_leaves(leaves + e * MQ_FIELD_SIZE * key->w, key->w, NONE, work->u[e], planes);
         put_lane(planes, key->w, work->v, e);
     }
 }
 
-static void make_all(const struct key *key, const uint8_t *leaves, size_t bytes, struct work *work)
+/* For the coordinates of so many bytes. */
+static void make_table(size_t bytes, struct work *work)
 {
-    sum_all(key, leaves, work);
     for (size_t q = 0; q < 2 * bytes; q++) {
         union lanes *sum = work->table + 16 * q;
         memset(sum, 0, sizeof *sum);
@@ -107,6 +114,12 @@ static void make_all(const struct key *key, const uint8_t *leaves, size_t bytes,
                 for (int k = 0; k < VECTORS; k++)
                     sum[i + ((size_t)1 << s)].part[k] = sum[i].part[k] ^ work->v[4 * q + s].part[k];
     }
+}
+
+static void make_all(const struct key *key, const uint8_t *leaves, size_t bytes, struct work *work)
+{
+    sum_all(key, leaves, work);
+    make_table(bytes, work);
 }
 
 /* The sum over the coordinates that are set in a public row. */
@@ -197,24 +210,38 @@ static void forms(const struct key *key, const struct work *work, const uint8_t 
     }
 }
 
+/* The lanes of the batching bytes of one equation. */
+static union lanes batching_lanes(const struct key *key, const uint8_t *batching, size_t i)
+{
+    union lanes chi = { { { 0 } } };
+    for (size_t e = 0; e < key->tau; e++)
+        chi.byte[e] = batching[e * key->m + i];
+    return chi;
+}
+
+/* Adds the sum of alpha^s v[n + s]. */
+static void add_mask(const struct key *key, const struct work *work, union lanes *to)
+{
+    for (size_t s = 0; s < MQ_FIELD_DEGREE; s++) {
+        union lanes alpha;
+        memset(&alpha, 1 << s, sizeof alpha);
+        add_products(to, &alpha, &work->v[key->n + s]);
+    }
+}
+
 static uint32_t make_batch(const struct key *key, const struct work *work, const uint8_t *x, const uint8_t *batching,
                            struct batched *made)
 {
     union lanes qs0 = { { { 0 } } }, qs1;
     memset(&qs1, mask_of_u(key, work->u[0]), sizeof qs1);
-    for (size_t s = 0; s < MQ_FIELD_DEGREE; s++) {
-        union lanes alpha;
-        memset(&alpha, 1 << s, sizeof alpha);
-        add_products(&qs0, &alpha, &work->v[key->n + s]);
-    }
+    add_mask(key, work, &qs0);
     for (size_t i = 0; i < key->m; i++) {
-        union lanes chi = { { { 0 } } }, a0, a1;
+        const union lanes chi = batching_lanes(key, batching, i);
+        union lanes a0, a1;
         uint8_t g[MAX_ROW], error = try_witness(key, i, x, g);
         PUBLISH(error);
         if (error)
             return MQ_REFUSED_EQUATION_FAILS * 65536 + (uint32_t)i;
-        for (size_t e = 0; e < key->tau; e++)
-            chi.byte[e] = batching[e * key->m + i];
         forms(key, work, key->a + i * key->n * key->row, g, &a0, &a1);
         add_products(&qs0, &chi, &a0);
         add_products(&qs1, &chi, &a1);
@@ -256,6 +283,104 @@ static uint8_t *write_hash(const struct key *key, const struct work *work, const
             out[e * key->t + r] = sum.byte[e] ^ work->v[own].byte[e];
     }
     return out + key->tau * key->t;
+}
+
+/* ---- The verifier, once the form is known ------------------------------------------------- */
+
+/* W = v + delta (u + C), with the leaf at delta taken for 0. */
+static void sum_opened(const struct key *key, const struct claim *in, const struct proof *proof, struct work *work)
+{
+    uint8_t planes[8 * MAX_W];
+    memset(work->v, 0, sizeof work->v);
+    for (size_t e = 0; e < key->tau; e++) {
+        const uint8_t delta = in->delta.at[e];
+        sum_leaves(in->opened.at + e * (MQ_FIELD_SIZE - 1) * key->w, key->w, delta, work->u[e], planes);
+        if (e > 0)
+            add(work->u[e], proof->c + (e - 1) * key->w, key->w);
+        for (size_t p = 0; p < 8; p++)
+            if (delta >> p & 1)
+                add(planes + p * key->w, work->u[e], key->w);
+        put_lane(planes, key->w, work->v, e);
+    }
+}
+
+/* Question 14. */
+static uint32_t check_hashes(const struct key *key, const struct claim *in, const struct proof *proof,
+                             const struct work *work)
+{
+    uint8_t differs[MQ_MAX_REPETITIONS] = { 0 };
+    const uint8_t *h = in->hash_matrix.at;
+    for (size_t r = 0; r < key->t; r++, h += key->hash_row) {
+        const union lanes sum = look_up(work, h, key->hash_row);
+        const uint8_t u = (uint8_t)-(proof->u[r / 8] >> r % 8 & 1);
+        for (size_t e = 0; e < key->tau; e++)
+            differs[e] |= sum.byte[e] ^ work->v[key->k + r].byte[e] ^ proof->v[e * key->t + r] ^ (in->delta.at[e] & u);
+    }
+    for (size_t e = 0; e < key->tau; e++)
+        if (differs[e])
+            return MQ_REFUSED_INCONSISTENT * 65536 + (uint32_t)e;
+    return MQ_ACCEPTED;
+}
+
+/* K = W + delta d, in the first n coordinates. */
+static void add_correction(const struct key *key, const struct proof *proof, const union lanes *delta,
+                           struct work *work)
+{
+    for (size_t c = 0; c < key->n; c++)
+        if (proof->d[c / 8] >> c % 8 & 1)
+            for (int k = 0; k < VECTORS; k++)
+                work->v[c].part[k] ^= delta->part[k];
+}
+
+/* K^T A K + delta b K + delta^2 y of one equation. */
+static union lanes form(const struct key *key, const struct work *work, size_t i, const union lanes *delta,
+                        const union lanes *square)
+{
+    const union lanes line = look_up(work, key->b + i * key->row, key->row);
+    union lanes sum = { { { 0 } } };
+    for (size_t r = 0; r < key->n; r++) {
+        const union lanes row = look_up(work, key->a + (i * key->n + r) * key->row, key->row);
+        add_products(&sum, &work->v[r], &row);
+    }
+    add_products(&sum, delta, &line);
+    if (key->y[i / 8] >> i % 8 & 1)
+        for (int k = 0; k < VECTORS; k++)
+            sum.part[k] ^= square->part[k];
+    return sum;
+}
+
+/* Question 15. */
+static uint32_t check_products(const struct key *key, const struct claim *in, const struct proof *proof,
+                               const struct work *work, const union lanes *delta)
+{
+    union lanes left = { { { 0 } } }, square = { { { 0 } } };
+    add_products(&square, delta, delta);
+    add_mask(key, work, &left);
+    for (size_t i = 0; i < key->m; i++) {
+        const union lanes chi = batching_lanes(key, in->batching.at, i);
+        const union lanes one = form(key, work, i, delta, &square);
+        add_products(&left, &chi, &one);
+    }
+    for (size_t e = 0; e < key->tau; e++)
+        if (left.byte[e] != (proof->qs0[e] ^ multiply(proof->qs1[e], in->delta.at[e])))
+            return MQ_REFUSED_PRODUCT_DIFFERS * 65536 + (uint32_t)e;
+    return MQ_ACCEPTED;
+}
+
+static uint32_t check_proof(const struct key *key, const struct claim *in, const struct proof *proof,
+                            struct work *work)
+{
+    union lanes delta = { { { 0 } } };
+    uint32_t word;
+    memcpy(delta.byte, in->delta.at, key->tau);
+    sum_opened(key, in, proof, work);
+    make_table(key->hash_row, work);
+    word = check_hashes(key, in, proof, work);
+    if (word)
+        return word;
+    add_correction(key, proof, &delta, work);
+    make_table(key->row, work);
+    return check_products(key, in, proof, work, &delta);
 }
 
 #include "calls.h"
