@@ -1,8 +1,6 @@
 //! The calls: what each takes and writes, and how the library and the rendering are asked.
 //!
 //! A call that is added to the library is added to the table `CALLS`, and is then compared like the others.
-//! (For mq_verify: `takes` is Key, Delta, HashMatrix, Batching, Opened, Proof; `writes` is nothing. Inputs and
-//! damages for these are there already.)
 
 use crate::inputs::{section_start, Name};
 use reference::key::Shape;
@@ -73,6 +71,21 @@ extern "C" {
         batching_len: usize,
         out: *mut u8,
         out_len: usize,
+    ) -> u32;
+
+    fn mq_verify(
+        key: *const u8,
+        key_len: usize,
+        delta: *const u8,
+        delta_len: usize,
+        hash_matrix: *const u8,
+        hash_matrix_len: usize,
+        batching: *const u8,
+        batching_len: usize,
+        opened: *const u8,
+        opened_len: usize,
+        proof: *const u8,
+        proof_len: usize,
     ) -> u32;
 }
 
@@ -180,8 +193,29 @@ pub const PROVE: Call = Call {
     rendering: |i, out| reference::prove(i[0], i[1], i[2], i[3], i[4], out),
 };
 
+pub const VERIFY: Call = Call {
+    name: "mq_verify",
+    takes: &[
+        Name::Key,
+        Name::Delta,
+        Name::HashMatrix,
+        Name::Batching,
+        Name::Opened,
+        Name::Proof,
+    ],
+    writes: Writes::Nothing,
+    answers: &[0, 1, 2, 3, 4, 5, 6, 7, 8, 12, 13, 14, 15],
+    library: |i, _| unsafe {
+        mq_verify(
+            i[0].at, i[0].len, i[1].at, i[1].len, i[2].at, i[2].len, i[3].at, i[3].len, i[4].at,
+            i[4].len, i[5].at, i[5].len,
+        )
+    },
+    rendering: |i, _| reference::verify(i[0], i[1], i[2], i[3], i[4], i[5]),
+};
+
 /// Every call that is compared.
-pub const CALLS: &[Call] = &[TEST, COMMIT, HASH, BATCH, PROVE];
+pub const CALLS: &[Call] = &[TEST, COMMIT, HASH, BATCH, PROVE, VERIFY];
 
 /// The steps whose bytes, one after the other, are those of `PROVE`.
 pub const STEPS: &[Call] = &[COMMIT, HASH, BATCH];

@@ -1,12 +1,12 @@
 //! Groups of cases. Each group has its own random numbers, made from the run's seed and the group's number, so
 //! that it can be run alone.
 
-use crate::calls::{Call, CALLS, PROVE, STEPS, TEST};
+use crate::calls::{Call, CALLS, PROVE, STEPS, TEST, VERIFY};
 use crate::damage::{all, layout_agrees, Damage};
-use crate::inputs::{Inputs, Name, Output};
+use crate::inputs::{section_start, Inputs, Name, Output};
 use crate::judge::{describe, Expected, Judge};
 use reference::cases::Random;
-use reference::Answer;
+use reference::{open_leaves, Answer};
 
 /// n, m, τ, t.
 pub type Sizes = (usize, usize, usize, usize);
@@ -21,12 +21,27 @@ pub enum Group {
     Pairs(Sizes),
     /// Honest inputs, and every damage alone.
     Shape(Sizes),
+    /// Honest proofs, the rendering's and the library's, at many Δ.
+    Challenges(Sizes),
+    /// Doctored proofs, at all 256 values of one repetition's Δ: see `forged`.
+    Forged(Sizes),
     /// A shape and damages at random.
     Random,
 }
 
 /// Small, and with spare bits in every section.
 const PAIRED: [Sizes; 2] = [(9, 3, 2, 5), (3, 9, 1, 2)];
+
+/// With leaves of less and of more than 16 bytes, and repetitions to 1, 16, 17 and 48.
+const CHALLENGED: [Sizes; 5] = [
+    (9, 3, 2, 5),
+    (1, 2, 1, 1),
+    (65, 4, 16, 63),
+    (12, 5, 17, 20),
+    (7, 3, 48, 9),
+];
+
+const FORGED: [Sizes; 3] = [(9, 3, 2, 5), (3, 2, 3, 2), (66, 1, 1, 60)];
 
 /// The limits, one and one more; multiples of 8 and their neighbours; the set of 150 variables.
 const SHAPES: [Sizes; 20] = [
@@ -64,6 +79,8 @@ pub fn fixed() -> Vec<Group> {
         }
     }
     groups.extend(PAIRED.map(Group::Pairs));
+    groups.extend(CHALLENGED.map(Group::Challenges));
+    groups.extend(FORGED.map(Group::Forged));
     groups.extend(SHAPES.map(Group::Shape));
     groups
 }
@@ -94,6 +111,13 @@ pub fn add_proof(inputs: &mut Inputs) -> Result<(), String> {
     Ok(())
 }
 
+/// Puts another Δ, and the leaves opened there.
+pub fn open_at(inputs: &mut Inputs, delta: Vec<u8>) {
+    let opened = open_leaves(&inputs.shape, inputs.get(Name::Leaves), &delta);
+    *inputs.get_mut(Name::Delta) = delta;
+    *inputs.get_mut(Name::Opened) = opened;
+}
+
 pub struct Run<'a> {
     pub judge: &'a mut Judge,
     pub random: Random,
@@ -106,18 +130,20 @@ impl Run<'_> {
             Group::Edge(sizes) => self.edge(sizes),
             Group::Pairs(sizes) => self.pairs(sizes),
             Group::Shape(sizes) => self.shape(sizes),
+            Group::Challenges(sizes) => self.challenges(sizes),
+            Group::Forged(sizes) => self.forged(sizes),
             Group::Random => self.random_damages(),
         }
     }
 
-    fn inputs(&mut self, sizes: Sizes) -> Inputs {
+    pub fn inputs(&mut self, sizes: Sizes) -> Inputs {
         let (n, m, tau, t) = sizes;
         let inputs = Inputs::honest(self.random.number(), n, m, tau, t);
         assert!(layout_agrees(&inputs), "the layout is not the rendering's");
         inputs
     }
 
-    fn put(
+    pub fn put(
         &mut self,
         call: &Call,
         inputs: &Inputs,
@@ -154,10 +180,13 @@ impl Run<'_> {
             let what = "the steps' bytes are not those of the whole";
             return Err(describe(&PROVE, inputs, &[], what));
         }
-        Ok(())
+        // The library's own proof is accepted too.
+        *inputs.get_mut(Name::Proof) = whole;
+        self.accepted(inputs)
     }
 
-    /// Damaged inputs, to every call that takes one of those damaged.
+    /// Damaged inputs, to every call that all of the damages concern. (One that does not concern a call leaves it
+    /// with fewer damages, which are tried too.)
     fn damaged(&mut self, honest: &Inputs, damages: &[Damage]) -> Result<(), String> {
         let mut inputs = honest.clone();
         for damage in damages {
@@ -170,7 +199,7 @@ impl Run<'_> {
                 Some(name) => call.takes.contains(&name),
                 None => call.writes.length(&inputs.shape) > 0,
             };
-            if damages.iter().any(concerns) {
+            if damages.iter().all(concerns) {
                 self.put(call, &inputs, damages, None)?;
             }
         }
@@ -219,17 +248,95 @@ impl Run<'_> {
         Ok(())
     }
 
+    /// Up to three damages of the inputs of one call, to every call that they concern.
     fn random_damages(&mut self) -> Result<(), String> {
         let sizes = self.random_sizes();
         let mut inputs = self.inputs(sizes);
         self.honest(&mut inputs)?;
         let damages = self.damages(&inputs);
-        for _ in 0..24 {
+        for _ in 0..32 {
+            let call = &CALLS[self.random.below(CALLS.len())];
             let how_many = 1 + self.random.below(3);
-            let chosen: Vec<Damage> = (0..how_many)
-                .map(|_| damages[self.random.below(damages.len())])
-                .collect();
+            let mut chosen = Vec::new();
+            while chosen.len() < how_many {
+                let damage = damages[self.random.below(damages.len())];
+                if damage
+                    .input()
+                    .is_some_and(|name| call.takes.contains(&name))
+                {
+                    chosen.push(damage);
+                }
+            }
             self.damaged(&inputs, &chosen)?;
+        }
+        self.challenge(&mut inputs, None)?;
+        Ok(())
+    }
+
+    /// Draws Δ anew, with a value given for one repetition, and opens the leaves there. The proof must be accepted.
+    fn challenge(&mut self, inputs: &mut Inputs, fixed: Option<(usize, u8)>) -> Result<(), String> {
+        let mut delta: Vec<u8> = (0..inputs.shape.tau)
+            .map(|_| self.random.number() as u8)
+            .collect();
+        if let Some((e, value)) = fixed {
+            delta[e] = value;
+        }
+        open_at(inputs, delta);
+        self.accepted(inputs)
+    }
+
+    /// What is accepted is accepted by the rendering too, where that is not dear.
+    fn accepted(&mut self, inputs: &Inputs) -> Result<(), String> {
+        let accepted = Expected {
+            answer: Answer::Accepted,
+            output: Vec::new(),
+        };
+        self.put(&VERIFY, inputs, &[], Some(&accepted))?;
+        if cost(&inputs.shape) <= DEAR {
+            self.put(&VERIFY, inputs, &[], None)?;
+        }
+        Ok(())
+    }
+
+    fn challenges(&mut self, sizes: Sizes) -> Result<(), String> {
+        let mut inputs = self.inputs(sizes);
+        self.honest(&mut inputs)?;
+        let by_library = self.put(&PROVE, &inputs, &[], None)?;
+        let by_rendering = inputs.get(Name::Proof).to_vec();
+        let tau = inputs.shape.tau;
+        for proof in [by_rendering, by_library] {
+            *inputs.get_mut(Name::Proof) = proof;
+            for all in [0x00, 0xFF, 0x01, 0x80] {
+                open_at(&mut inputs, vec![all; tau]);
+                self.accepted(&inputs)?;
+            }
+            for e in 0..tau {
+                for value in [0x00, 0xFF, self.random.number() as u8] {
+                    self.challenge(&mut inputs, Some((e, value)))?;
+                }
+            }
+            self.overlapping(&mut inputs)?;
+        }
+        Ok(())
+    }
+
+    /// Δ lent as a part of the proof: inputs may overlap.
+    fn overlapping(&mut self, inputs: &mut Inputs) -> Result<(), String> {
+        for section in [4, 5] {
+            let from = section_start(Name::Proof, &inputs.shape, section) + 4;
+            let delta = inputs.get(Name::Proof)[from..from + inputs.shape.tau].to_vec();
+            open_at(inputs, delta);
+            let place = |name| {
+                VERIFY
+                    .takes
+                    .iter()
+                    .position(|taken| *taken == name)
+                    .unwrap()
+            };
+            self.judge.shared = Some((place(Name::Delta), place(Name::Proof), from));
+            let result = self.accepted(inputs);
+            self.judge.shared = None;
+            result?;
         }
         Ok(())
     }
@@ -322,10 +429,12 @@ impl Run<'_> {
             ],
         };
         self.put(&PROVE, &inputs, &[], Some(&proof))?;
+        open_at(&mut inputs, vec![0x02]);
         self.honest(&mut inputs)?;
         if inputs.get(Name::Proof) != proof.output {
             return Err("the rendering's toy is not 01's".to_string());
         }
+        self.toy_challenges(&mut inputs.clone())?;
         // "y = 0: witness refused 11 place 0".
         inputs.get_mut(Name::Key)[23] = 0;
         let refused = Expected {
@@ -339,6 +448,48 @@ impl Run<'_> {
         for call in CALLS {
             self.put(call, &inputs, &[], None)?;
         }
+        Ok(())
+    }
+
+    /// "Δ = 02 accepted. QS1 changed to 05: refused 15 place 0 at Δ = 02, accepted at 00. ũ changed to 00: refused 14
+    /// place 0 at 02."; "y = 0: ... with QS1 = 05, accepted at Δ = 00 and 52 only."
+    fn toy_challenges(&mut self, inputs: &mut Inputs) -> Result<(), String> {
+        let honest = inputs.get(Name::Proof).to_vec();
+        let mut qs1 = honest.clone();
+        qs1[28] = 0x05;
+        let mut u_tilde = honest.clone();
+        u_tilde[13] = 0x00;
+        self.toy_verdict(inputs, &honest, 0x02, 0)?;
+        self.toy_verdict(inputs, &qs1, 0x02, 15)?;
+        self.toy_verdict(inputs, &qs1, 0x00, 0)?;
+        self.toy_verdict(inputs, &u_tilde, 0x02, 14)?;
+        inputs.get_mut(Name::Key)[23] = 0;
+        for delta in 0..=0xFF {
+            let accepted = delta == 0x00 || delta == 0x52;
+            self.toy_verdict(inputs, &qs1, delta, if accepted { 0 } else { 15 })?;
+        }
+        Ok(())
+    }
+
+    fn toy_verdict(
+        &mut self,
+        inputs: &mut Inputs,
+        proof: &[u8],
+        delta: u8,
+        number: u32,
+    ) -> Result<(), String> {
+        *inputs.get_mut(Name::Proof) = proof.to_vec();
+        open_at(inputs, vec![delta]);
+        let answer = match number {
+            0 => Answer::Accepted,
+            number => Answer::Refused { number, place: 0 },
+        };
+        let expected = Expected {
+            answer,
+            output: Vec::new(),
+        };
+        self.put(&VERIFY, inputs, &[], Some(&expected))?;
+        self.put(&VERIFY, inputs, &[], None)?;
         Ok(())
     }
 }

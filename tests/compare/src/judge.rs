@@ -35,7 +35,14 @@ pub struct Judge {
     memory: Memory,
     pub tamper: Option<Tamper>,
     pub tally: Tally,
+    /// An input (the first number) that is lent as a part of another (the second), from this place on.
+    pub shared: Option<(usize, usize, usize)>,
+    /// What the library answered last.
+    pub word: u32,
 }
+
+/// Inputs are sealed in one call of so many: it costs more than most calls do.
+const SEALED: usize = 8;
 
 /// What the library answered and left behind.
 struct Seen {
@@ -54,6 +61,8 @@ impl Judge {
             memory: Memory::new(8, 2 << 20),
             tamper: None,
             tally: CALLS.iter().map(|call| (call.name, [0; 16])).collect(),
+            shared: None,
+            word: 0,
         }
     }
 
@@ -85,12 +94,23 @@ impl Judge {
         length: usize,
         random: &mut Random,
     ) -> Seen {
-        let lent: Vec<Lent> = (0..taken.len())
+        let mut lent: Vec<Lent> = (0..taken.len())
             .map(|i| self.memory.lend(i, taken[i], random))
             .collect();
+        if let Some((part, whole, from)) = self.shared {
+            lent[part].at = read(&lent[whole])[from..from + lent[part].len].as_ptr();
+        }
         let out = self.memory.lend_output(length, random);
         let before = self.memory.watched().to_vec();
+        let sealed = random.below(SEALED) == 0;
+        if sealed {
+            self.memory.seal(taken.len(), true);
+        }
         let mut word = unsafe { (call.library)(&lent, out) };
+        if sealed {
+            self.memory.seal(taken.len(), false);
+        }
+        self.word = word;
         if let Some(tamper) = self.tamper {
             word = self.meddle(tamper, word, &lent);
         }

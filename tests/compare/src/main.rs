@@ -3,10 +3,11 @@
 //! compare [SEED] [--seconds S] [--group G] [--selftest]
 //!
 //! The seed is printed, and a run with the same seed makes the same cases. The fixed groups are always run, then
-//! random ones until so many seconds of processor time are over. `--group` runs one group alone; a difference says which.
+//! random ones for so many seconds of processor time more. `--group` runs one group alone; a difference says which.
 
 mod calls;
 mod damage;
+mod forged;
 mod groups;
 mod inputs;
 mod judge;
@@ -36,7 +37,7 @@ fn arguments() -> Option<Arguments> {
             .duration_since(UNIX_EPOCH)
             .ok()?
             .as_micros() as u64,
-        seconds: 22.0,
+        seconds: 6.0,
         group: None,
         selftest: false,
     };
@@ -86,9 +87,13 @@ fn compared(arguments: &Arguments) -> Result<String, String> {
     lengths()?;
     let sizes = sizes::compare(&mut Random::new(arguments.seed), 0)?;
     let mut group = 0;
-    while group < fixed().len() || watch::seconds() < arguments.seconds {
+    let mut end = 0.0;
+    while group < fixed().len() || watch::seconds() < end {
         one_group(&mut judge, arguments.seed, group)?;
         group += 1;
+        if group == fixed().len() {
+            end = watch::seconds() + arguments.seconds;
+        }
     }
     table(&judge.tally);
     unmet(&judge.tally)?;

@@ -1,5 +1,6 @@
 //! Memory to lend from: each buffer lies against a page that can be neither read nor written, so that the
-//! library cannot read or write past it unseen.
+//! library cannot read or write past it unseen. Inputs can be sealed: then they cannot be written either, not even
+//! with the bytes that they have.
 
 use crate::calls::{Lent, LentOut};
 use reference::cases::Random;
@@ -48,6 +49,13 @@ impl Arena {
         unsafe { std::slice::from_raw_parts_mut(self.start.add(offset), len) }
     }
 
+    /// Opens the pages for reading alone, or for writing too.
+    fn seal(&self, sealed: bool) {
+        let protection = if sealed { 1 } else { 3 };
+        let failed = unsafe { mprotect(self.start, self.size, protection) };
+        assert_eq!(failed, 0, "mprotect failed");
+    }
+
     /// A pointer for a length of 0, which may not be read: none, a small number, or into a closed page.
     fn nowhere(&self, random: &mut Random) -> *mut u8 {
         match random.below(3) {
@@ -88,6 +96,13 @@ impl Memory {
         Lent {
             at: part.as_ptr(),
             len: part.len(),
+        }
+    }
+
+    /// Seals the first so many inputs, or opens them again.
+    pub fn seal(&self, inputs: usize, sealed: bool) {
+        for arena in &self.inputs[..inputs] {
+            arena.seal(sealed);
         }
     }
 

@@ -1,9 +1,9 @@
 //! That a difference is reported: after the library has returned, one thing is changed that it answered or left
 //! behind, and the comparison must say so.
 
-use crate::calls::{Call, BATCH, CALLS, COMMIT, HASH, PROVE, TEST};
-use crate::groups::add_proof;
-use crate::inputs::{Inputs, Name, Output};
+use crate::calls::{Call, BATCH, CALLS, COMMIT, HASH, PROVE, TEST, VERIFY};
+use crate::groups::{add_proof, open_at};
+use crate::inputs::{section_start, Inputs, Name, Output};
 use crate::judge::{Judge, Tamper};
 use crate::sizes;
 use reference::cases::Random;
@@ -54,6 +54,14 @@ fn situations(random: &mut Random) -> Result<Vec<Situation>, String> {
         let y = inputs.get(Name::Key).len() - 1;
         inputs.get_mut(Name::Key)[y] ^= 1;
         situations.push((format!("{} refused 11", call.name), call, inputs));
+    }
+    // One bit of the last byte of V~, and of QS1: the last repetition fails, at a Δ that is not 0.
+    for (section, number) in [(4, 14), (6, 15)] {
+        let mut inputs = honest.clone();
+        open_at(&mut inputs, vec![0x35, 0xC2]);
+        let last = section_start(Name::Proof, &inputs.shape, section) - 1;
+        inputs.get_mut(Name::Proof)[last] ^= 1;
+        situations.push((format!("mq_verify refused {number}"), &VERIFY, inputs));
     }
     Ok(situations)
 }

@@ -32,7 +32,7 @@ extern "C" {
 extern "C" fn report(number: i32) {
     let what: &[u8] = match number {
         SIGALRM => b"DIFFERS: a call has not returned",
-        _ => b"DIFFERS: memory that was not lent was read or written",
+        _ => b"DIFFERS: memory that was not lent was read or written, or an input was written",
     };
     say(what);
     say(b"\nrun again with the arguments: ");
