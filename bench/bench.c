@@ -1,8 +1,8 @@
 /*
  * Times the library beside the same job in C and in plain Rust, in one run, and measures the stack of each
- * call. Usage: bench [REPETITIONS]
+ * call; then times the verifier at five shapes, and plots that. Usage: bench PLOT.svg [REPETITIONS]
  *
- * Every program first makes the same bytes, or the run ends. Then each call of each program is timed in turn,
+ * Every program first makes the same bytes and gives the same answers, or the run ends. Then each call of each program is timed in turn,
  * again and again, so that a change of the machine's pace meets all of them, and each time after a call that is
  * not timed, so that none pays for what the one before it left in the caches. Medians are printed, and the least
  * times, which a busy machine disturbs less. The time is the thread's processor time. The rendering is slow, and
@@ -15,8 +15,8 @@
 
 #include "case.h"
 
-enum { TEST, COMMIT, HASH, BATCH, PROVE, CALLS };
-static const char *const call_names[CALLS] = { "test", "commit", "hash", "batch", "prove" };
+enum { TEST, COMMIT, HASH, BATCH, PROVE, VERIFY, CALLS };
+static const char *const call_names[CALLS] = { "test", "commit", "hash", "batch", "prove", "verify" };
 
 /* ---- The programs ------------------------------------------------------------------------- */
 
@@ -28,6 +28,7 @@ struct program {
     uint32_t (*hash)(in, size_t, in, size_t, in, size_t, uint8_t *, size_t);
     uint32_t (*batch)(in, size_t, in, size_t, in, size_t, in, size_t, uint8_t *, size_t);
     uint32_t (*prove)(in, size_t, in, size_t, in, size_t, in, size_t, in, size_t, uint8_t *, size_t);
+    uint32_t (*verify)(in, size_t, in, size_t, in, size_t, in, size_t, in, size_t, in, size_t);
 };
 
 #define DECLARE(prefix) \
@@ -35,9 +36,10 @@ struct program {
     uint32_t prefix##commit(in, size_t, in, size_t, in, size_t, uint8_t *, size_t); \
     uint32_t prefix##hash(in, size_t, in, size_t, in, size_t, uint8_t *, size_t); \
     uint32_t prefix##batch(in, size_t, in, size_t, in, size_t, in, size_t, uint8_t *, size_t); \
-    uint32_t prefix##prove(in, size_t, in, size_t, in, size_t, in, size_t, in, size_t, uint8_t *, size_t);
+    uint32_t prefix##prove(in, size_t, in, size_t, in, size_t, in, size_t, in, size_t, uint8_t *, size_t); \
+    uint32_t prefix##verify(in, size_t, in, size_t, in, size_t, in, size_t, in, size_t, in, size_t);
 #define PROGRAM(name, prefix) \
-    { name, prefix##test, prefix##commit, prefix##hash, prefix##batch, prefix##prove }
+    { name, prefix##test, prefix##commit, prefix##hash, prefix##batch, prefix##prove, prefix##verify }
 
 DECLARE(baseline_gcc_)
 DECLARE(baseline_clang_)
@@ -75,6 +77,9 @@ static uint32_t make_call(const struct program *p, int call, const struct made *
     case COMMIT: return p->commit(k->at, k->len, l->at, l->len, x->at, x->len, out, len);
     case HASH: return p->hash(k->at, k->len, l->at, l->len, h->at, h->len, out, len);
     case BATCH: return p->batch(k->at, k->len, l->at, l->len, x->at, x->len, b->at, b->len, out, len);
+    case VERIFY:
+        return p->verify(k->at, k->len, c->delta.at, c->delta.len, h->at, h->len, b->at, b->len, c->opened.at,
+                         c->opened.len, c->proof.at, c->proof.len);
     default:
         return p->prove(k->at, k->len, l->at, l->len, x->at, x->len, h->at, h->len, b->at, b->len, out, len);
     }
@@ -127,7 +132,7 @@ static double least(const struct times *t)
 /* Every program writes the library's bytes. The rendering is slow: its whole proof stands for its steps. */
 static void compare_bytes(const struct made *c, uint8_t *expected, uint8_t *out)
 {
-    for (int call = COMMIT; call < CALLS; call++) {
+    for (int call = COMMIT; call <= PROVE; call++) {
         const size_t len = written(call, c->sizes);
         time_call(&programs[LIBRARY], call, c, expected);
         for (int p = LIBRARY + 1; p < PROGRAMS; p++) {
@@ -143,25 +148,57 @@ static void compare_bytes(const struct made *c, uint8_t *expected, uint8_t *out)
     }
 }
 
+/* Every program accepts the library's proof, and refuses it when a bit of the last repetition is changed. */
+static void compare_answers(struct made *c)
+{
+    const size_t last = c->sizes.tau - 1;
+    uint8_t *qs1 = c->proof.at + c->proof.len - 1, *delta = c->delta.at + last;
+    const uint32_t refused = MQ_REFUSED_PRODUCT_DIFFERS * 65536 + (uint32_t)last;
+    *delta |= 1; /* so that QS1 counts */
+    open_leaves(c);
+    time_call(&programs[LIBRARY], PROVE, c, c->proof.at);
+    for (int p = 0; p < PROGRAMS; p++) {
+        time_call(&programs[p], VERIFY, c, NULL);
+        *qs1 ^= 1;
+        if (make_call(&programs[p], VERIFY, c, NULL) != refused) {
+            printf("%s verify: a changed proof is not refused as it should be\n", programs[p].name);
+            exit(1);
+        }
+        *qs1 ^= 1;
+    }
+}
+
+/* Once each program but the rendering, each call from the first one on. */
+static void measure_once(const struct made *c, int first, struct times times[PROGRAMS][CALLS], uint8_t *out)
+{
+    for (int call = first; call < CALLS; call++)
+        for (int p = 0; p < RENDERING; p++) {
+            struct times *t = &times[p][call];
+            time_call(&programs[p], call, c, out);
+            t->taken[t->count++] = time_call(&programs[p], call, c, out);
+        }
+}
+
 /* The rendering, for about so many milliseconds a call, at least once. */
 static const double rendering_budget = 3000;
 
-static void measure(const struct made *c, int repetitions, struct times times[PROGRAMS][CALLS], uint8_t *out)
+static void measure_rendering(const struct made *c, int first, int repetitions, struct times times[PROGRAMS][CALLS],
+                              uint8_t *out)
 {
-    for (int r = 0; r < repetitions; r++)
-        for (int call = 0; call < CALLS; call++)
-            for (int p = 0; p < RENDERING; p++) {
-                struct times *t = &times[p][call];
-                time_call(&programs[p], call, c, out);
-                t->taken[t->count++] = time_call(&programs[p], call, c, out);
-            }
-    for (int call = 0; call < CALLS; call++) {
+    for (int call = first; call < CALLS; call++) {
         struct times *t = &times[RENDERING][call];
         const double start = now();
         do
             t->taken[t->count++] = time_call(&programs[RENDERING], call, c, out);
         while (t->count < repetitions && now() - start < rendering_budget);
     }
+}
+
+static void sort_times(struct times times[PROGRAMS][CALLS])
+{
+    for (int p = 0; p < PROGRAMS; p++)
+        for (int call = 0; call < CALLS; call++)
+            qsort(times[p][call].taken, (size_t)times[p][call].count, sizeof(double), by_size);
 }
 
 static double lesser(double a, double b)
@@ -189,9 +226,6 @@ static void print_times(const char *what, double (*of)(const struct times *), st
 
 static void print_all_times(struct times times[PROGRAMS][CALLS])
 {
-    for (int p = 0; p < PROGRAMS; p++)
-        for (int call = 0; call < CALLS; call++)
-            qsort(times[p][call].taken, (size_t)times[p][call].count, sizeof(double), by_size);
     print_times("median, ms", median, times);
     print_times("least, ms", least, times);
     printf("of %d; of the rendering:", times[LIBRARY][TEST].count);
@@ -271,14 +305,10 @@ static void print_stack(const struct made *c, uint8_t *out)
     free(stack);
 }
 
-/* ------------------------------------------------------------------------------------------- */
+/* ---- One shape, all calls ----------------------------------------------------------------- */
 
-static void bench(struct sizes sizes, int repetitions)
+static void start_times(struct times times[PROGRAMS][CALLS], int repetitions)
 {
-    struct made c = make_case(1, sizes);
-    const size_t len = written(PROVE, sizes);
-    uint8_t *expected = lend(len).at, *out = lend(len).at;
-    struct times times[PROGRAMS][CALLS];
     for (int p = 0; p < PROGRAMS; p++)
         for (int call = 0; call < CALLS; call++) {
             times[p][call].taken = calloc((size_t)repetitions, sizeof(double));
@@ -286,31 +316,185 @@ static void bench(struct sizes sizes, int repetitions)
             if (!times[p][call].taken)
                 abort();
         }
-    printf("n = %zu, m = %zu, tau = %zu, t = %zu\n", sizes.n, sizes.m, sizes.tau, sizes.t);
-    fflush(stdout);
-    compare_bytes(&c, expected, out);
-    measure(&c, repetitions, times, out);
-    print_all_times(times);
-    print_stack(&c, out);
-    printf("\n");
+}
+
+static void drop_times(struct times times[PROGRAMS][CALLS])
+{
     for (int p = 0; p < PROGRAMS; p++)
         for (int call = 0; call < CALLS; call++)
             free(times[p][call].taken);
+}
+
+static void bench(struct sizes sizes, int repetitions)
+{
+    struct made c = make_case(1, sizes);
+    const size_t len = written(PROVE, sizes);
+    uint8_t *expected = lend(len).at, *out = lend(len).at;
+    struct times times[PROGRAMS][CALLS];
+    start_times(times, repetitions);
+    printf("n = %zu, m = %zu, tau = %zu, t = %zu\n", sizes.n, sizes.m, sizes.tau, sizes.t);
+    fflush(stdout);
+    compare_bytes(&c, expected, out);
+    compare_answers(&c);
+    for (int r = 0; r < repetitions; r++)
+        measure_once(&c, TEST, times, out);
+    measure_rendering(&c, TEST, repetitions, times, out);
+    sort_times(times);
+    print_all_times(times);
+    print_stack(&c, out);
+    printf("\n");
+    drop_times(times);
     free(expected);
     free(out);
     drop_case(&c);
 }
 
+/* ---- The verifier at five shapes ---------------------------------------------------------- */
+
+/* The second, and n, m and tau changed one at a time. */
+enum { SHAPES = 5, BASE = 1 };
+static const struct sizes shapes[SHAPES] = {
+    { 40, 160, 16, 64 }, { 80, 160, 16, 64 }, { 160, 160, 16, 64 }, { 80, 80, 16, 64 }, { 80, 160, 48, 64 },
+};
+
+/* What is compared: each C program by the better of its two compilers. */
+enum { BY_LIBRARY, BY_C, BY_PLAIN, BY_RENDERING, BY };
+static const char *const by_names[BY] = { "library", "C", "plain", "rendering" };
+enum { PLOTTED = BY_RENDERING }; /* the rendering is out of scale */
+
+/* Median times of the verifier. The shapes are timed in turn, so that a change of pace meets all of them. */
+static void time_shapes(int repetitions, double taken[SHAPES][BY])
+{
+    static struct times times[SHAPES][PROGRAMS][CALLS];
+    struct made c[SHAPES];
+    for (int i = 0; i < SHAPES; i++) {
+        c[i] = make_case(1, shapes[i]);
+        compare_answers(&c[i]);
+        start_times(times[i], repetitions);
+    }
+    for (int r = 0; r < repetitions; r++)
+        for (int i = 0; i < SHAPES; i++)
+            measure_once(&c[i], VERIFY, times[i], NULL);
+    for (int i = 0; i < SHAPES; i++) {
+        double m[PROGRAMS];
+        measure_rendering(&c[i], VERIFY, repetitions, times[i], NULL);
+        sort_times(times[i]);
+        for (int p = 0; p < PROGRAMS; p++)
+            m[p] = median(&times[i][p][VERIFY]);
+        taken[i][BY_LIBRARY] = m[LIBRARY];
+        taken[i][BY_C] = lesser(m[BASELINE_GCC], m[BASELINE_CLANG]);
+        taken[i][BY_PLAIN] = lesser(m[PLAIN_GCC], m[PLAIN_CLANG]);
+        taken[i][BY_RENDERING] = m[RENDERING];
+        drop_times(times[i]);
+        drop_case(&c[i]);
+    }
+}
+
+/* The terms that the forms of the equations have, as a multiple of those of the second shape. */
+static double terms(struct sizes s)
+{
+    const struct sizes b = shapes[BASE];
+    return (double)(s.n * s.n * s.m * s.tau) / (double)(b.n * b.n * b.m * b.tau);
+}
+
+static void print_shapes(double taken[SHAPES][BY])
+{
+    printf("verify: median, ms, and as a multiple of that at n = %zu, m = %zu, tau = %zu; t = %zu\n", shapes[BASE].n,
+           shapes[BASE].m, shapes[BASE].tau, shapes[BASE].t);
+    printf("%4s%5s%5s%14s", "n", "m", "tau", "n^2 m tau");
+    for (int b = 0; b < BY; b++)
+        printf("%20s", by_names[b]);
+    printf("   library/C  library/plain\n");
+    for (int i = 0; i < SHAPES; i++) {
+        const struct sizes s = shapes[i];
+        printf("%4zu%5zu%5zu%14.2f", s.n, s.m, s.tau, terms(s));
+        for (int b = 0; b < BY; b++)
+            printf("%13.4f x %4.2f", taken[i][b], taken[i][b] / taken[BASE][b]);
+        printf("%12.2f%15.2f\n", taken[i][BY_LIBRARY] / taken[i][BY_C], taken[i][BY_LIBRARY] / taken[i][BY_PLAIN]);
+    }
+    printf("A row costs n/4 look-ups and one product, so the time grows less than n^2. C has 16 repetitions to a\n"
+           "register, library and plain have 48 side by side whatever tau is: the forms cost the same for fewer, and\n"
+           "only leaf sums and hashes grow with each repetition.\n");
+}
+
+/* ---- The plot ----------------------------------------------------------------------------- */
+
+enum { LEFT = 70, TOP = 60, WIDE = 150, HIGH = 300, BAR = 34 };
+static const char *const colours[PLOTTED] = { "#1b6ca8", "#c8553d", "#8a8a8a" };
+
+static void plot_frame(FILE *file, double top)
+{
+    const int right = LEFT + SHAPES * WIDE;
+    fprintf(file, "<svg xmlns='http://www.w3.org/2000/svg' width='%d' height='%d' font-family='sans-serif' "
+            "font-size='12'>\n<rect width='100%%' height='100%%' fill='white'/>\n", right + 20, TOP + HIGH + 70);
+    fprintf(file, "<text x='%d' y='22' font-size='15'>mq_verify: median time, ms; above each bar the multiple of the "
+            "second shape</text>\n", LEFT);
+    for (int i = 0; i <= 4; i++) {
+        const int y = TOP + HIGH - i * HIGH / 4;
+        fprintf(file, "<line x1='%d' y1='%d' x2='%d' y2='%d' stroke='#dddddd'/>\n", LEFT, y, right, y);
+        fprintf(file, "<text x='%d' y='%d' text-anchor='end'>%.2f</text>\n", LEFT - 8, y + 4, top * i / 4);
+    }
+    for (int b = 0; b < PLOTTED; b++) {
+        fprintf(file, "<rect x='%d' y='34' width='12' height='12' fill='%s'/>\n", LEFT + b * 110, colours[b]);
+        fprintf(file, "<text x='%d' y='45'>%s</text>\n", LEFT + b * 110 + 17, by_names[b]);
+    }
+}
+
+static void plot_shape(FILE *file, int i, double taken[SHAPES][BY], double top)
+{
+    const struct sizes s = shapes[i];
+    const int x = LEFT + i * WIDE + (WIDE - PLOTTED * BAR) / 2, middle = LEFT + i * WIDE + WIDE / 2;
+    for (int b = 0; b < PLOTTED; b++) {
+        const double high = taken[i][b] / top * HIGH, y = TOP + HIGH - high;
+        fprintf(file, "<rect x='%d' y='%.1f' width='%d' height='%.1f' fill='%s'/>\n", x + b * BAR, y, BAR - 4, high,
+                colours[b]);
+        fprintf(file, "<text x='%d' y='%.1f' text-anchor='middle' font-size='10'>%.2f</text>\n",
+                x + b * BAR + (BAR - 4) / 2, y - 4, taken[i][b] / taken[BASE][b]);
+    }
+    fprintf(file, "<text x='%d' y='%d' text-anchor='middle'>n %zu, m %zu, tau %zu</text>\n", middle, TOP + HIGH + 20,
+            s.n, s.m, s.tau);
+    fprintf(file, "<text x='%d' y='%d' text-anchor='middle' fill='#666666'>n^2 m tau: %.2f</text>\n", middle,
+            TOP + HIGH + 38, terms(s));
+}
+
+static void plot(const char *name, double taken[SHAPES][BY])
+{
+    FILE *file = fopen(name, "w");
+    double top = 0;
+    if (!file) {
+        perror(name);
+        exit(1);
+    }
+    for (int i = 0; i < SHAPES; i++)
+        for (int b = 0; b < PLOTTED; b++)
+            top = taken[i][b] > top ? taken[i][b] : top;
+    plot_frame(file, top);
+    for (int i = 0; i < SHAPES; i++)
+        plot_shape(file, i, taken, top);
+    fprintf(file, "</svg>\n");
+    if (fclose(file)) {
+        perror(name);
+        exit(1);
+    }
+    printf("plotted: %s\n", name);
+}
+
+/* ------------------------------------------------------------------------------------------- */
+
 int main(int count, char **words)
 {
-    const int repetitions = count > 1 ? atoi(words[1]) : 301;
+    const int repetitions = count > 2 ? atoi(words[2]) : 301;
     const struct sizes usual = { 150, 150, 19, 144 };
     const struct sizes largest = { MQ_MAX_VARIABLES, MQ_MAX_EQUATIONS, MQ_MAX_REPETITIONS, MQ_MAX_HASH_ROWS };
-    if (repetitions < 1) {
-        printf("usage: bench [REPETITIONS]\n");
+    double taken[SHAPES][BY];
+    if (count < 2 || repetitions < 1) {
+        printf("usage: bench PLOT.svg [REPETITIONS]\n");
         return 2;
     }
     bench(usual, repetitions);
     bench(largest, repetitions);
+    time_shapes(repetitions, taken);
+    print_shapes(taken);
+    plot(words[1], taken);
     return 0;
 }

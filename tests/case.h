@@ -1,6 +1,6 @@
 /*
- * A case for benchmark and tests: a key with a known solution, leaves and challenges, all from a small
- * generator that is no good for secrets.
+ * A case for benchmark and tests: a key with a known solution, leaves, challenges and the leaves opened there, all
+ * from a small generator that is no good for secrets. There is room for a proof, which the library makes.
  */
 #ifndef CASE_H
 #define CASE_H
@@ -22,7 +22,7 @@ struct sizes {
 
 struct made {
     struct sizes sizes;
-    struct lent key, witness, leaves, hash_matrix, batching;
+    struct lent key, witness, leaves, hash_matrix, batching, delta, opened, proof;
 };
 
 /* splitmix64 */
@@ -105,8 +105,25 @@ static struct made lend_case(struct sizes sizes)
         lend(MQ_LEAVES_SIZE(n, m, tau, t)),
         lend(MQ_HASH_MATRIX_SIZE(n, m, tau, t)),
         lend(MQ_BATCHING_SIZE(n, m, tau, t)),
+        lend(MQ_DELTA_SIZE(n, m, tau, t)),
+        lend(MQ_OPENED_SIZE(n, m, tau, t)),
+        lend(MQ_PROOF_SIZE(n, m, tau, t)),
     };
     return made;
+}
+
+/* All leaves but the one at delta, in each repetition. */
+static void open_leaves(struct made *made)
+{
+    const size_t w = MQ_LEAF_SIZE(made->sizes.n, made->sizes.m, made->sizes.tau, made->sizes.t);
+    const uint8_t *leaf = made->leaves.at;
+    uint8_t *at = made->opened.at;
+    for (size_t e = 0; e < made->sizes.tau; e++)
+        for (size_t j = 0; j < MQ_FIELD_SIZE; j++, leaf += w)
+            if (j != made->delta.at[e]) {
+                memcpy(at, leaf, w);
+                at += w;
+            }
 }
 
 static struct made make_case(uint64_t seed, struct sizes sizes)
@@ -117,6 +134,8 @@ static struct made make_case(uint64_t seed, struct sizes sizes)
     draw_strings(&seed, made.leaves.at, MQ_FIELD_SIZE * sizes.tau, sizes.n + MQ_FIELD_DEGREE + sizes.t);
     draw_strings(&seed, made.hash_matrix.at, sizes.t, sizes.n + MQ_FIELD_DEGREE);
     draw_strings(&seed, made.batching.at, sizes.tau * sizes.m, 8);
+    draw_strings(&seed, made.delta.at, sizes.tau, 8);
+    open_leaves(&made);
     return made;
 }
 
@@ -127,6 +146,9 @@ static void drop_case(struct made *made)
     free(made->leaves.at);
     free(made->hash_matrix.at);
     free(made->batching.at);
+    free(made->delta.at);
+    free(made->opened.at);
+    free(made->proof.at);
 }
 
 #endif

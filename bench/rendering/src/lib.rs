@@ -112,3 +112,30 @@ pub unsafe extern "C" fn rendering_prove(
         from_raw_parts_mut(out, out_len),
     ))
 }
+
+/// # Safety
+/// See above.
+#[no_mangle]
+pub unsafe extern "C" fn rendering_verify(
+    key: *const u8,
+    key_len: usize,
+    delta: *const u8,
+    delta_len: usize,
+    hash_matrix: *const u8,
+    hash_matrix_len: usize,
+    batching: *const u8,
+    batching_len: usize,
+    opened: *const u8,
+    opened_len: usize,
+    proof: *const u8,
+    proof_len: usize,
+) -> u32 {
+    word(reference::verify(
+        from_raw_parts(key, key_len),
+        from_raw_parts(delta, delta_len),
+        from_raw_parts(hash_matrix, hash_matrix_len),
+        from_raw_parts(batching, batching_len),
+        from_raw_parts(opened, opened_len),
+        from_raw_parts(proof, proof_len),
+    ))
+}
