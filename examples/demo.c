@@ -1,9 +1,10 @@
 /*
- * The calls of Solfadrus, in the order in which a prover makes them.
+ * The calls of Solfadrus, in the order in which a prover and a verifier make them.
  *
  * Makes a key with a known solution, leaves and challenges, tests the witness, makes a proof in three
- * steps and at once, and shows two refusals. Everything random comes from a small seeded generator, so
- * that each run shows the same: a real prover draws from the system's generator, and keeps it secret.
+ * steps and at once, verifies it, and shows what is refused: forged proofs, a wrong witness, an output
+ * that is too short. Everything random comes from a small seeded generator, so that each run shows the
+ * same: real provers and verifiers draw from the system's generator, and a prover keeps it secret.
  */
 #include <stdio.h>
 #include <string.h>
@@ -19,6 +20,8 @@ static uint8_t witness[MQ_WITNESS_SIZE(N, M, TAU, T)];
 static uint8_t leaves[MQ_LEAVES_SIZE(N, M, TAU, T)];
 static uint8_t hash_matrix[MQ_HASH_MATRIX_SIZE(N, M, TAU, T)];
 static uint8_t batching[MQ_BATCHING_SIZE(N, M, TAU, T)];
+static uint8_t delta[MQ_DELTA_SIZE(N, M, TAU, T)];
+static uint8_t opened[MQ_OPENED_SIZE(N, M, TAU, T)];
 static uint8_t steps[MQ_PROOF_SIZE(N, M, TAU, T)];
 static uint8_t whole[MQ_PROOF_SIZE(N, M, TAU, T)];
 
@@ -114,7 +117,7 @@ static void show(const char *call, uint32_t word, size_t bytes, const char *what
         printf("%-10s accepted           ", call);
     else
         printf("%-10s refused %2u place %-3u", call, (unsigned)MQ_NUMBER(word), (unsigned)MQ_PLACE(word));
-    printf(" %8.3f ms %6lu bytes written  %s\n", ms, (unsigned long)(word == MQ_ACCEPTED ? bytes : 0), what);
+    printf(" %8.3f ms %5lu bytes written  %s\n", ms, (unsigned long)(word == MQ_ACCEPTED ? bytes : 0), what);
 }
 
 static void expect(int yes, const char *what)
@@ -177,6 +180,54 @@ static void prove_at_once(void)
     expect(memcmp(steps, whole, sizeof whole) == 0, "the steps' bytes, one after the other, are the same");
 }
 
+/* The prover's answer to delta: all leaves but the one at delta, in each repetition. */
+static void open_leaves(void)
+{
+    const size_t leaf = MQ_LEAF_SIZE(N, M, TAU, T);
+    uint8_t *at = opened;
+    size_t e, j;
+    for (e = 0; e < TAU; e++)
+        for (j = 0; j < MQ_FIELD_SIZE; j++)
+            if (j != delta[e]) {
+                memcpy(at, leaves + (e * MQ_FIELD_SIZE + j) * leaf, leaf);
+                at += leaf;
+            }
+}
+
+static uint32_t verify(const uint8_t *proof)
+{
+    start();
+    return mq_verify(key, sizeof key, delta, sizeof delta, hash_matrix, sizeof hash_matrix, batching,
+                     sizeof batching, opened, mq_opened_size(N, M, TAU, T), proof, sizeof whole);
+}
+
+static void verify_proofs(void)
+{
+    uint8_t forged[sizeof whole];
+    uint8_t *const qs1 = forged + sizeof forged - TAU;
+    uint8_t *const v = forged + MQ_COMMIT_SIZE(N, M, TAU, T) + MQ_HASH_SIZE(N, M, TAU, T) - TAU * T;
+    uint32_t word;
+    size_t e = TAU / 2;
+
+    draw_strings(delta, TAU, 8); /* the verifier's, once it has the whole proof */
+    delta[e] |= 1;               /* at 0 the byte of QS1 would not count */
+    open_leaves();
+    word = verify(whole);
+    show("mq_verify", word, 0, "the proof");
+    expect(word == MQ_ACCEPTED, "accepted");
+
+    memcpy(forged, whole, sizeof whole);
+    qs1[e] ^= 1;
+    word = verify(forged);
+    show("mq_verify", word, 0, "the proof with one bit of QS1 changed");
+    expect(word == MQ_REFUSED_PRODUCT_DIFFERS * 65536 + e, "refused because of the product check, in that repetition");
+
+    v[e * T] ^= 1;
+    word = verify(forged);
+    show("mq_verify", word, 0, "and one bit of V~ too");
+    expect(word == MQ_REFUSED_INCONSISTENT * 65536 + e, "refused because of consistency, which is asked first");
+}
+
 static void show_refusals(void)
 {
     uint8_t wrong[sizeof witness];
@@ -220,8 +271,9 @@ int main(void)
 
     make_key();
     draw_strings(leaves, MQ_FIELD_SIZE * TAU, N + MQ_FIELD_DEGREE + T);
-    printf("a key of %lu bytes, leaves of %lu bytes, a witness of %lu bytes\n", (unsigned long)sizeof key,
-           (unsigned long)sizeof leaves, (unsigned long)sizeof witness);
+    printf("a key of %lu bytes, leaves of %lu bytes, of which %lu are opened, a witness of %lu bytes\n",
+           (unsigned long)sizeof key, (unsigned long)sizeof leaves, (unsigned long)sizeof opened,
+           (unsigned long)sizeof witness);
 
     start();
     word = mq_test(key, sizeof key, witness, sizeof witness);
@@ -230,6 +282,7 @@ int main(void)
 
     prove_in_steps();
     prove_at_once();
+    verify_proofs();
     show_refusals();
 
     wipe(witness, sizeof witness); /* secrets are wiped when they have served */
