@@ -27,3 +27,6 @@ sh tests/compare.sh "$lib"
 
 echo "the example"
 SOLFADRUS_LIB_DIR=$lib sh tests/demo.sh
+
+echo "the example server"
+SOLFADRUS_LIB_DIR=$lib sh tests/server.sh
