@@ -7,7 +7,10 @@ use mathlib.Core.List.{List, [], _∷_, _++_}
 use Prim.Native.Nat.{ℕ, _+_, _*_}
 use native.Mathlib.Omega.{arith}
 use Rattle.protocol.specs.Binary.{bits256}
-use Rattle.protocol.specs.Shape.{Shape, shapeOf, perTree}
+use Rattle.protocol.specs.Shape.{Shape, shapeOf, limits, perTree}
+use Rattle.protocol.specs.Frames.{framed}
+use Rattle.protocol.specs.Sections.{Sections, bytesOf, lengths, sectionsIn}
+use Rattle.protocol.specs.Prover.{sectionsOf, proofOf}
 use Rattle.protocol.specs.Answers.{Answer, accepted, refused, Question, placeOf, word, written, Published, taken, header-short, size-out-of-range, key-length, key-spare-bit, challenge-length, hash-spare-bit, leaf-length, leaf-spare-bit, witness-form, output-length, equation-fails, proof-length, proof-spare-bit, inconsistent, product-differs}
 use Rattle.protocol.specs.Questions.{hExact, χExact, solves, q1, q2, q3, q4, q5, q6, q7, q8, q9, q11}
 use Rattle.protocol.specs.Calls.{hashAnswer, proveQuestions, proveAnswer, verifyAnswer, honestForm}
@@ -15,10 +18,14 @@ use Rattle.protocol.specs.Counting.{opening}
 use Rattle.protocol.specs.Statements.{SomeFails}
 use Rattle.protocol.proofs.Published.{all-published, refuses-exactly-when}
 use Rattle.protocol.proofs.AnswerLaws.{ask-accepts, all-yes, yes-all}
+use Rattle.protocol.proofs.BinaryLaws.{bits256-lawful}
+use Rattle.protocol.proofs.HonestLaws.{bounds-of, exact, sections-back}
 use Rattle.protocol.proofs.Theorems.{steps-are-whole}
 use Rattle.protocol.proofs.Demands.{accepts-exactly-when, honest-proof-accepted}
+use Rattle.format.specs.Reading.{Reads}
+use Rattle.format.proofs.ReadingLaws.{proof-read}
 use Rattle.solfadrus.specs.Told.{Told, Writes}
-use Rattle.solfadrus.specs.Demands.{EveryAnswerListed, RefusedKeeps, AcceptedWrites, RefusedWhenFails, VerifierAcceptsExactly, WrittenIsAccepted, StepsMakeWhole}
+use Rattle.solfadrus.specs.Demands.{EveryAnswerListed, RefusedKeeps, AcceptedWrites, RefusedWhenFails, VerifierAcceptsExactly, WrittenIsAccepted, StepsMakeWhole, ReadsBack}
 
 hash-published : (key leaves H′ out : List ℕ) (a : Answer) → a ≡ hashAnswer bits256 key leaves H′ out → Published (shapeOf key) a
 hash-published key leaves H′ out a h = subst (Published (shapeOf key)) (sym h) (all-published bits256 .hash-published key leaves H′ out)
@@ -109,11 +116,11 @@ honestQuestions key leaves x H′ χ =
 
 -- the questions of prove that are not of its output, and the solved system, where it is accepted
 proved : (key leaves x H′ χ out : List ℕ) (p : ℕ) → proveAnswer bits256 key leaves x H′ χ out p ≡ accepted
-    → (honestForm bits256 key leaves x H′ χ ≡ true) × (solves bits256 (shapeOf key) key x ≡ true)
+    → (honestForm bits256 key leaves x H′ χ ≡ true) × (solves bits256 (shapeOf key) key x ≡ true) × (limits (shapeOf key) ≡ true)
 unfolding proveAnswer honestForm
 proved key leaves x H′ χ out p h =
     let y = all-yes (proveQuestions bits256 key leaves x H′ χ out ++ (q11 bits256 (shapeOf key) key x p ∷ [])) (ask-accepts (proveQuestions bits256 key leaves x H′ χ out ++ (q11 bits256 (shapeOf key) key x p ∷ [])) .0 h) in
-    (yes-all (honestQuestions key leaves x H′ χ) (y .0, (y .1 .0, (y .1 .1 .0, (y .1 .1 .1 .0, (y .1 .1 .1 .1 .0, (y .1 .1 .1 .1 .1 .0, (y .1 .1 .1 .1 .1 .1 .0, (y .1 .1 .1 .1 .1 .1 .1 .0, (y .1 .1 .1 .1 .1 .1 .1 .1 .0, tt))))))))), y .1 .1 .1 .1 .1 .1 .1 .1 .1 .1 .0)
+    (yes-all (honestQuestions key leaves x H′ χ) (y .0, (y .1 .0, (y .1 .1 .0, (y .1 .1 .1 .0, (y .1 .1 .1 .1 .0, (y .1 .1 .1 .1 .1 .0, (y .1 .1 .1 .1 .1 .1 .0, (y .1 .1 .1 .1 .1 .1 .1 .0, (y .1 .1 .1 .1 .1 .1 .1 .1 .0, tt))))))))), y .1 .1 .1 .1 .1 .1 .1 .1 .1 .1 .0, y .1 .0)
 
 pub written-is-accepted : WrittenIsAccepted
 written-is-accepted key leaves x H′ χ before after Δ r writes long small told =
@@ -125,3 +132,20 @@ written-is-accepted key leaves x H′ χ before after Δ r writes long small tol
     (ap (verifyAnswer bits256 key Δ H′ χ (opening bits256 (shapeOf key) leaves Δ)) (accepted-writes .prove-writes key leaves x H′ χ before after writes)
     ∙ honest-proof-accepted key leaves x H′ χ Δ (given .0) (given .1) long small)
     ∙ word-accepted
+
+-- a string that is the proof's bytes, and sections that are its own
+read-as : (s : Shape) (after : List ℕ) (P : Sections) → after ≡ bytesOf P → sectionsIn bits256 s (bytesOf P) ≡ P → framed (lengths bits256 s) (bytesOf P) ≡ true
+    → Reads after 0 (lengths bits256 s) (P .C ∷ P .d ∷ P .ũ ∷ P .Ṽ ∷ P .QS0 ∷ P .QS1 ∷ [])
+read-as s after P e f whole =
+    subst (λ (z : List ℕ). Reads z 0 (lengths bits256 s) (P .C ∷ P .d ∷ P .ũ ∷ P .Ṽ ∷ P .QS0 ∷ P .QS1 ∷ [])) (sym e)
+    (subst (λ (p : Sections). Reads (bytesOf P) 0 (lengths bits256 s) (p .C ∷ p .d ∷ p .ũ ∷ p .Ṽ ∷ p .QS0 ∷ p .QS1 ∷ [])) f (proof-read s (bytesOf P) whole))
+
+pub reads-back : ReadsBack
+unfolding proofOf
+reads-back key leaves x H′ χ before after writes =
+    let s = shapeOf key in
+    let a = writes .0 in
+    let is : a ≡ accepted = only-accepted (shapeOf key) a (all-published bits256 .prove-published key leaves x H′ χ before a (writes .1 .1)) (sym (writes .1 .0)) in
+    let given = proved key leaves x H′ χ before (placeOf a) (sym (writes .1 .1 .answers) ∙ is) in
+    read-as s after (sectionsOf bits256 s leaves key x H′ χ) (accepted-writes .prove-writes key leaves x H′ χ before after writes) (sections-back bits256 bits256-lawful s leaves key x H′ χ)
+    (exact bits256 bits256-lawful s leaves key x H′ χ (bounds-of s (given .2)))

@@ -6,18 +6,20 @@
 use mathlib.Core.Path.{_≡_}
 use mathlib.Core.Logic.{_↔_, _≢_}
 use mathlib.Core.Bool.{true}
-use mathlib.Core.List.{List, _++_}
+use mathlib.Core.List.{List, [], _∷_, _++_}
 use Prim.Native.Nat.{ℕ, _<_}
 use lib.ListN.{length}
 use Rattle.protocol.specs.Strings.{bytes}
 use Rattle.protocol.specs.Binary.{bits256}
 use Rattle.protocol.specs.Shape.{Shape, shapeOf}
-use Rattle.protocol.specs.Prover.{commitBytes, hashBytes, batchBytes, proofOf}
+use Rattle.protocol.specs.Prover.{sectionsOf, commitBytes, hashBytes, batchBytes, proofOf}
+use Rattle.protocol.specs.Sections.{lengths}
 use Rattle.protocol.specs.Answers.{Answer, word, Published}
 use Rattle.protocol.specs.Questions.{consistentIn, productIn}
 use Rattle.protocol.specs.Calls.{hashAnswer, verifyAnswer, TestReply, CommitReply, BatchReply, ProveReply, testForm, commitForm, batchForm, proveForm, verifyForm}
 use Rattle.protocol.specs.Counting.{opening}
 use Rattle.protocol.specs.Statements.{SomeFails}
+use Rattle.format.specs.Reading.{Reads}
 use Rattle.solfadrus.specs.Told.{Told, Writes}
 
 abbrev pub Listed : Shape → ℕ → Type 0
@@ -83,3 +85,8 @@ WrittenIsAccepted = (key leaves x H′ χ before after Δ : List ℕ) (r : ℕ) 
 abbrev pub StepsMakeWhole : Type 0
 StepsMakeWhole = (key leaves x H′ χ : List ℕ) (b₁ a₁ b₂ a₂ b₃ a₃ b a : List ℕ) → CommitWrites key leaves x b₁ a₁ 0 → HashWrites key leaves H′ b₂ a₂ 0 → BatchWrites key leaves x χ b₃ a₃ 0
     → ProveWrites key leaves x H′ χ b a 0 → a ≡ a₁ ++ (a₂ ++ a₃)
+
+-- What mq_prove wrote reads back: the finder finds its six sections, one after the other, each from where the one before ended, and the last ends where it ends.
+abbrev pub ReadsBack : Type 0
+ReadsBack = (key leaves x H′ χ before after : List ℕ) → ProveWrites key leaves x H′ χ before after 0
+    → let p = sectionsOf bits256 (shapeOf key) leaves key x H′ χ in Reads after 0 (lengths bits256 (shapeOf key)) (p .C ∷ p .d ∷ p .ũ ∷ p .Ṽ ∷ p .QS0 ∷ p .QS1 ∷ [])
