@@ -2,11 +2,11 @@
  * Times the library beside the same job in C and in plain Rust, in one run, and measures the stack of each
  * call; then times the verifier at five shapes, and plots that. Usage: bench PLOT.svg [REPETITIONS]
  *
- * Every program first makes the same bytes and gives the same answers, or the run ends. Then each call of each program is timed in turn,
- * again and again, so that a change of the machine's pace meets all of them, and each time after a call that is
- * not timed, so that none pays for what the one before it left in the caches. Medians are printed, and the least
- * times, which a busy machine disturbs less. The time is the thread's processor time. The rendering is slow, and
- * is repeated less often: the table says how often.
+ * Every program first makes the same bytes and gives the same answers, or the run ends. Then each call of each
+ * program is timed in turn, again and again, so that a change of the machine's pace meets all of them, and each
+ * time after a call that is not timed, so that none pays for what the one before it left in the caches. Medians
+ * are printed, and the least times, which a busy machine disturbs less. The time is the thread's processor time.
+ * The rendering is slow, and is repeated less often: the table says how often.
  */
 #define _XOPEN_SOURCE 700
 #include <stdio.h>

@@ -62,7 +62,7 @@
  *   batching     chi, for each repetition, rising, m elements of K, one for each equation, rising.
  *   delta        for each repetition one element of K.
  *   opened       for each repetition e, rising, the 255 leaves with j other than delta[e], rising:
- *                leaf j is the j-th of them below delta[e], and the (j - 1)-th above it.
+ *                leaf j stands at place j below delta[e], and at place j - 1 above it.
  *   proof        the sections  C, d, u~, V~, QS0, QS1 :
  *                C     for each repetition but the first, rising, L bits   (count 0 at tau = 1)
  *                d     n bits

@@ -1,6 +1,8 @@
 /*
  * Do branches or addresses depend on leaves or witness? To be run under valgrind, by tests/secrets.sh.
  *
+ * mq_verify is not called: nothing that it takes is secret.
+ *
  *   secrets mark            Every bit of the leaves but the spare ones is marked undefined, and every call that
  *                           takes leaves is made. Memcheck reports each branch and each address that depends on one.
  *   secrets mark-all        The witness too. A call must tell whether it solves, so this is for programs that mark

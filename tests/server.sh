@@ -7,6 +7,7 @@ cd "$(dirname "$0")/.."
 need gcc gcc
 lib=$(library)
 mkdir -p target
-gcc -std=c99 -O2 -Wall -Wextra -pedantic -Werror -Iinclude examples/server.c "$lib/libsolfadrus.a" -pthread -o target/server
+gcc -std=c99 -O2 -Wall -Wextra -pedantic -Werror -Iinclude examples/server.c "$lib/libsolfadrus.a" -pthread \
+    -o target/server
 cargo build --quiet --release --offline -j1 --manifest-path tests/server/Cargo.toml --target-dir target/requests
 exec target/requests/release/server target/server "$@"

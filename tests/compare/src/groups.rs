@@ -1,7 +1,7 @@
 //! Groups of cases. Each group has its own random numbers, made from the run's seed and the group's number, so
 //! that it can be run alone.
 
-use crate::calls::{Call, CALLS, PROVE, STEPS, TEST, VERIFY};
+use crate::calls::{Call, Writes, CALLS, PROVE, STEPS, TEST, VERIFY};
 use crate::damage::{all, layout_agrees, Damage};
 use crate::inputs::{section_start, Inputs, Name, Output};
 use crate::judge::{describe, Expected, Judge};
@@ -118,6 +118,14 @@ pub fn open_at(inputs: &mut Inputs, delta: Vec<u8>) {
     *inputs.get_mut(Name::Opened) = opened;
 }
 
+/// Whether the call takes or writes what is damaged.
+fn concerns(damage: &Damage, call: &Call) -> bool {
+    match damage.input() {
+        Some(name) => call.takes.contains(&name),
+        None => call.writes != Writes::Nothing,
+    }
+}
+
 pub struct Run<'a> {
     pub judge: &'a mut Judge,
     pub random: Random,
@@ -195,11 +203,7 @@ impl Run<'_> {
             }
         }
         for call in CALLS {
-            let concerns = |damage: &Damage| match damage.input() {
-                Some(name) => call.takes.contains(&name),
-                None => call.writes.length(&inputs.shape) > 0,
-            };
-            if damages.iter().all(concerns) {
+            if damages.iter().all(|damage| concerns(damage, call)) {
                 self.put(call, &inputs, damages, None)?;
             }
         }
@@ -233,6 +237,29 @@ impl Run<'_> {
         for damage in self.damages(&inputs) {
             self.damaged(&inputs, &[damage])?;
         }
+        if cost(&inputs.shape) > DEAR {
+            self.dear_flips(&inputs)?;
+        }
+        Ok(())
+    }
+
+    /// Where the rendering is dear, it is asked about a few changed coordinates only, and by the verifier, which is
+    /// its cheaper part: one of each two sections of the proof, one of the leaves, one of the rest.
+    fn dear_flips(&mut self, honest: &Inputs) -> Result<(), String> {
+        let others = [Name::Key, Name::Delta, Name::HashMatrix, Name::Batching];
+        let other = others[self.random.below(others.len())];
+        for damage in [
+            Damage::Flipped(Name::Proof, self.random.below(2)),
+            Damage::Flipped(Name::Proof, 2 + self.random.below(2)),
+            Damage::Flipped(Name::Proof, 4 + self.random.below(2)),
+            Damage::Flipped(Name::Opened, 0),
+            Damage::Flipped(other, 0),
+        ] {
+            let mut inputs = honest.clone();
+            if damage.apply(&mut inputs, &mut self.random) {
+                self.put(&VERIFY, &inputs, &[damage], None)?;
+            }
+        }
         Ok(())
     }
 
@@ -260,10 +287,7 @@ impl Run<'_> {
             let mut chosen = Vec::new();
             while chosen.len() < how_many {
                 let damage = damages[self.random.below(damages.len())];
-                if damage
-                    .input()
-                    .is_some_and(|name| call.takes.contains(&name))
-                {
+                if concerns(&damage, call) {
                     chosen.push(damage);
                 }
             }
@@ -451,8 +475,8 @@ impl Run<'_> {
         Ok(())
     }
 
-    /// "Δ = 02 accepted. QS1 changed to 05: refused 15 place 0 at Δ = 02, accepted at 00. ũ changed to 00: refused 14
-    /// place 0 at 02."; "y = 0: ... with QS1 = 05, accepted at Δ = 00 and 52 only."
+    /// "Δ = 02 accepted. QS1 changed to 05: refused 15 place 0 at Δ = 02, accepted at 00. ũ changed to 00: refused
+    /// 14 place 0 at 02."; "y = 0: ... with QS1 = 05, accepted at Δ = 00 and 52 only."
     fn toy_challenges(&mut self, inputs: &mut Inputs) -> Result<(), String> {
         let honest = inputs.get(Name::Proof).to_vec();
         let mut qs1 = honest.clone();
