@@ -30,3 +30,6 @@ SOLFADRUS_LIB_DIR=$lib sh tests/demo.sh
 
 echo "the example server"
 SOLFADRUS_LIB_DIR=$lib sh tests/server.sh
+
+echo "secrets in branches and addresses"
+sh tests/secrets.sh "$lib"
