@@ -29,7 +29,7 @@ pub fn add_forms(
     table: &[u8],
     xs: &[u8],
 )
-    requires { ⌜ (length (now quad) ≡ lanes) × (length (now right) ≡ lanes) × (length (now a) ≡ m * (count * width)) × (count ≤ 160) × (length (now left) ≡ count * lanes) × (w ≡ bytesFor m) × (tau * 8 * w ≤ length (now planes)) × (m ≤ 160) × (tau ≤ lanes) × (4 * width ≤ chunk) × (length (now table) ≡ n * lanes) × (width * 8 ≤ length (now xs)) × ((c : ℕ) → byteAt (now xs) c < 2) ⌝ }
+    requires { ⌜ (length (now quad) ≡ lanes) × (length (now right) ≡ lanes) × (length (now a) ≡ m * (count * width)) × (count ≤ 160) × (length (now left) ≡ count * lanes) × (w ≡ bytesFor m) × (tau * 8 * w ≤ length (now planes)) × (m ≤ 160) × (tau ≤ lanes) × (4 * width ≤ chunk) × (length (now table) ≡ n * lanes) × (width * 8 ≤ length (now xs)) × ((c : ℕ) → byteAt (now xs) c < 2) × (0 < m) × (0 < tau) ⌝ }
     ensures { λ _. ⌜ ((χ : List ℕ) (e : ℕ) → ((k : ℕ) → byteAt χ k < 256) → ((r : ℕ) → r < tau * 8 → Planed χ m w (now (planes .entry)) r) → e < tau → byteAt (now (quad .exit)) e ≡ bitXor (byteAt (now (quad .entry)) e) (xorSum (width * 8) (λ c. product (laneAt (now (table .entry)) c e) (columnByte count width m (now (a .entry)) (now (left .entry)) χ e (c / 8) (c % 8))))) ⌝ }
     ensures { λ _. ⌜ ((χ : List ℕ) (e : ℕ) → ((k : ℕ) → byteAt χ k < 256) → ((r : ℕ) → r < tau * 8 → Planed χ m w (now (planes .entry)) r) → e < tau → byteAt (now (right .exit)) e ≡ bitXor (byteAt (now (right .entry)) e) (xorSum (width * 8) (λ c. byteAt (now (xs .entry)) c * columnByte count width m (now (a .entry)) (now (left .entry)) χ e (c / 8) (c % 8)))) ⌝ }
 {

@@ -197,7 +197,7 @@ pub fn collect(
     w: usize,
     table: &[u8],
 )
-    requires { ⌜ (tau * stack ≤ length (now stacks)) × (length (now a) ≡ m * (n * width)) × (n ≤ 160) × (m ≤ 160) × (w ≡ bytesFor m) × (tau * 8 * w ≤ length (now planes)) × (length (now table) ≡ n * lanes) × (tau ≤ lanes) × (4 * width ≤ chunk) ⌝ }
+    requires { ⌜ (tau * stack ≤ length (now stacks)) × (length (now a) ≡ m * (n * width)) × (n ≤ 160) × (m ≤ 160) × (w ≡ bytesFor m) × (tau * 8 * w ≤ length (now planes)) × (length (now table) ≡ n * lanes) × (tau ≤ lanes) × (4 * width ≤ chunk) × (0 < m) × (0 < tau) ⌝ }
     ensures { λ _. ⌜ ((χ : List ℕ) (e g j z : ℕ) → ((k : ℕ) → byteAt χ k < 256) → ((r : ℕ) → r < tau * 8 → Planed χ m w (now (planes .entry)) r) → e < tau → g < 4 → j < width → stackOf (now (stacks .exit)) e (g * width + j) z ≡ bitXor (stackOf (now (stacks .entry)) e (g * width + j) z) (xorSum ((n + 3) / 4) (λ k. product (laneAt (now (table .entry)) (k * 4 + g) e) (batchedByte width (n * width) m (now (a .entry)) χ e (k * 4 + g) j z)))) ⌝ }
 {
     let mut cells = [0u8; 160 * CHUNK];
@@ -206,6 +206,7 @@ pub fn collect(
     while k * 4 < n {
         super::cells::load(&mut cells, a, n * width, k * 4 * width, 4 * width, m);
         super::sums::fill_sums(&mut sums, w * 32, m, &cells[..m * CHUNK]);
+        super::sums::add_first(stacks, &sums);
         absorb_lanes(stacks, tau, planes, w, &sums, table, k * 4, n, width);
         k += 1;
     }

@@ -41,7 +41,7 @@ pub fn batch_forms(
     table: &[u8],
 )
     requires { ⌜ (length (now quad) ≡ lanes) × (length (now lin) ≡ lanes) × (length (now right) ≡ lanes) × (n ≤ 160) × (m ≤ 160) × (tau ≤ lanes) × (length (now a) ≡ m * (n * bytesFor n)) × (length (now rows) ≡ m * bytesFor n) × (length (now chi) ≡ tau * m) × (length (now table) ≡ n * lanes) ⌝ }
-    requires { ⌜ (bytesFor n * 8 ≤ length (now xs)) × ((c : ℕ) → byteAt (now xs) c < 2) ⌝ }
+    requires { ⌜ (bytesFor n * 8 ≤ length (now xs)) × ((c : ℕ) → byteAt (now xs) c < 2) × (0 < m) × (0 < tau) ⌝ }
     ensures { λ _. ⌜ ((e : ℕ) → e < tau → byteAt (now (quad .exit)) e ≡ bitXor (byteAt (now (quad .entry)) e) (batchByte m (now (chi .entry)) e (λ i. formByte n (matrixOf n (now (a .entry)) i) (now (table .entry)) e))) ⌝ }
     ensures { λ _. ⌜ ((e : ℕ) → e < tau → byteAt (now (lin .exit)) e ≡ bitXor (byteAt (now (lin .entry)) e) (batchByte m (now (chi .entry)) e (λ i. selected n (rowOf n (now (rows .entry)) i) (now (table .entry)) lanes e))) ⌝ }
     ensures { λ _. ⌜ ((x : List ℕ) (e : ℕ) → ((c : ℕ) → byteAt (now (xs .entry)) c ≡ bit x c) → e < tau → byteAt (now (right .exit)) e ≡ bitXor (byteAt (now (right .entry)) e) (batchByte m (now (chi .entry)) e (λ i. xorSum n (λ ρ. rowProduct (rowOf n (matrixOf n (now (a .entry)) i) ρ) x * laneAt (now (table .entry)) ρ e)))) ⌝ }
@@ -135,7 +135,7 @@ pub fn batch_lanes(
     tau: usize,
     table: &[u8],
 )
-    requires { ⌜ (length (now qs0) ≡ lanes) × (length (now qs1) ≡ lanes) × (n ≤ 160) × (tau ≤ lanes) × (length (now a) ≡ m * (n * bytesFor n)) × (length (now b) ≡ m * bytesFor n) × (length (now x) ≡ bytesFor n) × (length (now chi) ≡ tau * m) × ((n + gf256 .degree) * lanes ≤ length (now table)) × (n + gf256 .degree ≤ length (now u) * 8) × (m ≤ 160) ⌝ }
+    requires { ⌜ (length (now qs0) ≡ lanes) × (length (now qs1) ≡ lanes) × (n ≤ 160) × (tau ≤ lanes) × (length (now a) ≡ m * (n * bytesFor n)) × (length (now b) ≡ m * bytesFor n) × (length (now x) ≡ bytesFor n) × (length (now chi) ≡ tau * m) × ((n + gf256 .degree) * lanes ≤ length (now table)) × (n + gf256 .degree ≤ length (now u) * 8) × (m ≤ 160) × (0 < m) × (0 < tau) ⌝ }
     ensures { λ _. ⌜ ((e : ℕ) → e < tau → byteAt (now (qs0 .exit)) e ≡ qs0Byte n m (now (a .entry)) (now (chi .entry)) (now (table .entry)) e) ⌝ }
     ensures { λ _. ⌜ ((e : ℕ) → e < tau → byteAt (now (qs1 .exit)) e ≡ qs1Byte n m (now (a .entry)) (now (b .entry)) (now (x .entry)) (now (chi .entry)) (now (u .entry)) (now (table .entry)) e) ⌝ }
 {

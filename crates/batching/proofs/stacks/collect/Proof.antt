@@ -4,7 +4,8 @@ use borrow.Author.Needs.{needs}
 use Prim.Native.Nat.{ℕ, _+_, _*_, _-_, _/_, _%_, _≤_, _<_}
 use mathlib.Core.List.{List}
 use mathlib.Core.Path.{_≡_, refl, sym, ap, ap₂, _∙_}
-use native.Mathlib.Nat.{mul-le-mul, mul-le-mul-right, add-mul, add-assoc}
+use native.Mathlib.Nat.{mul-le-mul, mul-le-mul-right, add-mul, add-assoc, zero-mul}
+use native.Mathlib.Decide.{decLt}
 use native.Mathlib.Omega.{arith}
 use denote.Ref.{now}
 use lib.Arith.{digits-div, digits-mod}
@@ -15,10 +16,12 @@ use Rattle.protocol.specs.Lists.{blockAt}
 use Rattle.protocol.specs.Strings.{bytesFor}
 use Rattle.strings.specs.Sums.{byteAt, bitOf, xorSum}
 use Rattle.strings.proofs.Rows.{row-end}
-use Rattle.strings.proofs.SumLaws.{sum-same, sum-step}
+use Rattle.strings.proofs.SumLaws.{sum-same, sum-none, sum-step}
+use Rattle.strings.proofs.Meaning.{bitOf-zero}
 use Rattle.lanes.specs.Lanes.{laneAt}
 use Rattle.batching.specs.Chunks.{chunk, cellAt, Tabled}
 use Rattle.batching.specs.Stacks.{stack, product, stackOf, Planed, Weighed, batchedByte}
+use Rattle.batching.proofs.ColumnLaws.{stack-same}
 use Rattle.batching.proofs.stacks.collect.Statement.{statement}
 use Rattle.batching.proofs.stacks.collect.Tie as tie
 
@@ -38,6 +41,21 @@ taken m l long most = simp length-take (omega arith)
 -- the byte of a chunk, in its row
 place : (k width g j : ℕ) → k * 4 * width + (g * width + j) ≡ (k * 4 + g) * width + j
 place k width g j = sym (add-assoc (k * 4 * width) (g * width) j) ∙ ap (λ x. x + j) (sym (add-mul (k * 4) g width))
+
+-- the first entry of a table of sums is 0
+first-zero : (S sums : List ℕ) (count f : ℕ) → 0 < count → Tabled S sums count → f < chunk → byteAt sums f ≡ 0
+first-zero S sums count f pos tabled h =
+    let start : f ≡ 0 * chunk + f = omega arith in
+    ap (byteAt sums) start ∙ tabled 0 f pos h ∙ sum-same 4 _ (λ s. 0) (λ s l. ap (λ x. x * cellAt S (0 / 16 * 4 + s) f) (bitOf-zero s) ∙ zero-mul _) ∙ sum-none 4
+
+-- so that it changes nothing where it is added
+unchanged : (S sums old new : List ℕ) (count : ℕ) → 0 < count → Tabled S sums count → ((f : ℕ) → f < chunk → byteAt new f ≡ bitXor (byteAt old f) (byteAt sums f))
+    → ((f : ℕ) → chunk ≤ f → byteAt new f ≡ byteAt old f) → (b : ℕ) → byteAt new b ≡ byteAt old b
+unchanged S sums old new count pos tabled low high b = go (decLt b chunk)
+  where
+    go : Dec (b < chunk) → byteAt new b ≡ byteAt old b
+    go (yes h) = low b h ∙ ap (bitXor (byteAt old b)) (first-zero S sums count b pos tabled h) ∙ xor-zero-r (byteAt old b)
+    go (no h) = high b (omega arith)
 
 module _ (cells S a χ : List ℕ) (m size width k : ℕ) (is : S ≡ take (m * chunk) cells) (small : 4 * width ≤ chunk)
     (loaded : (i f : ℕ) → i < m → f < 4 * width → cellAt cells i f ≡ byteAt (blockAt a size i) (k * 4 * width + f)) where
@@ -119,6 +137,14 @@ unfolding bytesFor
 fill-sums-requires c κs =
     (omega (arith, c .before .before .before .before .before .before .loop .inv .3), taken (c .before .before .before .before .before .before .before .before .before .before .before .args .m) (c .before .before .before .load .last .0) (c .before .before .before .load .kept .0 ∙ c .before .before .before .before .before .before .loop .inv .2) (c .before .before .before .before .before .before .before .before .before .before .before .pre .3))
 
+slice-aggregate-add-first : tie.Need-slice-aggregate-add-first Inv-loop μ-loop
+slice-aggregate-add-first c = search needs
+
+add-first-requires : tie.Need-add-first-requires Inv-loop μ-loop
+add-first-requires c κs =
+    let l = c .before .before .before .before .before .before .before .before .before .before .loop in
+    (omega (arith, l .inv .1, c .before .before .before .before .before .before .before .before .before .before .before .before .before .before .before .pre .10, c .before .before .before .before .before .before .before .before .before .before .before .before .before .before .before .pre .0), omega (arith, c .before .before .before .fill-sums .kept .0, l .inv .3))
+
 slice-aggregate-absorb-lanes : tie.Need-slice-aggregate-absorb-lanes Inv-loop μ-loop
 slice-aggregate-absorb-lanes c = search needs
 
@@ -128,8 +154,8 @@ mul-absorb-lanes c = search needs
 absorb-lanes-requires : tie.Need-absorb-lanes-requires Inv-loop μ-loop
 unfolding bytesFor
 absorb-lanes-requires c κs =
-    let l = c .before .before .before .before .before .before .before .before .before .before .loop in
-    (omega (arith, l .inv .1), c .before .before .before .before .before .before .before .before .before .before .before .before .before .before .before .pre .5, omega (arith, c .before .before .before .fill-sums .kept .0, l .inv .3), c .before .before .before .before .before .before .before .before .before .before .before .before .before .before .before .pre .6, c .before .before .before .before .before .before .before .before .before .before .before .before .before .before .before .pre .7, c .before .before .before .before .before .before .before .before .before .loop-test .taken, c .before .before .before .before .before .before .before .before .before .before .before .before .before .before .before .pre .8)
+    let l = c .before .before .before .before .before .before .before .before .before .before .before .before .before .before .before .loop in
+    (omega (arith, c .before .before .before .before .add-first .kept .0, l .inv .1), c .before .before .before .before .before .before .before .before .before .before .before .before .before .before .before .before .before .before .before .before .pre .5, omega (arith, c .before .before .before .before .before .before .before .before .fill-sums .kept .0, l .inv .3), c .before .before .before .before .before .before .before .before .before .before .before .before .before .before .before .before .before .before .before .before .pre .6, c .before .before .before .before .before .before .before .before .before .before .before .before .before .before .before .before .before .before .before .before .pre .7, c .before .before .before .before .before .before .before .before .before .before .before .before .before .before .loop-test .taken, c .before .before .before .before .before .before .before .before .before .before .before .before .before .before .before .before .before .before .before .before .pre .8)
 
 add-k : tie.Need-add-k Inv-loop μ-loop
 add-k c = search needs
@@ -140,24 +166,29 @@ loop-less c = search needs
 loop-again : tie.Need-loop-again Inv-loop μ-loop
 unfolding bytesFor
 loop-again c =
-    let a = c .before .before .before .before .before .before .before .before .before .before .before .before .before .before .before .before .before .before .args in
-    let l = c .before .before .before .before .before .before .before .before .before .before .before .before .before .loop in
-    let pre = c .before .before .before .before .before .before .before .before .before .before .before .before .before .before .before .before .before .before .pre in
-    let cells = c .before .before .before .before .before .before .before .before .before .before .load .last .0 in
+    let a = c .before .before .before .before .before .before .before .before .before .before .before .before .before .before .before .before .before .before .before .before .before .before .before .args in
+    let l = c .before .before .before .before .before .before .before .before .before .before .before .before .before .before .before .before .before .before .loop in
+    let pre = c .before .before .before .before .before .before .before .before .before .before .before .before .before .before .before .before .before .before .before .before .before .before .before .pre in
+    let cells = c .before .before .before .before .before .before .before .before .before .before .before .before .before .before .before .load .last .0 in
     let S = take (a .m * chunk) cells in
-    let long : length cells ≡ 12800 = c .before .before .before .before .before .before .before .before .before .before .load .kept .0 ∙ l .inv .2 in
+    let long : length cells ≡ 12800 = c .before .before .before .before .before .before .before .before .before .before .before .before .before .before .before .load .kept .0 ∙ l .inv .2 in
     let most : a .m ≤ a .w * 8 = omega (arith, pre .4) in
+    let some : 0 < a .w * 32 = omega (arith, pre .4, pre .9) in
+    let inside : (g j : ℕ) → g < 4 → j < a .width → g * a .width + j < chunk = λ g j hg hj. omega (arith, row-end g 4 (a .width) hg, pre .8) in
+    let settled = c .before .before .before .before .before .before .before .add-first in
+    let same = unchanged S (c .before .before .before .before .before .before .before .before .before .before .before .fill-sums .last .0) (l .stacks) (settled .last .0) (a .w * 32) some (c .before .before .before .before .before .before .before .before .before .before .before .fill-sums .ensures) (settled .ensures .0) (settled .ensures .1) in
     let done = c .before .before .absorb-lanes in (
-      omega (arith, c .before .before .before .before .before .before .before .before .before .before .before .before .loop-test .taken),
-      done .kept .0 ∙ l .inv .1,
+      omega (arith, c .before .before .before .before .before .before .before .before .before .before .before .before .before .before .before .before .before .loop-test .taken),
+      done .kept .0 ∙ c .before .before .before .before .before .before .before .add-first .kept .0 ∙ l .inv .1,
       long,
-      c .before .before .before .before .before .before .fill-sums .kept .0 ∙ l .inv .3,
+      c .before .before .before .before .before .before .before .before .before .before .before .fill-sums .kept .0 ∙ l .inv .3,
       (λ χ e g j z small planed he hg hj.
           done .ensures S (λ q i. byteAt χ (q * a .m + i)) (a .m) e g j z
-          (weighed S (c .before .before .before .before .before .before .fill-sums .last .0) (now (a .planes)) χ (a .m) (a .w) (a .tau) (c .before .before .before .before .before .before .fill-sums .ensures) (taken (a .m) cells long (pre .3)) most small planed)
+          (weighed S (c .before .before .before .before .before .before .before .before .before .before .before .fill-sums .last .0) (now (a .planes)) χ (a .m) (a .w) (a .tau) (c .before .before .before .before .before .before .before .before .before .before .before .fill-sums .ensures) (taken (a .m) cells long (pre .3)) most small planed)
           he hg hj
-          ∙ ap (λ (x : ℕ). bitXor (stackOf (l .stacks) e (g * a .width + j) z) (product (laneAt (now (a .table)) (l .k * 4 + g) e) x))
-          (sum-is cells S (now (a .a)) χ (a .m) (a .n * a .width) (a .width) (l .k) refl (pre .8) (c .before .before .before .before .before .before .before .before .before .before .load .ensures) e g j z hg hj)
+          ∙ ap₂ (λ (y x : ℕ). bitXor y (product (laneAt (now (a .table)) (l .k * 4 + g) e) x))
+          (stack-same (settled .last .0) (l .stacks) e (g * a .width + j) z (inside g j hg hj) (λ b h. same (e * stack + b)))
+          (sum-is cells S (now (a .a)) χ (a .m) (a .n * a .width) (a .width) (l .k) refl (pre .8) (c .before .before .before .before .before .before .before .before .before .before .before .before .before .before .before .load .ensures) e g j z hg hj)
           ∙ sum-step (stackOf (now (a .stacks)) e (g * a .width + j) z) (stackOf (l .stacks) e (g * a .width + j) z) (l .k) (term (a .width) (a .n * a .width) (a .m) (now (a .a)) χ (now (a .table)) e g j z) (l .inv .4 χ e g j z small planed he hg hj)),
     )
 
@@ -191,6 +222,8 @@ collect-spec =
     array-share-prefix-cells
     slice-aggregate-fill-sums-2
     fill-sums-requires
+    slice-aggregate-add-first
+    add-first-requires
     slice-aggregate-absorb-lanes
     mul-absorb-lanes
     absorb-lanes-requires

@@ -39,7 +39,7 @@ loop-again c =
       omega arith,
       filled .kept .0 ∙ l .inv .1,
       (λ q e h k.
-          ⊎-elim (λ (s : q ≡ l .k). rw s (filled .ensures .0 e k))
+          ⊎-elim (λ (s : q ≡ l .k). rw s (filled .ensures .0 e k (λ i f hi hf. l .inv .2 i f hi hf)))
           (λ (s : q < l .k). filled .ensures .1 q e (λ z. omega arith) k ∙ l .inv .2 q e s k)
           (eq-or-lt-of-le (le-of-suc-le-suc (rw add-one at h)))),
     )

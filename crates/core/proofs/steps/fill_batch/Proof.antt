@@ -65,6 +65,8 @@ batch-lanes-requires c κs =
       omega (arith, s .pre .0 .4 .table-length, mask-fits shape),
       omega (arith, long, mask-fits shape),
       in-limits shape within .m-most,
+      in-limits shape within .m-least,
+      in-limits shape within .τ-least,
     )
 
 same-length : tie.Need-same-length

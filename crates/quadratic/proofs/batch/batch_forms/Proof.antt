@@ -48,7 +48,7 @@ add-forms-requires : tie.Need-add-forms-requires
 unfolding bytesFor
 add-forms-requires c κs =
     let pre = c .before .before .before .before .before .before .before .before .before .before .before .before .before .before .pre in
-    (pre .0 .0, pre .0 .2, pre .0 .6, pre .0 .3, pre .0 .9, refl, omega (arith, c .before .before .before .before .fill-planes .kept .0, planes-fit (c .before .before .before .before .before .before .before .before .before .before .before .before .before .before .args .tau) (c .before .before .before .before .before .before .before .before .before .before .before .before .before .before .args .m) (pre .0 .5) (pre .0 .4)), pre .0 .4, pre .0 .5, omega (arith, pre .0 .3), pre .0 .9, pre .1 .0, pre .1 .1)
+    (pre .0 .0, pre .0 .2, pre .0 .6, pre .0 .3, pre .0 .9, refl, omega (arith, c .before .before .before .before .fill-planes .kept .0, planes-fit (c .before .before .before .before .before .before .before .before .before .before .before .before .before .before .args .tau) (c .before .before .before .before .before .before .before .before .before .before .before .before .before .before .args .m) (pre .0 .5) (pre .0 .4)), pre .0 .4, pre .0 .5, omega (arith, pre .0 .3), pre .0 .9, pre .1 .0, pre .1 .1, pre .1 .2, pre .1 .3)
 
 slice-aggregate-add-forms-2 : tie.Need-slice-aggregate-add-forms-2
 slice-aggregate-add-forms-2 c = search needs
@@ -64,7 +64,7 @@ unfolding bytesFor
 add-forms-requires-2 c κs =
     let pre = c .before .before .before .before .before .before .before .before .before .before .before .before .before .before .before .before .before .before .before .before .before .before .before .pre in
     let a = c .before .before .before .before .before .before .before .before .before .before .before .before .before .before .before .before .before .before .before .before .before .before .before .args in
-    (pre .0 .1, refl, pre .0 .7 ∙ ap (λ (v : ℕ). a .m * v) (sym (one-mul ((a .n + 7) / 8))), omega arith, refl, refl, omega (arith, c .before .before .before .before .before .before .before .before .before .before .before .before .before .fill-planes .kept .0, planes-fit (a .tau) (a .m) (pre .0 .5) (pre .0 .4)), pre .0 .4, pre .0 .5, omega (arith, pre .0 .3), pre .0 .9, pre .1 .0, pre .1 .1)
+    (pre .0 .1, refl, pre .0 .7 ∙ ap (λ (v : ℕ). a .m * v) (sym (one-mul ((a .n + 7) / 8))), omega arith, refl, refl, omega (arith, c .before .before .before .before .before .before .before .before .before .before .before .before .before .fill-planes .kept .0, planes-fit (a .tau) (a .m) (pre .0 .5) (pre .0 .4)), pre .0 .4, pre .0 .5, omega (arith, pre .0 .3), pre .0 .9, pre .1 .0, pre .1 .1, pre .1 .2, pre .1 .3)
 
 same-length : tie.Need-same-length
 same-length c = search needs

@@ -138,7 +138,7 @@ batch-forms-requires c κs =
         pre .7,
         prefix (now (a .table)) (a .n * lanes) (omega (arith, pre .8)),
       ),
-      (omega (arith, c .before .before .before .before .before .before .before .before .before .before .before .before .before .before .before .before .before .before .before .prepare .kept .0, pre .2), λ i. rw (c .before .before .before .before .before .before .before .before .before .before .before .before .before .before .before .before .before .before .before .prepare .ensures .0 i) (bit-lt (now (a .x)) i)),
+      (omega (arith, c .before .before .before .before .before .before .before .before .before .before .before .before .before .before .before .before .before .before .before .prepare .kept .0, pre .2), (λ i. rw (c .before .before .before .before .before .before .before .before .before .before .before .before .before .before .before .before .before .before .before .prepare .ensures .0 i) (bit-lt (now (a .x)) i)), pre .11, pre .12),
     )
 
 slice-aggregate-xor-into : tie.Need-slice-aggregate-xor-into
