@@ -39,5 +39,6 @@ step "line counts of the audit guide" sh tests/counts.sh
 step "the Rust rendering" cargo test --quiet --release --offline --manifest-path tests/reference/Cargo.toml -- --test-threads=1
 # rt ci has just proved every crate: the archive is built from them.
 step "the library from C, C++ and Rust" sh tests/c.sh
+step "the check program" sh tests/mqcheck.sh
 
 echo "$verdict"

@@ -1,0 +1,61 @@
+//! The sittings over GF(256) of the rendering's file of vectors: each at its Δ, and with each of its changes.
+
+use crate::inputs::{framed, input, Input};
+
+const SITTINGS: &str = include_str!("../../reference/tests/vectors/sittings-degree8.rsp");
+
+fn hex(text: &str) -> Vec<u8> {
+    (0..text.len() / 2)
+        .map(|at| u8::from_str_radix(&text[2 * at..2 * at + 2], 16).unwrap())
+        .collect()
+}
+
+/// The line of a reply, which is number × 65,536 + place.
+fn line(reply: &str) -> String {
+    let reply: u32 = reply.parse().unwrap();
+    match reply {
+        0 => "accepted 0 0".to_string(),
+        _ => format!("refused {} {}", reply / 65_536, reply % 65_536),
+    }
+}
+
+/// The value that stands after a name in a sitting.
+fn value<'a>(sitting: &'a str, name: &str) -> &'a str {
+    let start = format!("{name} = ");
+    sitting
+        .lines()
+        .find_map(|line| line.strip_prefix(&start))
+        .unwrap()
+}
+
+pub fn all() -> Vec<Input> {
+    let mut inputs = Vec::new();
+    for (number, sitting) in SITTINGS.split("# sitting ").skip(1).enumerate() {
+        let sections = ["key", "delta", "hprime", "chi", "opened", "proof"]
+            .map(|name| hex(value(sitting, name)));
+        let reply = line(value(sitting, "reply"));
+        inputs.push(input(
+            format!("sitting {number}"),
+            framed(&sections),
+            Some(&reply),
+        ));
+        // changed = d byte 10 xor 1: reply 983040 factors 1 1
+        for changed in sitting
+            .lines()
+            .filter_map(|line| line.strip_prefix("changed = "))
+        {
+            let words: Vec<&str> = changed.split_whitespace().collect();
+            let at: usize = words[2].parse().unwrap();
+            let xor: u8 = words[4].trim_end_matches(':').parse().unwrap();
+            let mut other = sections.clone();
+            other[5][at] ^= xor;
+            inputs.push(input(
+                format!("sitting {number}, {changed}"),
+                framed(&other),
+                Some(&line(words[6])),
+            ));
+        }
+    }
+    assert!(!inputs.is_empty());
+    inputs
+}
