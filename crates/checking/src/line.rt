@@ -75,13 +75,9 @@ pub fn write_line(outcome: Checked, out: &mut [u8]) -> usize
             Verdict::Accepted => put_line(out, b"accepted", 0, 0),
             Verdict::Refused(refusal) => {
                 let reason = refusal.reason;
-                let place = refusal.place;
-                put_line(
-                    out,
-                    b"refused",
-                    format::number(reason) as usize,
-                    place as usize,
-                )
+                let number = format::number(reason) as usize;
+                let place = refusal.place as usize;
+                put_line(out, b"refused", number, place)
             }
         },
     }

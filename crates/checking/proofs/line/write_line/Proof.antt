@@ -1,4 +1,4 @@
--- `checking::line::write_line` meets its contract.
+-- `checking::line::write_line` meets its contract, case by case.
 -- Assumes nothing.
 use mathlib.Core.Path.{sym, ap, _∙_}
 use Rattle.protocol.specs.Check.{decimal, lineOf}
@@ -31,17 +31,17 @@ put-line-requires-2 c κs = search needs
 enum-known-verdict : tie.Need-enum-known-verdict
 enum-known-verdict c = search needs
 
-slice-aggregate-put-line-3 : tie.Need-slice-aggregate-put-line-3
-slice-aggregate-put-line-3 c = search needs
-
 number-requires : tie.Need-number-requires
 number-requires c κs = search needs
 
-cast-put-line : tie.Need-cast-put-line
-cast-put-line c = search needs
+cast-number : tie.Need-cast-number
+cast-number c = search needs
 
-cast-put-line-2 : tie.Need-cast-put-line-2
-cast-put-line-2 c = search needs
+cast-place : tie.Need-cast-place
+cast-place c = search needs
+
+slice-aggregate-put-line-3 : tie.Need-slice-aggregate-put-line-3
+slice-aggregate-put-line-3 c = search needs
 
 put-line-requires-3 : tie.Need-put-line-requires-3
 put-line-requires-3 c κs = search needs
@@ -71,7 +71,9 @@ returns-3 : tie.Need-returns-3
 unfolding lineOf
 returns-3 c =
     let put = c .before .before .put-line3 in
-    (put .ensures .0, put .ensures .1 ∙ rw (c .before .before .before .before .before .before .before .before .before .before .outcome .given .1, c .before .before .before .before .before .before .before .verdict .given .1, c .before .before .before .number .ensures .0))
+    let numbered = c .before .before .before .before .before .before in
+    let known = numbered .before .before in
+    (put .ensures .0, put .ensures .1 ∙ rw (known .before .before .before .outcome .given .1, known .verdict .given .1, numbered .number .ensures .0))
 
 pub write-line-spec : {M : Type 1} → statement M
 write-line-spec =
@@ -85,10 +87,10 @@ write-line-spec =
     slice-aggregate-put-line-2
     put-line-requires-2
     enum-known-verdict
-    slice-aggregate-put-line-3
     number-requires
-    cast-put-line
-    cast-put-line-2
+    cast-number
+    cast-place
+    slice-aggregate-put-line-3
     put-line-requires-3
     same-length
     returns
