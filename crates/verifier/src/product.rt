@@ -50,7 +50,7 @@ pub fn product_lanes(
     tau: usize,
     table: &[u8],
 )
-    requires { ⌜ (length (now left) ≡ lanes) × (length (now delta) ≡ lanes) × (n ≤ 160) × (tau ≤ lanes) × (length (now a) ≡ m * (n * bytesFor n)) × (length (now b) ≡ m * bytesFor n) × (m ≤ length (now y) * 8) × (length (now chi) ≡ tau * m) × ((n + gf256 .degree) * lanes ≤ length (now table)) × (m ≤ 160) ⌝ }
+    requires { ⌜ (length (now left) ≡ lanes) × (length (now delta) ≡ lanes) × (n ≤ 160) × (tau ≤ lanes) × (length (now a) ≡ m * (n * bytesFor n)) × (length (now b) ≡ m * bytesFor n) × (m ≤ length (now y) * 8) × (length (now chi) ≡ tau * m) × ((n + gf256 .degree) * lanes ≤ length (now table)) × (0 < m) × (m ≤ 160) × (0 < tau) ⌝ }
     ensures { λ _. ⌜ ((e : ℕ) → e < tau → byteAt (now (left .exit)) e ≡ productByte n m (now (a .entry)) (now (b .entry)) (now (y .entry)) (now (chi .entry)) (byteAt (now (delta .entry)) e) (now (table .entry)) e) ⌝ }
 {
     let mut linear = [0u8; LANES];

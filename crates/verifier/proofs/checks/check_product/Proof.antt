@@ -85,7 +85,9 @@ product-lanes-requires c κs =
       omega (arith, y, bits-fit (shape .m)),
       s .pre .4,
       omega (arith, c .before .before .before .before .before .before .before .before .add-difference .kept .0, s .pre .5 .table-length, mask-fits shape),
+      in-limits shape within .m-least,
       in-limits shape within .m-most,
+      in-limits shape within .τ-least,
     )
 
 slice-aggregate-first-differing : tie.Need-slice-aggregate-first-differing
