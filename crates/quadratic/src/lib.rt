@@ -1,7 +1,6 @@
 // The equations of a key: whether a witness solves them, their forms at the vectors of all repetitions, and the sums that the batching bytes make of them.
 pub mod batch;
 pub mod equations;
-pub mod forms;
 
 // As many as a key may have variables (01: 1..160).
 pub const VARIABLES: usize = 160;
