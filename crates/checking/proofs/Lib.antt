@@ -1,3 +1,4 @@
 pub mod LengthLaws
 pub mod LineLaws
 pub mod OutcomeLaws
+pub mod ReadBack

@@ -1,6 +1,6 @@
 -- When the check program's input is unread, and what is answered where it is read.
 -- Assumes nothing.
-use mathlib.Core.Path.{_≡_, refl, sym, ap, _∙_}
+use mathlib.Core.Path.{_≡_, refl, sym, ap}
 use mathlib.Core.Bool.{Bool, true, false, _&&_, not, false≢true}
 use mathlib.Core.List.{List}
 use Prim.Native.Nat.{ℕ, _≤_, _<_}
@@ -9,7 +9,7 @@ use lib.ListN.{length}
 use Rattle.protocol.specs.Frames.{framed}
 use Rattle.protocol.specs.Binary.{bits256}
 use Rattle.protocol.specs.Calls.{verifyAnswer}
-use Rattle.protocol.specs.Check.{Checked, answered, unread, lengthsIn, readable, checkOf}
+use Rattle.protocol.specs.Check.{answered, unread, lengthsIn, readable, checkOf}
 use Rattle.protocol.proofs.TestLaws.{leb-yes, leb-no, both-true}
 use Rattle.checking.specs.Checked.{verifyParts}
 

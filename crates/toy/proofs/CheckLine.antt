@@ -6,13 +6,13 @@ use mathlib.Core.Bool.{true, false}
 use mathlib.Core.List.{List, [], _∷_, _++_}
 use Prim.Native.Nat.{ℕ}
 use lib.ListN.{take}
-use Rattle.protocol.specs.Frames.{num2, num4, count4, frame, framed, sectionNo}
+use Rattle.protocol.specs.Frames.{sectionNo}
 use Rattle.protocol.specs.Shape.{shapeOf}
 use Rattle.protocol.specs.Counting.{opening}
 use Rattle.protocol.specs.Answers.{Answer, accepted, refused}
 use Rattle.protocol.specs.Calls.{verifyAnswer}
-use Rattle.protocol.specs.Check.{Checked, answered, unread, lengthsIn, readable, checkOf, decimalDigits, decimal, lineOf, checkLine}
-use Rattle.toy.specs.Toy.{A, keyWith, key, leaves, H′, χ, proofWith, proof, proofQS1, proofũ, answerAt}
+use Rattle.protocol.specs.Check.{answered, unread, lengthsIn, readable, checkOf, decimalDigits, decimal, lineOf, checkLine}
+use Rattle.toy.specs.Toy.{A, key, leaves, H′, χ, proofWith, answerAt}
 use Rattle.toy.specs.CheckLine.{inputWith, input, lineAccepted, line15, line14, lineUnread, CheckLines}
 use Rattle.toy.proofs.Computing.{computing}
 use Rattle.toy.proofs.Verifier.{proof-at-02, QS1-changed-at-02, ũ-changed-at-02}

@@ -6,7 +6,7 @@
 use mathlib.Core.Path.{_≡_}
 use mathlib.Core.List.{List, [], _∷_, _++_}
 use Prim.Native.Nat.{ℕ}
-use lib.ListN.{drop, take, length, replicate}
+use lib.ListN.{take}
 use Rattle.protocol.specs.Frames.{frame}
 use Rattle.protocol.specs.Shape.{shapeOf}
 use Rattle.protocol.specs.Counting.{opening}

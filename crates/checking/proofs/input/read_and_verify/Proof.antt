@@ -1,11 +1,9 @@
 -- `checking::input::read_and_verify` meets its contract.
 -- Assumes nothing.
 use mathlib.Core.Path.{_≡_, sym, ap, _∙_}
-use mathlib.Core.Bool.{true}
 use native.Mathlib.Omega.{arith}
 use denote.Ref.{now}
-use lib.ListN.{length}
-use Rattle.protocol.specs.Frames.{framed, framedLength}
+use Rattle.protocol.specs.Frames.{framedLength}
 use Rattle.protocol.specs.Check.{answered, lengthsIn}
 use Rattle.format.proofs.SectionLaws.{framed-length}
 use borrow.Author.Needs.{needs}

@@ -1,11 +1,11 @@
 -- `checking::line::put_decimal` meets its contract: the digits of a tenth, then the last one. The measure is the number.
 -- Assumes nothing.
-use mathlib.Core.Path.{_≡_, sym, ap, subst, _∙_}
+use mathlib.Core.Path.{sym, ap, subst, _∙_}
 use mathlib.Core.List.{[], _∷_, _++_, append-assoc}
 use Prim.Native.Nat.{ℕ, _+_, _/_, _%_, _≤_, _<_}
 use native.Mathlib.Omega.{arith}
 use denote.Ref.{now}
-use lib.ListN.{length, take}
+use lib.ListN.{take}
 use borrow.Author.Needs.{needs}
 use Rattle.protocol.specs.Check.{decimal}
 use Rattle.checking.proofs.LineLaws.{decimal-one, decimal-more, length-one, length-more}

@@ -1,10 +1,8 @@
 -- `checking::line::put_line` meets its contract: the parts, one after the other.
 -- Assumes nothing.
-use mathlib.Core.Path.{_≡_, ap, _∙_}
+use mathlib.Core.Path.{ap, _∙_}
 use mathlib.Core.List.{[], _∷_, _++_}
-use native.Mathlib.Omega.{arith}
 use denote.Ref.{now}
-use lib.ListN.{length}
 use Rattle.protocol.specs.Check.{decimal}
 use Rattle.checking.proofs.LineLaws.{line-parts}
 use borrow.Author.Needs.{needs}

@@ -1,11 +1,10 @@
 -- `checking::line::put_number` meets its contract.
 -- Assumes nothing.
-use mathlib.Core.Path.{_≡_, ap, _∙_}
+use mathlib.Core.Path.{ap, _∙_}
 use mathlib.Core.List.{[], _∷_, _++_, append-assoc}
-use Prim.Native.Nat.{_≤_}
 use native.Mathlib.Omega.{arith}
 use denote.Ref.{now}
-use lib.ListN.{length, take}
+use lib.ListN.{take}
 use Rattle.protocol.specs.Check.{decimal}
 use Rattle.checking.proofs.LineLaws.{five-digits}
 use borrow.Author.Needs.{needs}

@@ -1,7 +1,7 @@
 -- `checking::line::write_line` meets its contract, case by case.
 -- Assumes nothing.
 use mathlib.Core.Path.{sym, ap, _∙_}
-use Rattle.protocol.specs.Check.{decimal, lineOf}
+use Rattle.protocol.specs.Check.{lineOf}
 use Rattle.checking.specs.Checked.{checkedOf}
 use borrow.Author.Needs.{needs}
 use Rattle.checking.proofs.line.write_line.Statement.{statement}
