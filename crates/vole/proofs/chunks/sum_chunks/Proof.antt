@@ -1,9 +1,10 @@
 -- `vole::chunks::sum_chunks` meets its contract. The invariant: the bytes before `at` are summed.
 -- Assumes nothing.
 use borrow.Author.Needs.{needs}
-use Prim.Native.Nat.{_+_, _*_, _-_}
-use mathlib.Core.Path.{_≡_, _∙_}
+use Prim.Native.Nat.{ℕ, _+_, _*_, _-_}
+use mathlib.Core.Path.{_≡_, _∙_, subst}
 use native.Mathlib.Omega.{arith}
+use denote.Ref.{now}
 use lib.ListN.{length}
 use Rattle.vole.specs.Trees.{leafByte, Summed}
 use Rattle.vole.proofs.chunks.sum_chunks.Statement.{statement}
@@ -48,7 +49,7 @@ returns c =
     let l = c .before .before .before .before .before .before .before .before .loop in
     let more = c .before .before .before .before .sum-chunk2 in
     let end : a .w - 16 + 16 ≡ a .w = omega arith in
-    rw end at (more .ensures (l .at) (omega arith) (l .inv .2))
+    subst (λ (n : ℕ). Summed (leafByte (now (a .tree)) (a .w) (a .delta)) (a .count) (a .r) (a .w) (more .last .0) (more .last .1 .0) n) end (more .ensures (l .at) (omega arith) (l .inv .2))
 
 pub sum-chunks-spec : {M : Type 1} → statement M
 sum-chunks-spec =
