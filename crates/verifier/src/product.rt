@@ -19,7 +19,7 @@ fn weigh(row: &[u8], y: &[u8]) -> u8
     let mut sum: u8 = 0;
     let mut i = 0;
     while i < row.len() {
-        sum ^= row[0] * strings::bit_at(y, i);
+        sum ^= row[i] * strings::bit_at(y, i);
         i += 1;
     }
     sum
