@@ -412,9 +412,9 @@ static void print_shapes(double taken[SHAPES][BY])
             printf("%13.4f x %4.2f", taken[i][b], taken[i][b] / taken[BASE][b]);
         printf("%12.2f%15.2f\n", taken[i][BY_LIBRARY] / taken[i][BY_C], taken[i][BY_LIBRARY] / taken[i][BY_PLAIN]);
     }
-    printf("A row costs n/4 look-ups and one product, so the time grows less than n^2. C has 16 repetitions to a\n"
-           "register, library and plain have 48 side by side whatever tau is: the forms cost the same for fewer, and\n"
-           "only leaf sums and hashes grow with each repetition.\n");
+    printf("The library sums the matrices for each repetition. In C and plain a row costs n/4 look-ups and one product,\n"
+           "so their times grow less than n^2; C has 16 repetitions to a register, and plain 48 side by side, whatever\n"
+           "tau is: there the forms cost the same for fewer.\n");
 }
 
 /* ---- The plot ----------------------------------------------------------------------------- */

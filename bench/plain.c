@@ -1,7 +1,7 @@
 /*
- * Prover and verifier in C by the algorithm that the library is designed for, so that the two differ in
- * language and compiler alone. (baseline.c has a faster algorithm.) In the prover no branch and no address
- * depends on leaves or witness, but for what the answer tells.
+ * Prover and verifier in C, in plain loops, equation by equation: the algorithm that the library had before
+ * it summed the matrices first. (baseline.c has a faster one.) In the prover no branch and no address depends
+ * on leaves or witness, but for what the answer tells.
  *
  * Leaf sums: three exclusive ors for a leaf, into bit planes. Forms: all repetitions side by side, a
  * byte each, with a stride of 48; a row's sum is looked up, four coordinates at a time, in a table of
