@@ -20,7 +20,7 @@
  *
  * Every byte string is lent as a pointer and a length, and stays the caller's. The library
  * allocates nothing, keeps nothing between two calls, and has no global state: any number of
- * calls may run at the same time.
+ * calls may run at the same time. A call takes less than 256 KiB of stack (measured, not proved).
  *
  * Every call ends, whatever bytes it is lent, and answers one word:
  *
