@@ -1,6 +1,6 @@
 pub mod BlockLaws
+pub mod ChoiceLaws
 pub mod ColumnLaws
 pub mod EntryLaws
 pub mod FormLaws
-pub mod SelectLaws
 pub mod StackLaws

@@ -2,12 +2,10 @@
 --   chunk == the bytes of a chunk: four rows of a matrix of at most 160 variables;  cellAt S i f == byte f of row i
 --   entryByte S k f == byte f of entry k of the table of sums: of the rows 4·⌊k/16⌋ + s, s < 4, those with bit s of k mod 16 set
 --   Tabled S sums count == sums holds the first count entries, one after the other
---   lookedUp count row sums f == the sum of the entries that the first count bytes of a row of bits choose, two for each byte
 -- Assumes nothing.
 use mathlib.Core.Path.{_≡_}
 use mathlib.Core.List.{List}
 use Prim.Native.Nat.{ℕ, _+_, _*_, _/_, _%_, _<_}
-use lib.Bits.{bitXor}
 use Rattle.strings.specs.Sums.{byteAt, bitOf, xorSum}
 
 abbrev pub chunk : ℕ
@@ -21,6 +19,3 @@ entryByte S k f = xorSum 4 (λ s. bitOf (k % 16) s * cellAt S (k / 16 * 4 + s) f
 
 abbrev pub Tabled : List ℕ → List ℕ → ℕ → Type 0
 Tabled S sums count = (k f : ℕ) → k < count → f < chunk → cellAt sums k f ≡ entryByte S k f
-
-abbrev pub lookedUp : ℕ → List ℕ → List ℕ → ℕ → ℕ
-lookedUp count row sums f = xorSum count (λ b. bitXor (cellAt sums (b * 32 + byteAt row b % 16) f) (cellAt sums (b * 32 + 16 + byteAt row b / 16) f))

@@ -3,8 +3,10 @@
 --   alpha s == α^s as a byte, where α is the element 02
 --   stackAt t f z == the value of a stack at bit z of byte f;  stackOf T e f z == that of stack e of a table of them
 --   Masks v masks == masks holds eight masks: byte f of mask b is 255 where bit b of byte f of v is set, and 0 elsewhere
---   Planed χ m w X r == row r of X, of w bytes, is plane r mod 8 of the m bytes χ of repetition ⌊r/8⌋
---   Weighed S χ m sums X w r == sums is the table of the m rows S, and the eight rows of X from r on, of w bytes, are the planes of the bytes χ
+--   choice χ p g == the number that bit p of each of the bytes χ(4·g), .., χ(4·g + 3) writes, the first lowest
+--   Chosen χ m G O r == row r of O is G offsets: offset g is that of the entry, among the sixteen of the rows 4·g, .., 4·g + 3, which
+--     bit r mod 8 of the m bytes χ of repetition ⌊r/8⌋ chooses
+--   Weighed S χ m sums O G r == sums is the table of the m rows S, and the eight rows of O from r on are the offsets which the bits of χ choose
 --   foldOf T e w j z == the sum of the values of stack e at bit z of byte j of each of four parts of w bytes
 --   Spread xs w masks k == row k of masks, of a chunk, is four masks of w bytes: mask g is 255 where byte 4·k + g of xs is 1, and 0 where it is 0
 --   batchedByte w size m A χ e ρ j z == Σ_i χ(e, i)·A_i(ρ, 8·j + z), where A_i is string i of A, of size bytes, in rows of w bytes
@@ -17,7 +19,6 @@ use lib.ListN.{length}
 use Rattle.algebra.specs.Coded.{mulByte, powByte}
 use Rattle.field.specs.Gf256.{gf256}
 use Rattle.protocol.specs.Lists.{blockAt}
-use Rattle.protocol.specs.Strings.{bit}
 use Rattle.strings.specs.Sums.{byteAt, bitOf, xorSum}
 use Rattle.lanes.specs.Lanes.{laneAt}
 use Rattle.batching.specs.Chunks.{chunk, Tabled}
@@ -43,11 +44,14 @@ stackOf T e f z = xorSum planes (λ s. bitOf (byteAt T (e * stack + (s * chunk +
 abbrev pub Masks : List ℕ → List ℕ → Type 0
 Masks v masks = (b f : ℕ) → b < 8 → f < chunk → byteAt masks (b * chunk + f) ≡ bitOf (byteAt v f) b * 255
 
-abbrev pub Planed : List ℕ → ℕ → ℕ → List ℕ → ℕ → Type 0
-Planed χ m w X r = (i : ℕ) → i < m → bit (blockAt X w r) i ≡ bitOf (byteAt χ (r / 8 * m + i)) (r % 8)
+unfoldable pub choice : (ℕ → ℕ) → ℕ → ℕ → ℕ
+choice χ p g = bitOf (χ (g * 4)) p + bitOf (χ (g * 4 + 1)) p * 2 + bitOf (χ (g * 4 + 2)) p * 4 + bitOf (χ (g * 4 + 3)) p * 8
+
+abbrev pub Chosen : List ℕ → ℕ → ℕ → List ℕ → ℕ → Type 0
+Chosen χ m G O r = (g : ℕ) → g < G → byteAt O (r * G + g) ≡ (g * 16 + choice (byteAt (blockAt χ m (r / 8))) (r % 8) g) * chunk
 
 abbrev pub Weighed : List ℕ → (ℕ → ℕ) → ℕ → List ℕ → List ℕ → ℕ → ℕ → Type 0
-Weighed S χ m sums X w r = Tabled S sums (w * 32) × (length S ≡ m * chunk) × (m ≤ w * 8) × ((i : ℕ) → i < m → χ i < 256) × ((p i : ℕ) → p < 8 → i < m → bit (blockAt X w (r + p)) i ≡ bitOf (χ i) p)
+Weighed S χ m sums O G r = Tabled S sums (G * 16) × (length S ≡ m * chunk) × (m ≤ G * 4) × ((i : ℕ) → i < m → χ i < 256) × ((p g : ℕ) → p < 8 → g < G → byteAt O ((r + p) * G + g) ≡ (g * 16 + choice χ p g) * chunk)
 
 unfoldable pub foldOf : List ℕ → ℕ → ℕ → ℕ → ℕ → ℕ
 foldOf T e w j z = xorSum 4 (λ g. stackOf T e (g * w + j) z)

@@ -4,11 +4,10 @@ ghost use mathlib.Core.List.{List};
 ghost use Prim.Native.Nat.{ℕ, _+_, _*_, _/_, _%_, _<_, _≤_};
 ghost use lib.ListN.{length};
 ghost use lib.Bits.{bitXor};
-ghost use Rattle.protocol.specs.Strings.{bytesFor};
 ghost use Rattle.strings.specs.Sums.{byteAt, xorSum};
 ghost use Rattle.lanes.specs.Lanes.{lanes, laneAt};
 ghost use Rattle.batching.specs.Chunks.{chunk};
-ghost use Rattle.batching.specs.Stacks.{product, Planed, columnByte};
+ghost use Rattle.batching.specs.Stacks.{product, Chosen, columnByte};
 use super::stacks::STACK;
 use lanes::LANES;
 
@@ -20,8 +19,8 @@ pub fn add_forms(
     a: &[u8],
     count: usize,
     left: &[u8],
-    planes: &[u8],
-    w: usize,
+    offsets: &[u16],
+    groups: usize,
     m: usize,
     tau: usize,
     width: usize,
@@ -29,11 +28,11 @@ pub fn add_forms(
     table: &[u8],
     xs: &[u8],
 )
-    requires { ⌜ (length (now quad) ≡ lanes) × (length (now right) ≡ lanes) × (length (now a) ≡ m * (count * width)) × (count ≤ 160) × (length (now left) ≡ count * lanes) × (w ≡ bytesFor m) × (tau * 8 * w ≤ length (now planes)) × (m ≤ 160) × (tau ≤ lanes) × (4 * width ≤ chunk) × (length (now table) ≡ n * lanes) × (width * 8 ≤ length (now xs)) × ((c : ℕ) → byteAt (now xs) c < 2) × (0 < m) × (0 < tau) ⌝ }
-    ensures { λ _. ⌜ ((χ : List ℕ) (e : ℕ) → ((k : ℕ) → byteAt χ k < 256) → ((r : ℕ) → r < tau * 8 → Planed χ m w (now (planes .entry)) r) → e < tau → byteAt (now (quad .exit)) e ≡ bitXor (byteAt (now (quad .entry)) e) (xorSum (width * 8) (λ c. product (laneAt (now (table .entry)) c e) (columnByte count width m (now (a .entry)) (now (left .entry)) χ e (c / 8) (c % 8))))) ⌝ }
-    ensures { λ _. ⌜ ((χ : List ℕ) (e : ℕ) → ((k : ℕ) → byteAt χ k < 256) → ((r : ℕ) → r < tau * 8 → Planed χ m w (now (planes .entry)) r) → e < tau → byteAt (now (right .exit)) e ≡ bitXor (byteAt (now (right .entry)) e) (xorSum (width * 8) (λ c. byteAt (now (xs .entry)) c * columnByte count width m (now (a .entry)) (now (left .entry)) χ e (c / 8) (c % 8)))) ⌝ }
+    requires { ⌜ (length (now quad) ≡ lanes) × (length (now right) ≡ lanes) × (length (now a) ≡ m * (count * width)) × (count ≤ 160) × (length (now left) ≡ count * lanes) × (groups ≡ (m + 3) / 4) × (tau * 8 * groups ≤ length (now offsets)) × ((k : ℕ) → k < tau * 8 * groups → byteAt (now offsets) k + chunk ≤ 51200) × (m ≤ 160) × (tau ≤ lanes) × (4 * width ≤ chunk) × (length (now table) ≡ n * lanes) × (width * 8 ≤ length (now xs)) × ((c : ℕ) → byteAt (now xs) c < 2) × (0 < m) × (0 < tau) ⌝ }
+    ensures { λ _. ⌜ ((χ : List ℕ) (e : ℕ) → ((k : ℕ) → byteAt χ k < 256) → ((r : ℕ) → r < tau * 8 → Chosen χ m groups (now (offsets .entry)) r) → e < tau → byteAt (now (quad .exit)) e ≡ bitXor (byteAt (now (quad .entry)) e) (xorSum (width * 8) (λ c. product (laneAt (now (table .entry)) c e) (columnByte count width m (now (a .entry)) (now (left .entry)) χ e (c / 8) (c % 8))))) ⌝ }
+    ensures { λ _. ⌜ ((χ : List ℕ) (e : ℕ) → ((k : ℕ) → byteAt χ k < 256) → ((r : ℕ) → r < tau * 8 → Chosen χ m groups (now (offsets .entry)) r) → e < tau → byteAt (now (right .exit)) e ≡ bitXor (byteAt (now (right .entry)) e) (xorSum (width * 8) (λ c. byteAt (now (xs .entry)) c * columnByte count width m (now (a .entry)) (now (left .entry)) χ e (c / 8) (c % 8)))) ⌝ }
 {
     let mut stacks = [0u8; LANES * STACK];
-    super::stacks::collect(&mut stacks, a, count, width, m, tau, planes, w, left);
+    super::stacks::collect(&mut stacks, a, count, width, m, tau, offsets, groups, left);
     super::columns::finish(quad, right, &stacks, width, tau, n, table, xs);
 }

@@ -2,7 +2,7 @@
 pub mod cells;
 pub mod columns;
 pub mod forms;
-pub mod planes;
+pub mod offsets;
 pub mod stacks;
 pub mod sums;
 pub mod witness;

@@ -1,15 +1,14 @@
-// The batched matrix times the vectors of the repetitions. The planes are public; the vectors and the stacks are secret: no branch and no
+// The batched matrix times the vectors of the repetitions. The offsets are public; the vectors and the stacks are secret: no branch and no
 // index goes by them.
 ghost use mathlib.Core.Path.{_≡_};
 ghost use mathlib.Core.List.{List};
 ghost use Prim.Native.Nat.{ℕ, _+_, _*_, _/_, _%_, _<_, _≤_};
 ghost use lib.ListN.{length};
 ghost use lib.Bits.{bitXor, bitAnd};
-ghost use Rattle.protocol.specs.Strings.{bytesFor};
 ghost use Rattle.strings.specs.Sums.{byteAt, bitOf, xorSum};
 ghost use Rattle.lanes.specs.Lanes.{lanes, laneAt};
 ghost use Rattle.batching.specs.Chunks.{chunk, cellAt, Tabled};
-ghost use Rattle.batching.specs.Stacks.{stack, alpha, product, stackAt, stackOf, Masks, Planed, Weighed, batchedByte};
+ghost use Rattle.batching.specs.Stacks.{stack, alpha, product, stackAt, stackOf, Masks, Chosen, Weighed, batchedByte};
 use super::CHUNK;
 use lanes::LANES;
 
@@ -124,15 +123,19 @@ fn absorb_plane(t: &mut [u8], p: usize, m: &[u8], masks: &[u8])
     }
 }
 
-// Adds to a stack the chunk of the batched matrix times v: the sum of the rows S, each times its byte χ, whose planes are rows of `planes`.
-fn absorb(t: &mut [u8], planes: &[u8], base: usize, w: usize, sums: &[u8], masks: &[u8])
-    requires { ⌜ (length (now t) ≡ stack) × ((base + 8) * w ≤ length (now planes)) × (w * 32 * chunk ≤ length (now sums)) × (length (now masks) ≡ 8 * chunk) × (base ≤ 1000) ⌝ }
-    ensures { λ _. ⌜ ((S v : List ℕ) (χ : ℕ → ℕ) (m f z : ℕ) → Weighed S χ m (now (sums .entry)) (now (planes .entry)) w base → Masks v (now (masks .entry)) → byteAt v f < 256 → f < chunk → stackAt (now (t .exit)) f z ≡ bitXor (stackAt (now (t .entry)) f z) (product (byteAt v f) (xorSum m (λ i. bitOf (cellAt S i f) z * χ i)))) ⌝ }
+// Adds to a stack the chunk of the batched matrix times v: the sum of the rows S, each times its byte χ, whose bits chose the offsets.
+fn absorb(t: &mut [u8], offsets: &[u16], base: usize, groups: usize, sums: &[u8], masks: &[u8])
+    requires { ⌜ (length (now t) ≡ stack) × ((base + 8) * groups ≤ length (now offsets)) × ((k : ℕ) → k < (base + 8) * groups → byteAt (now offsets) k + chunk ≤ length (now sums)) × (length (now masks) ≡ 8 * chunk) × (base ≤ 1000) ⌝ }
+    ensures { λ _. ⌜ ((S v : List ℕ) (χ : ℕ → ℕ) (m f z : ℕ) → Weighed S χ m (now (sums .entry)) (now (offsets .entry)) groups base → Masks v (now (masks .entry)) → byteAt v f < 256 → f < chunk → stackAt (now (t .exit)) f z ≡ bitXor (stackAt (now (t .entry)) f z) (product (byteAt v f) (xorSum m (λ i. bitOf (cellAt S i f) z * χ i)))) ⌝ }
 {
     let mut p = 0;
     while p < 8 {
         let mut sum = [0u8; CHUNK];
-        super::sums::look_up_row(&mut sum, strings::row_at(planes, w, base + p), sums);
+        super::sums::look_up(
+            &mut sum,
+            super::offsets::row_at(offsets, groups, base + p),
+            sums,
+        );
         absorb_plane(t, p, &sum, masks);
         p += 1;
     }
@@ -142,16 +145,16 @@ fn absorb(t: &mut [u8], planes: &[u8], base: usize, w: usize, sums: &[u8], masks
 fn absorb_lane(
     stacks: &mut [u8],
     e: usize,
-    planes: &[u8],
-    w: usize,
+    offsets: &[u16],
+    groups: usize,
     sums: &[u8],
     table: &[u8],
     first: usize,
     n: usize,
     width: usize,
 )
-    requires { ⌜ (e * stack + stack ≤ length (now stacks)) × ((e * 8 + 8) * w ≤ length (now planes)) × (w * 32 * chunk ≤ length (now sums)) × (length (now table) ≡ n * lanes) × (e < lanes) × (first < n) × (4 * width ≤ chunk) ⌝ }
-    ensures { λ _. ⌜ ((S : List ℕ) (χ : ℕ → ℕ) (m g j z : ℕ) → Weighed S χ m (now (sums .entry)) (now (planes .entry)) w (e * 8) → g < 4 → j < width → stackOf (now (stacks .exit)) e (g * width + j) z ≡ bitXor (stackOf (now (stacks .entry)) e (g * width + j) z) (product (laneAt (now (table .entry)) (first + g) e) (xorSum m (λ i. bitOf (cellAt S i (g * width + j)) z * χ i)))) ⌝ }
+    requires { ⌜ (e * stack + stack ≤ length (now stacks)) × ((e * 8 + 8) * groups ≤ length (now offsets)) × ((k : ℕ) → k < (e * 8 + 8) * groups → byteAt (now offsets) k + chunk ≤ length (now sums)) × (length (now table) ≡ n * lanes) × (e < lanes) × (first < n) × (4 * width ≤ chunk) ⌝ }
+    ensures { λ _. ⌜ ((S : List ℕ) (χ : ℕ → ℕ) (m g j z : ℕ) → Weighed S χ m (now (sums .entry)) (now (offsets .entry)) groups (e * 8) → g < 4 → j < width → stackOf (now (stacks .exit)) e (g * width + j) z ≡ bitXor (stackOf (now (stacks .entry)) e (g * width + j) z) (product (laneAt (now (table .entry)) (first + g) e) (xorSum m (λ i. bitOf (cellAt S i (g * width + j)) z * χ i)))) ⌝ }
     ensures { λ _. ⌜ ((q b : ℕ) → (q ≡ e → ⊥) → b < stack → byteAt (now (stacks .exit)) (q * stack + b) ≡ byteAt (now (stacks .entry)) (q * stack + b)) ⌝ }
 {
     let mut v = [0u8; CHUNK];
@@ -159,27 +162,27 @@ fn absorb_lane(
     spread(&mut v, table, first, n, e, width);
     fill_masks(&mut masks, &v);
     let at = e * STACK;
-    absorb(&mut stacks[at..at + STACK], planes, e * 8, w, sums, &masks);
+    absorb(&mut stacks[at..at + STACK], offsets, e * 8, groups, sums, &masks);
 }
 
 // The same for each of the tau repetitions.
 fn absorb_lanes(
     stacks: &mut [u8],
     tau: usize,
-    planes: &[u8],
-    w: usize,
+    offsets: &[u16],
+    groups: usize,
     sums: &[u8],
     table: &[u8],
     first: usize,
     n: usize,
     width: usize,
 )
-    requires { ⌜ (tau * stack ≤ length (now stacks)) × (tau * 8 * w ≤ length (now planes)) × (w * 32 * chunk ≤ length (now sums)) × (length (now table) ≡ n * lanes) × (tau ≤ lanes) × (first < n) × (4 * width ≤ chunk) ⌝ }
-    ensures { λ _. ⌜ ((S : List ℕ) (χ : ℕ → ℕ → ℕ) (m e g j z : ℕ) → ((q : ℕ) → q < tau → Weighed S (χ q) m (now (sums .entry)) (now (planes .entry)) w (q * 8)) → e < tau → g < 4 → j < width → stackOf (now (stacks .exit)) e (g * width + j) z ≡ bitXor (stackOf (now (stacks .entry)) e (g * width + j) z) (product (laneAt (now (table .entry)) (first + g) e) (xorSum m (λ i. bitOf (cellAt S i (g * width + j)) z * χ e i)))) ⌝ }
+    requires { ⌜ (tau * stack ≤ length (now stacks)) × (tau * 8 * groups ≤ length (now offsets)) × ((k : ℕ) → k < tau * 8 * groups → byteAt (now offsets) k + chunk ≤ length (now sums)) × (length (now table) ≡ n * lanes) × (tau ≤ lanes) × (first < n) × (4 * width ≤ chunk) ⌝ }
+    ensures { λ _. ⌜ ((S : List ℕ) (χ : ℕ → ℕ → ℕ) (m e g j z : ℕ) → ((q : ℕ) → q < tau → Weighed S (χ q) m (now (sums .entry)) (now (offsets .entry)) groups (q * 8)) → e < tau → g < 4 → j < width → stackOf (now (stacks .exit)) e (g * width + j) z ≡ bitXor (stackOf (now (stacks .entry)) e (g * width + j) z) (product (laneAt (now (table .entry)) (first + g) e) (xorSum m (λ i. bitOf (cellAt S i (g * width + j)) z * χ e i)))) ⌝ }
 {
     let mut e = 0;
     while e < tau {
-        absorb_lane(stacks, e, planes, w, sums, table, first, n, width);
+        absorb_lane(stacks, e, offsets, groups, sums, table, first, n, width);
         e += 1;
     }
 }
@@ -193,21 +196,21 @@ pub fn collect(
     width: usize,
     m: usize,
     tau: usize,
-    planes: &[u8],
-    w: usize,
+    offsets: &[u16],
+    groups: usize,
     table: &[u8],
 )
-    requires { ⌜ (tau * stack ≤ length (now stacks)) × (length (now a) ≡ m * (n * width)) × (n ≤ 160) × (m ≤ 160) × (w ≡ bytesFor m) × (tau * 8 * w ≤ length (now planes)) × (length (now table) ≡ n * lanes) × (tau ≤ lanes) × (4 * width ≤ chunk) × (0 < m) × (0 < tau) ⌝ }
-    ensures { λ _. ⌜ ((χ : List ℕ) (e g j z : ℕ) → ((k : ℕ) → byteAt χ k < 256) → ((r : ℕ) → r < tau * 8 → Planed χ m w (now (planes .entry)) r) → e < tau → g < 4 → j < width → stackOf (now (stacks .exit)) e (g * width + j) z ≡ bitXor (stackOf (now (stacks .entry)) e (g * width + j) z) (xorSum ((n + 3) / 4) (λ k. product (laneAt (now (table .entry)) (k * 4 + g) e) (batchedByte width (n * width) m (now (a .entry)) χ e (k * 4 + g) j z)))) ⌝ }
+    requires { ⌜ (tau * stack ≤ length (now stacks)) × (length (now a) ≡ m * (n * width)) × (n ≤ 160) × (m ≤ 160) × (groups ≡ (m + 3) / 4) × (tau * 8 * groups ≤ length (now offsets)) × ((k : ℕ) → k < tau * 8 * groups → byteAt (now offsets) k + chunk ≤ 51200) × (length (now table) ≡ n * lanes) × (tau ≤ lanes) × (4 * width ≤ chunk) × (0 < m) × (0 < tau) ⌝ }
+    ensures { λ _. ⌜ ((χ : List ℕ) (e g j z : ℕ) → ((k : ℕ) → byteAt χ k < 256) → ((r : ℕ) → r < tau * 8 → Chosen χ m groups (now (offsets .entry)) r) → e < tau → g < 4 → j < width → stackOf (now (stacks .exit)) e (g * width + j) z ≡ bitXor (stackOf (now (stacks .entry)) e (g * width + j) z) (xorSum ((n + 3) / 4) (λ k. product (laneAt (now (table .entry)) (k * 4 + g) e) (batchedByte width (n * width) m (now (a .entry)) χ e (k * 4 + g) j z)))) ⌝ }
 {
     let mut cells = [0u8; 160 * CHUNK];
     let mut sums = [0u8; 640 * CHUNK];
     let mut k = 0;
     while k * 4 < n {
         super::cells::load(&mut cells, a, n * width, k * 4 * width, 4 * width, m);
-        super::sums::fill_sums(&mut sums, w * 32, m, &cells[..m * CHUNK]);
+        super::sums::fill_sums(&mut sums, groups * 16, m, &cells[..m * CHUNK]);
         super::sums::add_first(stacks, &sums);
-        absorb_lanes(stacks, tau, planes, w, &sums, table, k * 4, n, width);
+        absorb_lanes(stacks, tau, offsets, groups, &sums, table, k * 4, n, width);
         k += 1;
     }
 }

@@ -1,19 +1,17 @@
-// Sums of the rows that public bits select. Four rows at a time, the sixteen sums of them are in a table, so that two additions serve eight rows.
+// Sums of the rows that public bits select. Four rows at a time, the sixteen sums of them are in a table, so that one addition serves four rows.
 ghost use mathlib.Core.Path.{_≡_};
 ghost use mathlib.Core.List.{List};
 ghost use Prim.Native.Nat.{ℕ, _+_, _*_, _/_, _%_, _^_, _<_, _≤_};
 ghost use lib.ListN.{length};
 ghost use lib.Bits.{bitXor};
-ghost use Rattle.strings.specs.Sums.{byteAt, selected};
+ghost use Rattle.strings.specs.Sums.{byteAt, xorSum};
 ghost use Rattle.batching.specs.Chunks.{chunk, cellAt, entryByte, Tabled};
 use super::CHUNK;
 
-// The entries of the table of sums for four rows, one for each value of half a byte; and for the eight of a byte.
+// The entries of the table of sums for four rows, one for each value of half a byte.
 const HALF: usize = 16;
 
-pub const PER_BYTE: usize = 32;
-
-fn wide(x: u8) -> usize
+fn wide(x: u16) -> usize
     ensures { λ r. ⌜ r ≡ x ⌝ }
 {
     x as usize
@@ -122,32 +120,6 @@ pub fn fill_sums(sums: &mut [u8], count: usize, n: usize, table: &[u8])
     }
 }
 
-// dst[e] ^= sums[low + e] ^ sums[high + e], for each lane. The count is a constant, so that a caller's local array stays in registers.
-fn xor_entries(dst: &mut [u8; CHUNK], sums: &[u8], low: usize, high: usize)
-    requires { ⌜ (low + chunk ≤ length (now sums)) × (high + chunk ≤ length (now sums)) × (length (now dst) ≡ chunk) ⌝ }
-    ensures { λ _. ⌜ length (now (dst .exit)) ≡ chunk ⌝ }
-    ensures { λ _. ⌜ ((e : ℕ) → e < chunk → byteAt (now (dst .exit)) e ≡ bitXor (byteAt (now (dst .entry)) e) (bitXor (byteAt (now (sums .entry)) (low + e)) (byteAt (now (sums .entry)) (high + e)))) ⌝ }
-{
-    let mut e = 0;
-    while e < CHUNK {
-        dst[e] ^= sums[low + e] ^ sums[high + e];
-        e += 1;
-    }
-}
-
-// Adds the two entries that byte b of a row, x, chooses. The row is public, so the table may be indexed by it.
-fn add_chosen(dst: &mut [u8; CHUNK], b: usize, x: u8, sums: &[u8])
-    requires { ⌜ ((b * 32 + 32) * chunk ≤ length (now sums)) × (length (now dst) ≡ chunk) ⌝ }
-    ensures { λ _. ⌜ length (now (dst .exit)) ≡ chunk ⌝ }
-    ensures { λ _. ⌜ ((e : ℕ) → e < chunk → byteAt (now (dst .exit)) e ≡ bitXor (byteAt (now (dst .entry)) e) (bitXor (cellAt (now (sums .entry)) (b * 32 + x % 16) e) (cellAt (now (sums .entry)) (b * 32 + 16 + x / 16) e))) ⌝ }
-{
-    let at = b * PER_BYTE * CHUNK;
-    let low = wide(x % 16) * CHUNK;
-    // The high half is taken where it stands, so that the compiler need not shift it down and up again.
-    let high = wide(x - x % 16) * (CHUNK / 16);
-    xor_entries(dst, sums, at + low, at + HALF * CHUNK + high);
-}
-
 fn copy_chunk(out: &mut [u8], src: &[u8; CHUNK])
     requires { ⌜ length (now out) ≡ chunk ⌝ }
     ensures { λ _. ⌜ ((e : ℕ) → e < chunk → byteAt (now (out .exit)) e ≡ byteAt (now (src .entry)) e) ⌝ }
@@ -159,16 +131,16 @@ fn copy_chunk(out: &mut [u8], src: &[u8; CHUNK])
     }
 }
 
-// out[e] = Σ row(c)·T[c][e] over the n coordinates of the table T that was summed: two additions for eight coordinates.
-pub fn look_up_row(out: &mut [u8], row: &[u8], sums: &[u8])
-    requires { ⌜ (length (now out) ≡ chunk) × (length (now row) * 32 * chunk ≤ length (now sums)) ⌝ }
-    ensures { λ _. ⌜ ((table : List ℕ) (n e : ℕ) → Tabled table (now (sums .entry)) (length (now (row .entry)) * 32) → length table ≡ n * chunk → n ≤ length (now (row .entry)) * 8 → e < chunk → byteAt (now (out .exit)) e ≡ selected n (now (row .entry)) table chunk e) ⌝ }
+// out[f] = the sum of byte f of the entries that stand at the offsets.
+pub fn look_up(out: &mut [u8], offsets: &[u16], sums: &[u8])
+    requires { ⌜ (length (now out) ≡ chunk) × ((g : ℕ) → g < length (now offsets) → byteAt (now offsets) g + chunk ≤ length (now sums)) ⌝ }
+    ensures { λ _. ⌜ ((f : ℕ) → f < chunk → byteAt (now (out .exit)) f ≡ xorSum (length (now (offsets .entry))) (λ g. byteAt (now (sums .entry)) (byteAt (now (offsets .entry)) g + f))) ⌝ }
 {
     let mut sum = [0u8; CHUNK];
-    let mut b = 0;
-    while b < row.len() {
-        add_chosen(&mut sum, b, row[b], sums);
-        b += 1;
+    let mut g = 0;
+    while g < offsets.len() {
+        add_at(&mut sum, sums, wide(offsets[g]));
+        g += 1;
     }
     copy_chunk(out, &sum);
 }

@@ -20,8 +20,8 @@ use super::VARIABLES;
 use super::WIDTH;
 use lanes::LANES;
 
-// The bytes of the planes of as many batching bytes as a key may have, and of a row of bits for each equation.
-const PLANES: usize = 8 * LANES * (EQUATIONS / 8);
+// The offsets that as many batching bytes as a key may have choose, and the bytes of a row of bits for each equation.
+const OFFSETS: usize = 8 * LANES * (EQUATIONS / 4);
 
 const ROWS: usize = EQUATIONS * WIDTH;
 
@@ -46,20 +46,20 @@ pub fn batch_forms(
     ensures { λ _. ⌜ ((e : ℕ) → e < tau → byteAt (now (lin .exit)) e ≡ bitXor (byteAt (now (lin .entry)) e) (batchByte m (now (chi .entry)) e (λ i. selected n (rowOf n (now (rows .entry)) i) (now (table .entry)) lanes e))) ⌝ }
     ensures { λ _. ⌜ ((x : List ℕ) (e : ℕ) → ((c : ℕ) → byteAt (now (xs .entry)) c ≡ bit x c) → e < tau → byteAt (now (right .exit)) e ≡ bitXor (byteAt (now (right .entry)) e) (batchByte m (now (chi .entry)) e (λ i. xorSum n (λ ρ. rowProduct (rowOf n (matrixOf n (now (a .entry)) i) ρ) x * laneAt (now (table .entry)) ρ e)))) ⌝ }
 {
-    let w = (m + 7) / 8;
+    let groups = (m + 3) / 4;
     let width = (n + 7) / 8;
-    let mut planes = [0u8; PLANES];
+    let mut offsets = [0u16; OFFSETS];
     let mut rest = [0u8; LANES];
     let ones = [1u8; LANES];
-    batching::planes::fill_planes(&mut planes, chi, m, w, tau);
+    batching::offsets::fill_offsets(&mut offsets, chi, m, groups, tau);
     batching::forms::add_forms(
         quad,
         right,
         a,
         n,
         table,
-        &planes,
-        w,
+        &offsets,
+        groups,
         m,
         tau,
         width,
@@ -73,8 +73,8 @@ pub fn batch_forms(
         rows,
         1,
         &ones,
-        &planes,
-        w,
+        &offsets,
+        groups,
         m,
         tau,
         width,

@@ -9,14 +9,14 @@ use denote.Ref.{now}
 use lib.ListN.{length}
 use lib.Bits.{bitXor, xor-zero-r}
 use Rattle.protocol.specs.Lists.{blockAt}
-use Rattle.protocol.specs.Strings.{bit}
-use Rattle.strings.specs.Sums.{byteAt, bitOf, xorSum, selected}
-use Rattle.strings.proofs.Rows.{row-end}
+use Rattle.strings.specs.Sums.{byteAt, bitOf, xorSum}
+use Rattle.strings.proofs.Rows.{row-end, row-byte}
 use Rattle.strings.proofs.SumLaws.{sum-same, sum-step}
 use Rattle.strings.proofs.Meaning.{bitOf-lt, bitOf-sum, bit-times}
 use Rattle.batching.specs.Chunks.{chunk, cellAt}
 use Rattle.batching.specs.Stacks.{stack, alpha, product, stackAt, Masks, Weighed}
 use Rattle.batching.proofs.StackLaws.{planes-added}
+use Rattle.batching.proofs.ChoiceLaws.{chosen-sum}
 use Rattle.batching.proofs.stacks.absorb.Statement.{statement}
 use Rattle.batching.proofs.stacks.absorb.Tie as tie
 
@@ -31,18 +31,18 @@ all-terms S v χ m f z small =
     ∙ planes-added m (byteAt v f) χ (λ i. bitOf (cellAt S i f) z) small (λ i. bitOf-lt (cellAt S i f) z)
 
 abbrev Inv-loop : tie.InvT-loop
-Inv-loop t₀ planes base w sums masks p₀ t p = (p ≤ 8) × (length t ≡ stack) × ((S v : List ℕ) (χ : ℕ → ℕ) (m f z : ℕ) → Weighed S χ m sums planes w base → Masks v masks → byteAt v f < 256 → f < chunk → stackAt t f z ≡ bitXor (stackAt t₀ f z) (xorSum p (term S v χ m f z)))
+Inv-loop t₀ offsets base groups sums masks p₀ t p = (p ≤ 8) × (length t ≡ stack) × ((S v : List ℕ) (χ : ℕ → ℕ) (m f z : ℕ) → Weighed S χ m sums offsets groups base → Masks v masks → byteAt v f < 256 → f < chunk → stackAt t f z ≡ bitXor (stackAt t₀ f z) (xorSum p (term S v χ m f z)))
 
 abbrev μ-loop : tie.MeasureT-loop
-μ-loop t₀ planes base w sums masks p₀ t p = 8 - p
+μ-loop t₀ offsets base groups sums masks p₀ t p = 8 - p
 
 loop-holds : tie.Need-loop-holds Inv-loop μ-loop
 unfolding xorSum
 loop-holds c =
     (search needs, search needs, λ S v χ m f z h k l i. sym (xor-zero-r _))
 
-slice-aggregate-look-up-row : tie.Need-slice-aggregate-look-up-row Inv-loop μ-loop
-slice-aggregate-look-up-row c = search needs
+slice-aggregate-look-up : tie.Need-slice-aggregate-look-up Inv-loop μ-loop
+slice-aggregate-look-up c = search needs
 
 add-row-at : tie.Need-add-row-at Inv-loop μ-loop
 add-row-at c = search needs
@@ -51,10 +51,18 @@ row-at-requires : tie.Need-row-at-requires Inv-loop μ-loop
 row-at-requires c κs =
     let a = c .before .before .before .before .before .before .before .args in
     let l = c .before .before .loop in
-    omega (arith, row-end (a .base + l .p) (a .base + 8) (a .w) (omega arith))
+    omega (arith, row-end (a .base + l .p) (a .base + 8) (a .groups) (omega arith))
 
-look-up-row-requires : tie.Need-look-up-row-requires Inv-loop μ-loop
-look-up-row-requires c κs = search needs
+look-up-requires : tie.Need-look-up-requires Inv-loop μ-loop
+look-up-requires c κs =
+    let a = c .before .before .before .before .before .before .before .before .args in
+    let pre = c .before .before .before .before .before .before .before .before .pre in
+    let r = a .base + c .before .before .before .loop .p in
+    let row = c .row-at in
+    (search needs, λ g h.
+        let inside : g < a .groups = omega (arith, h, row .ensures .1) in
+        let is : byteAt (now (row .result)) g ≡ byteAt (now (a .offsets)) (r * a .groups + g) = ap (λ (x : List ℕ). byteAt x g) (row .ensures .0) ∙ row-byte (now (a .offsets)) (a .groups) r g inside in
+        rw is (pre .2 (r * a .groups + g) (omega (arith, inside, row-end r (a .base + 8) (a .groups) (omega arith)))))
 
 slice-aggregate-absorb-plane : tie.Need-slice-aggregate-absorb-plane Inv-loop μ-loop
 slice-aggregate-absorb-plane c = search needs
@@ -73,16 +81,17 @@ loop-again c =
     let a = c .before .before .before .before .before .before .before .before .before .before .before .before .before .before .before .args in
     let l = c .before .before .before .before .before .before .before .before .before .before .loop in
     let row = c .before .before .before .before .before .before .before .row-at in
-    let looked = c .before .before .before .before .before .before .look-up-row in
+    let looked = c .before .before .before .before .before .before .look-up in
     let done = c .before .before .absorb-plane in (
       omega arith,
       done .kept .0 ∙ l .inv .1,
       (λ S v χ m f z weighed masks hv h.
           done .ensures v f z masks hv h
           ∙ ap (λ (x : ℕ). bitXor (stackAt (l .t) f z) (bitOf x z * product (alpha (l .p)) (byteAt v f)))
-          (looked .ensures S m f (rw (← row .ensures .1) at (weighed .0)) (weighed .1) (omega (arith, weighed .2, row .ensures .1)) h
-          ∙ sum-same m (λ i. bit (now (row .result)) i * cellAt S i f) (λ i. bitOf (χ i) (l .p) * cellAt S i f)
-          (λ i k. ap (λ (x : ℕ). x * cellAt S i f) (ap (λ (r : List ℕ). bit r i) (row .ensures .0) ∙ weighed .4 (l .p) i (omega arith) k)))
+          (looked .ensures f h ∙ ap (λ (n : ℕ). xorSum n (λ g. byteAt (now (a .sums)) (byteAt (now (row .result)) g + f))) (row .ensures .1)
+          ∙ sum-same (a .groups) _ (λ g. byteAt (now (a .sums)) (byteAt (now (a .offsets)) ((a .base + l .p) * a .groups + g) + f))
+          (λ g k. ap (λ (x : ℕ). byteAt (now (a .sums)) (x + f)) (ap (λ (x : List ℕ). byteAt x g) (row .ensures .0) ∙ row-byte (now (a .offsets)) (a .groups) (a .base + l .p) g k))
+          ∙ chosen-sum S χ m (now (a .sums)) (now (a .offsets)) (a .groups) (a .base) (l .p) f weighed (omega arith) h)
           ∙ sum-step (stackAt (now (a .t)) f z) (stackAt (l .t) f z) (l .p) (term S v χ m f z) (l .inv .2 S v χ m f z weighed masks hv h)),
     )
 
@@ -103,10 +112,10 @@ absorb-spec =
     Inv-loop
     μ-loop
     loop-holds
-    slice-aggregate-look-up-row
+    slice-aggregate-look-up
     add-row-at
     row-at-requires
-    look-up-row-requires
+    look-up-requires
     slice-aggregate-absorb-plane
     absorb-plane-requires
     add-p

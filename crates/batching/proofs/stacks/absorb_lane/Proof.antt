@@ -57,7 +57,7 @@ slice-aggregate-absorb : tie.Need-slice-aggregate-absorb
 slice-aggregate-absorb c = search needs
 
 absorb-requires : tie.Need-absorb-requires
-absorb-requires c κs = search needs
+absorb-requires c κs = (search needs, search needs, c .before .before .before .before .before .before .before .before .before .before .before .before .before .pre .2, search needs, search needs)
 
 same-length : tie.Need-same-length
 same-length c = search needs
@@ -75,7 +75,7 @@ returns c =
     let fits : at + stack ≤ length l = omega arith in
     let long : length (blockAt l stack (a .e)) ≡ stack = simp (length-take, length-drop) (omega arith) in
     let kept : length r ≡ stack = rw e at (done .kept .0) ∙ long in
-    let sums : ((S v : List ℕ) (χ : ℕ → ℕ) (m f z : ℕ) → Weighed S χ m (now (a .sums)) (now (a .planes)) (a .w) (a .e * 8) → Masks v (c .before .before .before .before .before .before .fill-masks .last .0) → byteAt v f < 256 → f < chunk → stackAt r f z ≡ bitXor (stackAt (blockAt l stack (a .e)) f z) (product (byteAt v f) (xorSum m (λ i. bitOf (cellAt S i f) z * χ i)))) =
+    let sums : ((S v : List ℕ) (χ : ℕ → ℕ) (m f z : ℕ) → Weighed S χ m (now (a .sums)) (now (a .offsets)) (a .groups) (a .e * 8) → Masks v (c .before .before .before .before .before .before .fill-masks .last .0) → byteAt v f < 256 → f < chunk → stackAt r f z ≡ bitXor (stackAt (blockAt l stack (a .e)) f z) (product (byteAt v f) (xorSum m (λ i. bitOf (cellAt S i f) z * χ i)))) =
     rw e at (done .ensures) in
     rw e (
       (λ S χ m g j z weighed hg hj.

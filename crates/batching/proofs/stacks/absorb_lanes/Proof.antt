@@ -25,10 +25,10 @@ abbrev term : List ℕ → (ℕ → ℕ → ℕ) → ℕ → List ℕ → ℕ �
 term S χ m table c e f z = product (laneAt table c e) (xorSum m (λ i. bitOf (cellAt S i f) z * χ e i))
 
 abbrev Inv-loop : tie.InvT-loop
-Inv-loop stacks₀ tau planes w sums table first n width e₀ stacks e = (e ≤ tau) × (length stacks ≡ length stacks₀) × ((S : List ℕ) (χ : ℕ → ℕ → ℕ) (m q g j z : ℕ) → ((q : ℕ) → q < tau → Weighed S (χ q) m sums planes w (q * 8)) → q < e → g < 4 → j < width → stackOf stacks q (g * width + j) z ≡ bitXor (stackOf stacks₀ q (g * width + j) z) (term S χ m table (first + g) q (g * width + j) z)) × ((q b : ℕ) → e ≤ q → b < stack → byteAt stacks (q * stack + b) ≡ byteAt stacks₀ (q * stack + b))
+Inv-loop stacks₀ tau offsets groups sums table first n width e₀ stacks e = (e ≤ tau) × (length stacks ≡ length stacks₀) × ((S : List ℕ) (χ : ℕ → ℕ → ℕ) (m q g j z : ℕ) → ((q : ℕ) → q < tau → Weighed S (χ q) m sums offsets groups (q * 8)) → q < e → g < 4 → j < width → stackOf stacks q (g * width + j) z ≡ bitXor (stackOf stacks₀ q (g * width + j) z) (term S χ m table (first + g) q (g * width + j) z)) × ((q b : ℕ) → e ≤ q → b < stack → byteAt stacks (q * stack + b) ≡ byteAt stacks₀ (q * stack + b))
 
 abbrev μ-loop : tie.MeasureT-loop
-μ-loop stacks₀ tau planes w sums table first n width e₀ stacks e = tau - e
+μ-loop stacks₀ tau offsets groups sums table first n width e₀ stacks e = tau - e
 
 loop-holds : tie.Need-loop-holds Inv-loop μ-loop
 loop-holds c =
@@ -39,7 +39,7 @@ absorb-lane-requires c κs =
     let a = c .before .before .before .before .before .before .before .args in
     let l = c .before .before .loop in
     let within : l .e * 8 + 8 ≤ a .tau * 8 = omega arith in
-    (omega (arith, l .inv .1), omega (arith, mul-le-mul-right (a .w) within), c .before .before .before .before .before .before .before .pre .2, c .before .before .before .before .before .before .before .pre .3, omega arith, c .before .before .before .before .before .before .before .pre .5, c .before .before .before .before .before .before .before .pre .6)
+    (omega (arith, l .inv .1), omega (arith, mul-le-mul-right (a .groups) within), (λ k h. c .before .before .before .before .before .before .before .pre .2 k (omega (arith, h, mul-le-mul-right (a .groups) within))), c .before .before .before .before .before .before .before .pre .3, omega arith, c .before .before .before .before .before .before .before .pre .5, c .before .before .before .before .before .before .before .pre .6)
 
 add-e : tie.Need-add-e Inv-loop μ-loop
 add-e c = search needs

@@ -1,4 +1,4 @@
--- `quadratic::batch::batch_forms` meets its contract: the planes of the batching bytes, and the forms of the batched matrix and of the batched rows (`BatchLaws`).
+-- `quadratic::batch::batch_forms` meets its contract: the offsets that the batching bytes choose, and the forms of the batched matrix and of the batched rows (`BatchLaws`).
 -- Assumes nothing.
 use borrow.Author.Needs.{needs}
 use Prim.Native.Nat.{ℕ, _+_, _*_, _/_, _≤_, _<_}
@@ -12,7 +12,6 @@ use lib.Bits.{bitXor}
 use Rattle.protocol.specs.Strings.{bytesFor}
 use Rattle.strings.specs.Sums.{byteAt}
 use Rattle.lanes.specs.Lanes.{lanes}
-use Rattle.batching.specs.Stacks.{Planed}
 use Rattle.quadratic.proofs.BatchLaws.{quad-is, lin-is, right-is}
 use Rattle.quadratic.proofs.batch.batch_forms.Statement.{statement}
 use Rattle.quadratic.proofs.batch.batch_forms.Tie as tie
@@ -20,26 +19,26 @@ use Rattle.quadratic.proofs.batch.batch_forms.Tie as tie
 one : (e : ℕ) → e < 48 → byteAt (replicate 48 1) (0 * 48 + e) ≡ 1
 one e h = let first : 0 * 48 + e ≡ e = omega arith in ap (byteAt (replicate 48 1)) first ∙ getD-replicate 48 e 1 0 h
 
-planes-fit : (tau m : ℕ) → tau ≤ lanes → m ≤ 160 → tau * 8 * ((m + 7) / 8) ≤ 7680
-planes-fit tau m h k =
+offsets-fit : (tau m : ℕ) → tau ≤ lanes → m ≤ 160 → tau * 8 * ((m + 3) / 4) ≤ 15360
+offsets-fit tau m h k =
     let t≤ : tau * 8 ≤ 384 = omega arith in
-    let w≤ : (m + 7) / 8 ≤ 20 = omega arith in
-    omega (arith, mul-le-mul t≤ w≤)
+    let g≤ : (m + 3) / 4 ≤ 40 = omega arith in
+    omega (arith, mul-le-mul t≤ g≤)
 
-add-w : tie.Need-add-w
-add-w c = search needs
+add-groups : tie.Need-add-groups
+add-groups c = search needs
 
 add-width : tie.Need-add-width
 add-width c = search needs
 
-slice-aggregate-fill-planes : tie.Need-slice-aggregate-fill-planes
-slice-aggregate-fill-planes c = search needs
+slice-aggregate-fill-offsets : tie.Need-slice-aggregate-fill-offsets
+slice-aggregate-fill-offsets c = search needs
 
-fill-planes-requires : tie.Need-fill-planes-requires
+fill-offsets-requires : tie.Need-fill-offsets-requires
 unfolding bytesFor
-fill-planes-requires c κs =
+fill-offsets-requires c κs =
     let pre = c .before .before .before .before .before .before .before .before .before .pre in
-    (refl, planes-fit (c .before .before .before .before .before .before .before .before .before .args .tau) (c .before .before .before .before .before .before .before .before .before .args .m) (pre .0 .5) (pre .0 .4), pre .0 .8, omega (arith, pre .0 .5))
+    (refl, pre .0 .4, offsets-fit (c .before .before .before .before .before .before .before .before .before .args .tau) (c .before .before .before .before .before .before .before .before .before .args .m) (pre .0 .5) (pre .0 .4), pre .0 .8, omega (arith, pre .0 .5), pre .1 .2)
 
 slice-aggregate-add-forms : tie.Need-slice-aggregate-add-forms
 slice-aggregate-add-forms c = search needs
@@ -48,7 +47,7 @@ add-forms-requires : tie.Need-add-forms-requires
 unfolding bytesFor
 add-forms-requires c κs =
     let pre = c .before .before .before .before .before .before .before .before .before .before .before .before .before .before .pre in
-    (pre .0 .0, pre .0 .2, pre .0 .6, pre .0 .3, pre .0 .9, refl, omega (arith, c .before .before .before .before .fill-planes .kept .0, planes-fit (c .before .before .before .before .before .before .before .before .before .before .before .before .before .before .args .tau) (c .before .before .before .before .before .before .before .before .before .before .before .before .before .before .args .m) (pre .0 .5) (pre .0 .4)), pre .0 .4, pre .0 .5, omega (arith, pre .0 .3), pre .0 .9, pre .1 .0, pre .1 .1, pre .1 .2, pre .1 .3)
+    (pre .0 .0, pre .0 .2, pre .0 .6, pre .0 .3, pre .0 .9, refl, omega (arith, c .before .before .before .before .fill-offsets .kept .0, offsets-fit (c .before .before .before .before .before .before .before .before .before .before .before .before .before .before .args .tau) (c .before .before .before .before .before .before .before .before .before .before .before .before .before .before .args .m) (pre .0 .5) (pre .0 .4)), c .before .before .before .before .fill-offsets .ensures .1, pre .0 .4, pre .0 .5, omega (arith, pre .0 .3), pre .0 .9, pre .1 .0, pre .1 .1, pre .1 .2, pre .1 .3)
 
 slice-aggregate-add-forms-2 : tie.Need-slice-aggregate-add-forms-2
 slice-aggregate-add-forms-2 c = search needs
@@ -64,7 +63,7 @@ unfolding bytesFor
 add-forms-requires-2 c κs =
     let pre = c .before .before .before .before .before .before .before .before .before .before .before .before .before .before .before .before .before .before .before .before .before .before .before .pre in
     let a = c .before .before .before .before .before .before .before .before .before .before .before .before .before .before .before .before .before .before .before .before .before .before .before .args in
-    (pre .0 .1, refl, pre .0 .7 ∙ ap (λ (v : ℕ). a .m * v) (sym (one-mul ((a .n + 7) / 8))), omega arith, refl, refl, omega (arith, c .before .before .before .before .before .before .before .before .before .before .before .before .before .fill-planes .kept .0, planes-fit (a .tau) (a .m) (pre .0 .5) (pre .0 .4)), pre .0 .4, pre .0 .5, omega (arith, pre .0 .3), pre .0 .9, pre .1 .0, pre .1 .1, pre .1 .2, pre .1 .3)
+    (pre .0 .1, refl, pre .0 .7 ∙ ap (λ (v : ℕ). a .m * v) (sym (one-mul ((a .n + 7) / 8))), omega arith, refl, refl, omega (arith, c .before .before .before .before .before .before .before .before .before .before .before .before .before .fill-offsets .kept .0, offsets-fit (a .tau) (a .m) (pre .0 .5) (pre .0 .4)), c .before .before .before .before .before .before .before .before .before .before .before .before .before .fill-offsets .ensures .1, pre .0 .4, pre .0 .5, omega (arith, pre .0 .3), pre .0 .9, pre .1 .0, pre .1 .1, pre .1 .2, pre .1 .3)
 
 same-length : tie.Need-same-length
 same-length c = search needs
@@ -84,13 +83,13 @@ returns c =
     let χ = now (a .chi) in
     let small : (k : ℕ) → byteAt χ k < 256 = λ k. c .before .before .before .before .before .before .before .before .before .before .before .before .before .before .before .before .before .before .before .before .shared-slice-known4 .given k .fits in
     let bytes : (k : ℕ) → byteAt T k < 256 = λ k. c .before .before .before .before .before .before .before .before .before .before .before .before .before .before .before .before .before .before .before .shared-slice-known5 .given k .fits in
-    let planed = c .before .before .before .before .before .before .before .before .before .before .before .before .before .before .before .before .before .fill-planes .ensures in (
-      (λ e h. c .before .before .before .before .before .before .before .before .before .before .before .before .add-forms .ensures .0 χ e small planed h ∙ ap (bitXor (byteAt (now (a .quad)) e)) (quad-is (a .n) (a .m) e T χ (pre .0 .9) (now (a .a)))),
+    let chosen = c .before .before .before .before .before .before .before .before .before .before .before .before .before .before .before .before .before .fill-offsets .ensures .0 in (
+      (λ e h. c .before .before .before .before .before .before .before .before .before .before .before .before .add-forms .ensures .0 χ e small chosen h ∙ ap (bitXor (byteAt (now (a .quad)) e)) (quad-is (a .n) (a .m) e T χ (pre .0 .9) (now (a .a)))),
       (
         (λ e h.
-            c .before .before .before .add-forms2 .ensures .0 χ e small planed h
+            c .before .before .before .add-forms2 .ensures .0 χ e small chosen h
             ∙ ap (bitXor (byteAt (now (a .lin)) e)) (lin-is (a .n) (a .m) e T χ (pre .0 .9) bytes (now (a .rows)) (replicate 48 1) (one e (omega (arith, pre .0 .5))))),
-        (λ x e is h. c .before .before .before .before .before .before .before .before .before .before .before .before .add-forms .ensures .1 χ e small planed h ∙ ap (bitXor (byteAt (now (a .right)) e)) (right-is (a .n) (a .m) e T χ (pre .0 .9) bytes (now (a .a)) (now (a .xs)) x (pre .0 .6) is)),
+        (λ x e is h. c .before .before .before .before .before .before .before .before .before .before .before .before .add-forms .ensures .1 χ e small chosen h ∙ ap (bitXor (byteAt (now (a .right)) e)) (right-is (a .n) (a .m) e T χ (pre .0 .9) bytes (now (a .a)) (now (a .xs)) x (pre .0 .6) is)),
       ),
     )
 
@@ -98,10 +97,10 @@ pub batch-forms-spec : {M : Type 1} → statement M
 batch-forms-spec =
     tie.close
     (tie.spec
-    add-w
+    add-groups
     add-width
-    slice-aggregate-fill-planes
-    fill-planes-requires
+    slice-aggregate-fill-offsets
+    fill-offsets-requires
     slice-aggregate-add-forms
     add-forms-requires
     slice-aggregate-add-forms-2
