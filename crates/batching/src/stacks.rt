@@ -162,7 +162,14 @@ fn absorb_lane(
     spread(&mut v, table, first, n, e, width);
     fill_masks(&mut masks, &v);
     let at = e * STACK;
-    absorb(&mut stacks[at..at + STACK], offsets, e * 8, groups, sums, &masks);
+    absorb(
+        &mut stacks[at..at + STACK],
+        offsets,
+        e * 8,
+        groups,
+        sums,
+        &masks,
+    );
 }
 
 // The same for each of the tau repetitions.

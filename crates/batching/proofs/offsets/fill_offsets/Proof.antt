@@ -28,7 +28,7 @@ mul-loop : tie.Need-mul-loop Inv-loop μ-loop
 mul-loop c = search needs
 
 fill-row-requires : tie.Need-fill-row-requires Inv-loop μ-loop
-fill-row-requires c κs = 
+fill-row-requires c κs =
     let a = c .before .before .before .before .before .args in
     let l = c .before .before .loop in
     (c .before .before .before .before .before .pre .0, c .before .before .before .before .before .pre .1, omega (arith, l .inv .1, row-end (l .r) (a .tau * 8) (a .groups) (omega arith)), omega (arith, row-end (l .r / 8) (a .tau) (a .m) (omega arith)))
@@ -40,7 +40,7 @@ loop-less : tie.Need-loop-less Inv-loop μ-loop
 loop-less c = search needs
 
 loop-again : tie.Need-loop-again Inv-loop μ-loop
-loop-again c = 
+loop-again c =
     let l = c .before .before .before .before .before .loop in
     let done = c .before .before .fill-row in (
       omega arith,
@@ -55,7 +55,7 @@ same-length : tie.Need-same-length Inv-loop μ-loop
 same-length c = search needs
 
 returns : tie.Need-returns Inv-loop μ-loop
-returns c = 
+returns c =
     let a = c .before .before .before .before .args in
     let pre = c .before .before .before .before .pre in
     let l = c .before .loop in

@@ -62,7 +62,7 @@ slice-aggregate-fill-choices : tie.Need-slice-aggregate-fill-choices
 slice-aggregate-fill-choices c = search needs
 
 fill-choices-requires : tie.Need-fill-choices-requires
-fill-choices-requires c κs = 
+fill-choices-requires c κs =
     let a = c .before .before .before .before .before .before .before .args in
     let long : length (take (a .groups) (drop (a .r * a .groups) (now (a .offsets)))) ≡ a .groups = simp (length-take, length-drop) (omega arith) in
     let e : a .r * a .groups + a .groups - a .r * a .groups ≡ a .groups = add-sub-cancel-left (a .r * a .groups) (a .groups) in
@@ -72,7 +72,7 @@ same-length : tie.Need-same-length
 same-length c = search needs
 
 returns : tie.Need-returns
-returns c = 
+returns c =
     let a = c .before .before .before .before .before .before .before .before .before .before .args in
     let l = now (a .offsets) in
     let w = a .groups in

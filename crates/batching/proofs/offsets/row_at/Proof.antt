@@ -30,7 +30,7 @@ part-result-end c = search needs
 
 returns : tie.Need-returns
 unfolding blockAt part
-returns c = 
+returns c =
     let a = c .before .args in
     let e : a .r * a .groups + a .groups - a .r * a .groups ≡ a .groups = add-sub-cancel-left (a .r * a .groups) (a .groups) in (
       rw e,

@@ -58,11 +58,13 @@ look-up-requires c κs =
     let a = c .before .before .before .before .before .before .before .before .args in
     let pre = c .before .before .before .before .before .before .before .before .pre in
     let r = a .base + c .before .before .before .loop .p in
-    let row = c .row-at in
-    (search needs, λ g h.
-        let inside : g < a .groups = omega (arith, h, row .ensures .1) in
-        let is : byteAt (now (row .result)) g ≡ byteAt (now (a .offsets)) (r * a .groups + g) = ap (λ (x : List ℕ). byteAt x g) (row .ensures .0) ∙ row-byte (now (a .offsets)) (a .groups) r g inside in
-        rw is (pre .2 (r * a .groups + g) (omega (arith, inside, row-end r (a .base + 8) (a .groups) (omega arith)))))
+    let row = c .row-at in (
+      search needs,
+      λ g h.
+          let inside : g < a .groups = omega (arith, h, row .ensures .1) in
+          let is : byteAt (now (row .result)) g ≡ byteAt (now (a .offsets)) (r * a .groups + g) = ap (λ (x : List ℕ). byteAt x g) (row .ensures .0) ∙ row-byte (now (a .offsets)) (a .groups) r g inside in
+          rw is (pre .2 (r * a .groups + g) (omega (arith, inside, row-end r (a .base + 8) (a .groups) (omega arith)))),
+    )
 
 slice-aggregate-absorb-plane : tie.Need-slice-aggregate-absorb-plane Inv-loop μ-loop
 slice-aggregate-absorb-plane c = search needs
