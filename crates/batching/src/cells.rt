@@ -36,7 +36,7 @@ fn load_part(dst: &mut [u8], src: &[u8], from: usize, len: usize)
     copy_front(dst, src, from, len);
 }
 
-fn load_row(cells: &mut [u8], i: usize, src: &[u8], from: usize, len: usize)
+fn load_rest(cells: &mut [u8], i: usize, src: &[u8], from: usize, len: usize)
     requires { ⌜ (i * chunk + chunk ≤ length (now cells)) × (len ≤ chunk) × (from + len ≤ length (now src)) ⌝ }
     ensures { λ _. ⌜ ((f : ℕ) → f < len → cellAt (now (cells .exit)) i f ≡ byteAt (now (src .entry)) (from + f)) ⌝ }
     ensures { λ _. ⌜ ((f : ℕ) → len ≤ f → f < chunk → cellAt (now (cells .exit)) i f ≡ 0) ⌝ }
@@ -44,6 +44,41 @@ fn load_row(cells: &mut [u8], i: usize, src: &[u8], from: usize, len: usize)
 {
     let at = i * CHUNK;
     load_part(&mut cells[at..at + CHUNK], src, from, len);
+}
+
+fn load_chunk(cells: &mut [u8], i: usize, src: &[u8], from: usize)
+    requires { ⌜ (i * chunk + chunk ≤ length (now cells)) × (from + chunk ≤ length (now src)) ⌝ }
+    ensures { λ _. ⌜ ((f : ℕ) → f < chunk → cellAt (now (cells .exit)) i f ≡ byteAt (now (src .entry)) (from + f)) ⌝ }
+    ensures { λ _. ⌜ ((q f : ℕ) → (q ≡ i → ⊥) → f < chunk → cellAt (now (cells .exit)) q f ≡ cellAt (now (cells .entry)) q f) ⌝ }
+{
+    let at = i * CHUNK;
+    strings::copy_into(&mut cells[at..at + CHUNK], &src[from..from + CHUNK]);
+}
+
+// What stands past the first len bytes is not asked for, so that a whole chunk is taken where there is one: its length is a constant.
+fn load_front(cells: &mut [u8], i: usize, src: &[u8], from: usize, len: usize)
+    requires { ⌜ (i * chunk + chunk ≤ length (now cells)) × (len ≤ chunk) × (from + len ≤ length (now src)) ⌝ }
+    ensures { λ _. ⌜ ((f : ℕ) → f < len → cellAt (now (cells .exit)) i f ≡ byteAt (now (src .entry)) (from + f)) ⌝ }
+    ensures { λ _. ⌜ ((q f : ℕ) → (q ≡ i → ⊥) → f < chunk → cellAt (now (cells .exit)) q f ≡ cellAt (now (cells .entry)) q f) ⌝ }
+{
+    if src.len() - from < CHUNK {
+        load_rest(cells, i, src, from, len);
+    } else {
+        load_chunk(cells, i, src, from);
+    }
+}
+
+fn load_row(cells: &mut [u8], i: usize, src: &[u8], from: usize, len: usize, wide: usize)
+    requires { ⌜ (i * chunk + chunk ≤ length (now cells)) × (len ≤ wide) × (wide ≤ chunk) × (from + len ≤ length (now src)) ⌝ }
+    ensures { λ _. ⌜ ((f : ℕ) → f < len → cellAt (now (cells .exit)) i f ≡ byteAt (now (src .entry)) (from + f)) ⌝ }
+    ensures { λ _. ⌜ ((f : ℕ) → len ≤ f → f < wide → cellAt (now (cells .exit)) i f ≡ 0) ⌝ }
+    ensures { λ _. ⌜ ((q f : ℕ) → (q ≡ i → ⊥) → f < chunk → cellAt (now (cells .exit)) q f ≡ cellAt (now (cells .entry)) q f) ⌝ }
+{
+    if len < wide {
+        load_rest(cells, i, src, from, len);
+    } else {
+        load_front(cells, i, src, from, len);
+    }
 }
 
 // Row i of cells becomes `wide` bytes of string i from `at` on, 0 past the string's end, for each of m strings of `size` bytes.
@@ -54,7 +89,7 @@ pub fn load(cells: &mut [u8], a: &[u8], size: usize, at: usize, wide: usize, m: 
     let len = least(wide, size - at);
     let mut i = 0;
     while i < m {
-        load_row(cells, i, a, i * size + at, len);
+        load_row(cells, i, a, i * size + at, len, wide);
         i += 1;
     }
 }

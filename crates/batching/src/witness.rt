@@ -43,7 +43,7 @@ pub fn spread_rows(masks: &mut [u8], count: usize, xs: &[u8], w: usize)
 }
 
 // acc[f] ^= matrix[at + f] & mask[f], for the first bytes of a chunk; the matrix is 0 past its end.
-fn add_part(acc: &mut [u8], matrix: &[u8], at: usize, wide: usize, mask: &[u8])
+fn add_last(acc: &mut [u8], matrix: &[u8], at: usize, wide: usize, mask: &[u8])
     requires { ⌜ (length (now acc) ≡ chunk) × (length (now mask) ≡ chunk) × (wide ≤ chunk) × (at ≤ length (now matrix)) ⌝ }
     ensures { λ _. ⌜ ((f : ℕ) → f < wide → byteAt (now (acc .exit)) f ≡ bitXor (byteAt (now (acc .entry)) f) (bitAnd (byteAt (now (matrix .entry)) (at + f)) (byteAt (now (mask .entry)) f))) ⌝ }
 {
@@ -51,6 +51,18 @@ fn add_part(acc: &mut [u8], matrix: &[u8], at: usize, wide: usize, mask: &[u8])
     let len = super::cells::least(wide, matrix.len() - at);
     super::cells::copy_front(&mut part, matrix, at, len);
     super::stacks::xor_and(acc, &part, mask);
+}
+
+// The same. What stands past these bytes is not asked for, so that a whole chunk is taken where there is one, and where it stands.
+fn add_part(acc: &mut [u8], matrix: &[u8], at: usize, wide: usize, mask: &[u8])
+    requires { ⌜ (length (now acc) ≡ chunk) × (length (now mask) ≡ chunk) × (wide ≤ chunk) × (at ≤ length (now matrix)) ⌝ }
+    ensures { λ _. ⌜ ((f : ℕ) → f < wide → byteAt (now (acc .exit)) f ≡ bitXor (byteAt (now (acc .entry)) f) (bitAnd (byteAt (now (matrix .entry)) (at + f)) (byteAt (now (mask .entry)) f))) ⌝ }
+{
+    if matrix.len() - at < CHUNK {
+        add_last(acc, matrix, at, wide, mask);
+    } else {
+        super::stacks::xor_and(acc, &matrix[at..at + CHUNK], mask);
+    }
 }
 
 // Adds the rows of a matrix that the masks select, four side by side.

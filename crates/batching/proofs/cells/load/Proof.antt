@@ -22,9 +22,9 @@ use Rattle.batching.proofs.cells.load.Tie as tie
 
 -- a row that holds len bytes of a string, and zeros past them, where len is `wide` or reaches the string's end
 part-of : (row : ℕ → ℕ) (a : List ℕ) (size at wide len i : ℕ) → len ≤ size - at → (len < wide → len ≡ size - at)
-    → ((f : ℕ) → f < len → row f ≡ byteAt a (i * size + at + f)) → ((f : ℕ) → len ≤ f → f < chunk → row f ≡ 0)
-    → at ≤ size → wide ≤ chunk → (f : ℕ) → f < wide → row f ≡ byteAt (blockAt a size i) (at + f)
-part-of row a size at wide len i short reach is zeros fits small f h = go (decLt f len)
+    → ((f : ℕ) → f < len → row f ≡ byteAt a (i * size + at + f)) → ((f : ℕ) → len ≤ f → f < wide → row f ≡ 0)
+    → at ≤ size → (f : ℕ) → f < wide → row f ≡ byteAt (blockAt a size i) (at + f)
+part-of row a size at wide len i short reach is zeros fits f h = go (decLt f len)
   where
     go : Dec (f < len) → row f ≡ byteAt (blockAt a size i) (at + f)
     go (yes l) = let inside : at + f < size = omega arith in is f l ∙ ap (byteAt a) (add-assoc (i * size) at f) ∙ sym (row-byte a size i (at + f) inside)
@@ -81,7 +81,7 @@ loop-again c =
       (λ q f h k.
           ⊎-elim
           (λ (e : q ≡ l .i).
-          rw e (part-of (cellAt (done .last .0) (l .i)) (now (a .a)) (a .size) (a .at) (a .wide) (len .result) (l .i) (len .ensures .1) (len .ensures .2) (done .ensures .0) (done .ensures .1 .0) (omega arith) (omega arith) f k))
+          rw e (part-of (cellAt (done .last .0) (l .i)) (now (a .a)) (a .size) (a .at) (a .wide) (len .result) (l .i) (len .ensures .1) (len .ensures .2) (done .ensures .0) (done .ensures .1 .0) (omega arith) f k))
           (λ (lt : q < l .i). done .ensures .1 .1 q f (λ x. omega arith) (omega arith) ∙ l .inv .2 q f lt k)
           (eq-or-lt-of-le (le-of-suc-le-suc (rw add-one at h)))),
     )

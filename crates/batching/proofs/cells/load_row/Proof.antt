@@ -1,63 +1,35 @@
--- `batching::cells::load_row` meets its contract. The part that was lent is row i, and the others stand outside it.
+-- `batching::cells::load_row` meets its contract: where no byte lies between len and `wide`, none must be 0.
 -- Assumes nothing.
 use borrow.Author.Needs.{needs}
-use Prim.Native.Nat.{ℕ, _+_, _*_, _-_, _≤_, _<_}
-use mathlib.Core.Path.{_≡_, _∙_}
-use native.Mathlib.Nat.{add-sub-cancel-left}
 use native.Mathlib.Omega.{arith}
-use denote.Ref.{now}
-use lib.ListN.{length, take, drop, length-take, length-drop}
-use Rattle.strings.specs.Sums.{byteAt}
-use Rattle.strings.proofs.Rows.{put-in, put-other}
-use Rattle.batching.specs.Chunks.{chunk}
 use Rattle.batching.proofs.cells.load_row.Statement.{statement}
 use Rattle.batching.proofs.cells.load_row.Tie as tie
 
-mul-at : tie.Need-mul-at
-mul-at c = search needs
+load-rest-requires : tie.Need-load-rest-requires
+load-rest-requires c κs = search needs
 
-add-load-part : tie.Need-add-load-part
-add-load-part c = search needs
-
-sub-load-part : tie.Need-sub-load-part
-sub-load-part c = search needs
-
-part-load-part-start : tie.Need-part-load-part-start
-part-load-part-start c = search needs
-
-part-load-part-end : tie.Need-part-load-part-end
-part-load-part-end c = search needs
-
-load-part-requires : tie.Need-load-part-requires
-load-part-requires c κs = search needs
+load-front-requires : tie.Need-load-front-requires
+load-front-requires c κs = search needs
 
 same-length : tie.Need-same-length
 same-length c = search needs
 
 returns : tie.Need-returns
-returns c =
-    let a = c .before .before .before .before .before .before .args in
-    let l = now (a .cells) in
-    let at = a .i * chunk in
-    let r = c .before .before .load-part .last .0 in
-    let e : at + chunk - at ≡ chunk = add-sub-cancel-left at chunk in
-    let fits : at + chunk ≤ length l = omega arith in
-    let long : length (take chunk (drop at l)) ≡ chunk = simp (length-take, length-drop) (omega arith) in
-    let kept : length r ≡ chunk = rw e at (c .before .before .load-part .kept .0) ∙ long in
-    rw e (
-      (λ f h. put-in at chunk l r fits kept f (omega arith) ∙ c .before .before .load-part .ensures .0 f h),
-      ((λ f h k. put-in at chunk l r fits kept f k ∙ c .before .before .load-part .ensures .1 f h k), put-other (a .i) chunk l r fits kept),
-    )
+returns c = (c .before .before .load-rest .ensures .0, ((λ f h k. c .before .before .load-rest .ensures .1 .0 f h (omega (arith, k, c .before .before .before .before .before .before .before .pre .2))), c .before .before .load-rest .ensures .1 .1))
+
+same-length-2 : tie.Need-same-length-2
+same-length-2 c = search needs
+
+returns-2 : tie.Need-returns-2
+returns-2 c = (c .before .before .load-front .ensures .0, ((λ f h k. absurd (omega (arith, h, k, c .before .before .before .before .if1 .left))), c .before .before .load-front .ensures .1))
 
 pub load-row-spec : {M : Type 1} → statement M
 load-row-spec =
     tie.close
     (tie.spec
-    mul-at
-    add-load-part
-    sub-load-part
-    part-load-part-start
-    part-load-part-end
-    load-part-requires
+    load-rest-requires
+    load-front-requires
     same-length
-    returns)
+    returns
+    same-length-2
+    returns-2)

@@ -1,45 +1,36 @@
--- `batching::witness::add_part` meets its contract. Past its end a matrix reads 0, as the part does.
+-- `batching::witness::add_part` meets its contract. The bytes of the part are those of the matrix, in their places.
 -- Assumes nothing.
 use borrow.Author.Needs.{needs}
-use Prim.Native.Nat.{ℕ, _+_, _*_, _-_, _≤_, _<_}
-use mathlib.Core.List.{List}
-use mathlib.Core.Path.{_≡_, sym, ap, _∙_}
-use native.Mathlib.Decide.{decLt}
+use Prim.Native.Nat.{ℕ, _+_, _-_, _≤_, _<_}
+use mathlib.Core.Path.{_≡_, ap, _∙_}
+use native.Mathlib.Nat.{add-sub-cancel-left}
 use native.Mathlib.Omega.{arith}
 use denote.Ref.{now}
-use lib.ListN.{length, getD-replicate, List·getD-eq-default}
+use lib.ListN.{drop, take}
+use lib.Seq.{getD-take, getD-drop}
 use lib.Bits.{bitXor, bitAnd}
 use Rattle.strings.specs.Sums.{byteAt}
 use Rattle.batching.specs.Chunks.{chunk}
 use Rattle.batching.proofs.witness.add_part.Statement.{statement}
 use Rattle.batching.proofs.witness.add_part.Tie as tie
 
-part-is : (part matrix : List ℕ) (at wide len : ℕ) → len ≤ length matrix - at → (len < wide → len ≡ length matrix - at)
-    → ((f : ℕ) → f < len → byteAt part f ≡ byteAt matrix (at + f)) → ((f : ℕ) → len ≤ f → f < chunk → byteAt part f ≡ 0)
-    → at ≤ length matrix → wide ≤ chunk → (f : ℕ) → f < wide → byteAt part f ≡ byteAt matrix (at + f)
-part-is part matrix at wide len short reach is zeros fits small f h = go (decLt f len)
-  where
-    go : Dec (f < len) → byteAt part f ≡ byteAt matrix (at + f)
-    go (yes l) = is f l
-    go (no l) =
-        let e : len ≡ length matrix - at = reach (omega arith) in
-        let past : length matrix ≤ at + f = omega arith in
-        zeros f (omega arith) (omega arith) ∙ sym (List·getD-eq-default matrix 0 past)
+sub-if1 : tie.Need-sub-if1
+sub-if1 c = search needs
 
-sub-least : tie.Need-sub-least
-sub-least c = search needs
+add-last-requires : tie.Need-add-last-requires
+add-last-requires c κs = search needs
 
-least-requires : tie.Need-least-requires
-least-requires c κs = search needs
+add-xor-and : tie.Need-add-xor-and
+add-xor-and c = search needs
 
-slice-aggregate-copy-front : tie.Need-slice-aggregate-copy-front
-slice-aggregate-copy-front c = search needs
+sub-xor-and : tie.Need-sub-xor-and
+sub-xor-and c = search needs
 
-copy-front-requires : tie.Need-copy-front-requires
-copy-front-requires c κs = search needs
+part-xor-and-start : tie.Need-part-xor-and-start
+part-xor-and-start c = search needs
 
-slice-aggregate-xor-and : tie.Need-slice-aggregate-xor-and
-slice-aggregate-xor-and c = search needs
+part-xor-and-end : tie.Need-part-xor-and-end
+part-xor-and-end c = search needs
 
 xor-and-requires : tie.Need-xor-and-requires
 xor-and-requires c κs = search needs
@@ -48,24 +39,33 @@ same-length : tie.Need-same-length
 same-length c = search needs
 
 returns : tie.Need-returns
-returns c f h =
-    let a = c .before .before .before .before .before .before .before .before .before .before .before .before .args in
-    let len = c .before .before .before .before .before .before .before .before .least in
-    let copied = c .before .before .before .before .before .before .copy-front in
-    c .before .before .xor-and .ensures f (omega arith)
-    ∙ ap (λ (x : ℕ). bitXor (byteAt (now (a .acc)) f) (bitAnd x (byteAt (now (a .mask)) f)))
-    (part-is (copied .last .0) (now (a .matrix)) (a .at) (a .wide) (len .result) (len .ensures .1) (len .ensures .2) (copied .ensures .0)
-    (λ i l k. copied .ensures .1 i l ∙ getD-replicate chunk i 0 0 k) (omega arith) (omega arith) f h)
+returns c = search needs
+
+same-length-2 : tie.Need-same-length-2
+same-length-2 c = search needs
+
+returns-2 : tie.Need-returns-2
+returns-2 c =
+    let a = c .before .before .before .before .before .before .before .before .before .args in
+    let M = now (a .matrix) in
+    let e : a .at + chunk - a .at ≡ chunk = add-sub-cancel-left (a .at) chunk in
+    let done : (f : ℕ) → f < chunk → byteAt (c .before .before .xor-and .last .0) f ≡ bitXor (byteAt (now (a .acc)) f) (bitAnd (byteAt (take chunk (drop (a .at) M)) f) (byteAt (now (a .mask)) f)) = rw e at (c .before .before .xor-and .ensures) in
+    λ f h.
+    let inside : f < chunk = omega (arith, h, c .before .before .before .before .before .before .before .before .before .pre .2) in
+    done f inside ∙ ap (λ (x : ℕ). bitXor (byteAt (now (a .acc)) f) (bitAnd x (byteAt (now (a .mask)) f))) (getD-take chunk (drop (a .at) M) f 0 inside ∙ getD-drop (a .at) M f 0)
 
 pub add-part-spec : {M : Type 1} → statement M
 add-part-spec =
     tie.close
     (tie.spec
-    sub-least
-    least-requires
-    slice-aggregate-copy-front
-    copy-front-requires
-    slice-aggregate-xor-and
+    sub-if1
+    add-last-requires
+    add-xor-and
+    sub-xor-and
+    part-xor-and-start
+    part-xor-and-end
     xor-and-requires
     same-length
-    returns)
+    returns
+    same-length-2
+    returns-2)
