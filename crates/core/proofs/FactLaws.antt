@@ -19,7 +19,7 @@ use Rattle.protocol.specs.Questions.{hExact, χExact, witnessForm}
 use Rattle.protocol.specs.Calls.{testQuestions, commitQuestions, hashQuestions, batchQuestions, proveQuestions}
 use Rattle.protocol.proofs.TestLaws.{eqb-eq, leb-le, all-true}
 use Rattle.protocol.proofs.AnswerLaws.{ask-accepts, all-yes}
-use Rattle.core.specs.Facts.{KeyFacts, WitnessForm, TestFacts, CommitFacts, HashFacts, BatchFacts, ProveFacts}
+use Rattle.steps.specs.Facts.{KeyFacts, WitnessForm, TestFacts, CommitFacts, HashFacts, BatchFacts, ProveFacts}
 
 witness-of : (s : Shape) (x : List ℕ) → witnessForm bits256 s x ≡ true → WitnessForm s x
 unfolding witnessForm

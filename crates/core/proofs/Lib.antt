@@ -1,10 +1,2 @@
-pub mod Writes
-pub mod SectionLaws
-pub mod CellLaws
-pub mod HashMeaning
-pub mod FitLaws
-pub mod HashSections
-pub mod LoadedLaws
 pub mod FactLaws
 pub mod ReplyLaws
-pub mod BatchSections

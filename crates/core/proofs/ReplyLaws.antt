@@ -12,7 +12,7 @@ use Rattle.protocol.specs.Answers.{Answer, accepted, refused, Question, ask, Re
 use Rattle.protocol.specs.Questions.{solves, namesFailing, q11}
 use Rattle.protocol.specs.Calls.{testQuestions, commitQuestions, batchQuestions, proveQuestions, testAnswer, commitAnswer, batchAnswer, proveAnswer, TestReply, CommitReply, BatchReply, ProveReply}
 use Rattle.protocol.proofs.ReplyLaws.{Without, reply-form, reply-eleven, reply-accepted}
-use Rattle.core.specs.Solved.{SolvedAs}
+use Rattle.steps.specs.Solved.{SolvedAs}
 
 abbrev Refuses : Answer → Type 0
 Refuses accepted = ⊥

@@ -1,91 +1,16 @@
 // The calls: the questions in 01's order, and then the bytes.
 ghost use mathlib.Core.Path.{_≡_};
-ghost use mathlib.Core.Bool.{true};
-ghost use mathlib.Core.List.{[], _∷_};
-ghost use Prim.Native.Nat.{ℕ, _+_, _*_, _-_, _<_, _≤_};
-ghost use lib.ListN.{length};
-ghost use Rattle.protocol.specs.Strings.{bytesFor};
-ghost use Rattle.protocol.specs.Frames.{frame};
 ghost use Rattle.protocol.specs.Binary.{bits256};
-ghost use Rattle.protocol.specs.Shape.{shapeOf, limits, kOf, wOf};
-ghost use Rattle.protocol.specs.Prover.{cSection, dSection, ũSection, ṼSection, qs0Section, qs1Section, sectionsOf, commitBytes, hashBytes, batchBytes, proofOf};
-ghost use Rattle.protocol.specs.Sections.{bytesOf};
+ghost use Rattle.protocol.specs.Prover.{commitBytes, hashBytes, batchBytes, proofOf};
 ghost use Rattle.protocol.specs.Answers.{written};
 ghost use Rattle.protocol.specs.Calls.{hashAnswer, TestReply, CommitReply, BatchReply, ProveReply};
-ghost use Rattle.lanes.specs.Lanes.{lanes};
-ghost use Rattle.format.specs.Sizes.{shapeFor};
 ghost use Rattle.format.specs.Verdict.{answerOf};
-ghost use Rattle.core.specs.Loaded.{LeavesForm, HashForm};
-ghost use Rattle.core.specs.Facts.{KeyFacts, WitnessForm};
-use super::put_six;
-use super::put_two;
-use super::steps::fill_batch;
-use super::steps::fill_commit;
-use super::steps::fill_entries;
-use super::steps::fill_hash;
-use super::witness::solved;
-use format::Sizes;
 use format::Verdict;
-use lanes::LANES;
-
-// Room for the largest key: bytes of a leaf, bytes of a row of bits, hash rows. Its repetitions are the lanes.
-const MOST_LEAF: usize = 41;
-
-const MOST_ROW: usize = 21;
-
-const MOST_HASH_ROWS: usize = 160;
-
-// The second step in buffers of exact length.
-fn hash_sections(
-    out: &mut [u8],
-    table: &mut [u8],
-    sums: &mut [u8],
-    entries: &mut [u8],
-    ut: &mut [u8],
-    vt: &mut [u8],
-    leaves: &[u8],
-    matrix: &[u8],
-    s: Sizes,
-)
-    requires { ⌜ (limits (shapeFor s) ≡ true) × LeavesForm (shapeFor s) (now leaves) × HashForm (shapeFor s) (now matrix) ⌝ }
-    requires { ⌜ (length (now table) ≡ 8 * wOf bits256 (shapeFor s) * lanes) × (length (now sums) ≡ s .tau * wOf bits256 (shapeFor s)) × (bytesFor (kOf bits256 (shapeFor s)) * 32 * lanes ≤ length (now entries)) ⌝ }
-    requires { ⌜ (length (now ut) ≡ bytesFor (s .t)) × (length (now vt) ≡ s .tau * s .t) × (length (now out) ≡ 8 + length (now ut) + length (now vt)) ⌝ }
-    ensures { λ _. ⌜ now (out .exit) ≡ frame (ũSection bits256 (shapeFor s) (now (leaves .entry)) (now (matrix .entry)) ∷ ṼSection bits256 (shapeFor s) (now (leaves .entry)) (now (matrix .entry)) ∷ []) ⌝ }
-{
-    let w = format::sizes::leaf_bytes(s);
-    let tau = s.tau;
-    vole::load_trees(table, sums, leaves, tau, w);
-    fill_entries(entries, table, s);
-    fill_hash(ut, vt, matrix, leaves, table, sums, entries, s);
-    put_two(out, ut, vt);
-}
-
-// The second step: ũ and Ṽ.
-fn write_hash(out: &mut [u8], leaves: &[u8], matrix: &[u8], s: Sizes)
-    requires { ⌜ (limits (shapeFor s) ≡ true) × LeavesForm (shapeFor s) (now leaves) × HashForm (shapeFor s) (now matrix) × (length (now out) ≡ 8 + bytesFor (s .t) + s .tau * s .t) ⌝ }
-    ensures { λ _. ⌜ now (out .exit) ≡ frame (ũSection bits256 (shapeFor s) (now (leaves .entry)) (now (matrix .entry)) ∷ ṼSection bits256 (shapeFor s) (now (leaves .entry)) (now (matrix .entry)) ∷ []) ⌝ }
-{
-    let w = format::sizes::leaf_bytes(s);
-    let tau = s.tau;
-    let t = s.t;
-    let packed = format::sizes::bytes_for(t);
-    let mut table = [0u8; 8 * MOST_LEAF * LANES];
-    let mut sums = [0u8; LANES * MOST_LEAF];
-    let mut entries = [0u8; MOST_ROW * 32 * LANES];
-    let mut ut = [0u8; MOST_ROW];
-    let mut vt = [0u8; LANES * MOST_HASH_ROWS];
-    hash_sections(
-        out,
-        &mut table[..8 * w * LANES],
-        &mut sums[..tau * w],
-        &mut entries,
-        &mut ut[..packed],
-        &mut vt[..tau * t],
-        leaves,
-        matrix,
-        s,
-    );
-}
+use steps::witness::solved;
+use writing::write_batch;
+use writing::write_commit;
+use writing::write_hash;
+use writing::write_proof;
 
 // The second step (01): hash with H′. It takes no witness, and writes the sections ũ and Ṽ.
 pub fn hash(key: &[u8], leaves: &[u8], matrix: &[u8], out: &mut [u8]) -> Verdict
@@ -111,53 +36,6 @@ pub fn test(key: &[u8], witness: &[u8]) -> Verdict
     solved(key, witness)
 }
 
-// The first step in buffers of exact length.
-fn commit_sections(
-    out: &mut [u8],
-    table: &mut [u8],
-    sums: &mut [u8],
-    c: &mut [u8],
-    d: &mut [u8],
-    leaves: &[u8],
-    witness: &[u8],
-    s: Sizes,
-)
-    requires { ⌜ (limits (shapeFor s) ≡ true) × LeavesForm (shapeFor s) (now leaves) × (length (now witness) ≡ bytesFor (s .n)) ⌝ }
-    requires { ⌜ (length (now table) ≡ 8 * wOf bits256 (shapeFor s) * lanes) × (length (now sums) ≡ s .tau * wOf bits256 (shapeFor s)) ⌝ }
-    requires { ⌜ (length (now c) ≡ (s .tau - 1) * wOf bits256 (shapeFor s)) × (length (now d) ≡ bytesFor (s .n)) × (length (now out) ≡ 8 + length (now c) + length (now d)) ⌝ }
-    ensures { λ _. ⌜ now (out .exit) ≡ frame (cSection bits256 (shapeFor s) (now (leaves .entry)) ∷ dSection bits256 (shapeFor s) (now (leaves .entry)) (now (witness .entry)) ∷ []) ⌝ }
-{
-    let w = format::sizes::leaf_bytes(s);
-    let tau = s.tau;
-    vole::load_trees(table, sums, leaves, tau, w);
-    fill_commit(c, d, witness, leaves, table, sums, s);
-    put_two(out, c, d);
-}
-
-// The first step: C and d.
-fn write_commit(out: &mut [u8], leaves: &[u8], witness: &[u8], s: Sizes)
-    requires { ⌜ (limits (shapeFor s) ≡ true) × LeavesForm (shapeFor s) (now leaves) × (length (now witness) ≡ bytesFor (s .n)) × (length (now out) ≡ 8 + (s .tau - 1) * wOf bits256 (shapeFor s) + bytesFor (s .n)) ⌝ }
-    ensures { λ _. ⌜ now (out .exit) ≡ frame (cSection bits256 (shapeFor s) (now (leaves .entry)) ∷ dSection bits256 (shapeFor s) (now (leaves .entry)) (now (witness .entry)) ∷ []) ⌝ }
-{
-    let w = format::sizes::leaf_bytes(s);
-    let tau = s.tau;
-    let width = format::sizes::witness_bytes(s);
-    let mut table = [0u8; 8 * MOST_LEAF * LANES];
-    let mut sums = [0u8; LANES * MOST_LEAF];
-    let mut c = [0u8; LANES * MOST_LEAF];
-    let mut d = [0u8; MOST_ROW];
-    commit_sections(
-        out,
-        &mut table[..8 * w * LANES],
-        &mut sums[..tau * w],
-        &mut c[..(tau - 1) * w],
-        &mut d[..width],
-        leaves,
-        witness,
-        s,
-    );
-}
-
 // The first step (01): commit. It takes the witness, and writes the sections C and d.
 pub fn commit(key: &[u8], leaves: &[u8], witness: &[u8], out: &mut [u8]) -> Verdict
     ensures { λ r. ⌜ CommitReply bits256 (now (key .entry)) (now (leaves .entry)) (now (witness .entry)) (now (out .entry)) (answerOf r) ⌝ }
@@ -173,55 +51,6 @@ pub fn commit(key: &[u8], leaves: &[u8], witness: &[u8], out: &mut [u8]) -> Verd
     };
     write_commit(out, leaves, witness, format::sizes::sizes_of(key));
     answer
-}
-
-// The third step in buffers of exact length.
-fn batch_sections(
-    out: &mut [u8],
-    table: &mut [u8],
-    sums: &mut [u8],
-    qs0: &mut [u8],
-    qs1: &mut [u8],
-    key: &[u8],
-    leaves: &[u8],
-    witness: &[u8],
-    batching: &[u8],
-    s: Sizes,
-)
-    requires { ⌜ KeyFacts (shapeOf (now key)) (now key) × (shapeFor s ≡ shapeOf (now key)) × WitnessForm (shapeFor s) (now witness) × (length (now batching) ≡ s .tau * s .m) × (limits (shapeFor s) ≡ true) × LeavesForm (shapeFor s) (now leaves) ⌝ }
-    requires { ⌜ (length (now table) ≡ 8 * wOf bits256 (shapeFor s) * lanes) × (length (now sums) ≡ s .tau * wOf bits256 (shapeFor s)) × (length (now qs0) ≡ lanes) × (length (now qs1) ≡ lanes) × (length (now out) ≡ 8 + s .tau + s .tau) ⌝ }
-    ensures { λ _. ⌜ now (out .exit) ≡ frame (qs0Section bits256 (shapeFor s) (now (leaves .entry)) (now (key .entry)) (now (batching .entry)) ∷ qs1Section bits256 (shapeFor s) (now (leaves .entry)) (now (key .entry)) (now (witness .entry)) (now (batching .entry)) ∷ []) ⌝ }
-{
-    let w = format::sizes::leaf_bytes(s);
-    let tau = s.tau;
-    vole::load_trees(table, sums, leaves, tau, w);
-    fill_batch(qs0, qs1, key, witness, batching, leaves, table, sums, s);
-    put_two(out, &qs0[..tau], &qs1[..tau]);
-}
-
-// The third step: QS0 and QS1.
-fn write_batch(out: &mut [u8], key: &[u8], leaves: &[u8], witness: &[u8], batching: &[u8], s: Sizes)
-    requires { ⌜ KeyFacts (shapeOf (now key)) (now key) × (shapeFor s ≡ shapeOf (now key)) × WitnessForm (shapeFor s) (now witness) × (length (now batching) ≡ s .tau * s .m) × (limits (shapeFor s) ≡ true) × LeavesForm (shapeFor s) (now leaves) × (length (now out) ≡ 8 + s .tau + s .tau) ⌝ }
-    ensures { λ _. ⌜ now (out .exit) ≡ frame (qs0Section bits256 (shapeFor s) (now (leaves .entry)) (now (key .entry)) (now (batching .entry)) ∷ qs1Section bits256 (shapeFor s) (now (leaves .entry)) (now (key .entry)) (now (witness .entry)) (now (batching .entry)) ∷ []) ⌝ }
-{
-    let w = format::sizes::leaf_bytes(s);
-    let tau = s.tau;
-    let mut table = [0u8; 8 * MOST_LEAF * LANES];
-    let mut sums = [0u8; LANES * MOST_LEAF];
-    let mut qs0 = [0u8; LANES];
-    let mut qs1 = [0u8; LANES];
-    batch_sections(
-        out,
-        &mut table[..8 * w * LANES],
-        &mut sums[..tau * w],
-        &mut qs0,
-        &mut qs1,
-        key,
-        leaves,
-        witness,
-        batching,
-        s,
-    );
 }
 
 // The third step (01): batch. It takes the witness, and writes the sections QS0 and QS1.
@@ -246,88 +75,6 @@ pub fn batch(key: &[u8], leaves: &[u8], witness: &[u8], batching: &[u8], out: &m
         format::sizes::sizes_of(key),
     );
     answer
-}
-
-// A whole proof in buffers of exact length.
-fn prove_sections(
-    out: &mut [u8],
-    table: &mut [u8],
-    sums: &mut [u8],
-    entries: &mut [u8],
-    c: &mut [u8],
-    d: &mut [u8],
-    ut: &mut [u8],
-    vt: &mut [u8],
-    qs0: &mut [u8],
-    qs1: &mut [u8],
-    key: &[u8],
-    leaves: &[u8],
-    witness: &[u8],
-    matrix: &[u8],
-    batching: &[u8],
-    s: Sizes,
-)
-    requires { ⌜ KeyFacts (shapeOf (now key)) (now key) × (shapeFor s ≡ shapeOf (now key)) × WitnessForm (shapeFor s) (now witness) × (length (now batching) ≡ s .tau * s .m) × (limits (shapeFor s) ≡ true) × LeavesForm (shapeFor s) (now leaves) × HashForm (shapeFor s) (now matrix) ⌝ }
-    requires { ⌜ (length (now table) ≡ 8 * wOf bits256 (shapeFor s) * lanes) × (length (now sums) ≡ s .tau * wOf bits256 (shapeFor s)) × (bytesFor (kOf bits256 (shapeFor s)) * 32 * lanes ≤ length (now entries)) ⌝ }
-    requires { ⌜ (length (now c) ≡ (s .tau - 1) * wOf bits256 (shapeFor s)) × (length (now d) ≡ bytesFor (s .n)) × (length (now ut) ≡ bytesFor (s .t)) × (length (now vt) ≡ s .tau * s .t) × (length (now qs0) ≡ lanes) × (length (now qs1) ≡ lanes) ⌝ }
-    requires { ⌜ length (now out) ≡ 24 + (s .tau - 1) * wOf bits256 (shapeFor s) + bytesFor (s .n) + bytesFor (s .t) + s .tau * s .t + s .tau + s .tau ⌝ }
-    ensures { λ _. ⌜ now (out .exit) ≡ bytesOf (sectionsOf bits256 (shapeFor s) (now (leaves .entry)) (now (key .entry)) (now (witness .entry)) (now (matrix .entry)) (now (batching .entry))) ⌝ }
-{
-    let w = format::sizes::leaf_bytes(s);
-    let tau = s.tau;
-    vole::load_trees(table, sums, leaves, tau, w);
-    fill_entries(entries, table, s);
-    fill_commit(c, d, witness, leaves, table, sums, s);
-    fill_hash(ut, vt, matrix, leaves, table, sums, entries, s);
-    fill_batch(qs0, qs1, key, witness, batching, leaves, table, sums, s);
-    put_six(out, c, d, ut, vt, &qs0[..tau], &qs1[..tau]);
-}
-
-// A whole proof.
-fn write_proof(
-    out: &mut [u8],
-    key: &[u8],
-    leaves: &[u8],
-    witness: &[u8],
-    matrix: &[u8],
-    batching: &[u8],
-    s: Sizes,
-)
-    requires { ⌜ KeyFacts (shapeOf (now key)) (now key) × (shapeFor s ≡ shapeOf (now key)) × WitnessForm (shapeFor s) (now witness) × (length (now batching) ≡ s .tau * s .m) × (limits (shapeFor s) ≡ true) × LeavesForm (shapeFor s) (now leaves) × HashForm (shapeFor s) (now matrix) × (length (now out) ≡ 24 + (s .tau - 1) * wOf bits256 (shapeFor s) + bytesFor (s .n) + bytesFor (s .t) + s .tau * s .t + s .tau + s .tau) ⌝ }
-    ensures { λ _. ⌜ now (out .exit) ≡ bytesOf (sectionsOf bits256 (shapeFor s) (now (leaves .entry)) (now (key .entry)) (now (witness .entry)) (now (matrix .entry)) (now (batching .entry))) ⌝ }
-{
-    let w = format::sizes::leaf_bytes(s);
-    let tau = s.tau;
-    let t = s.t;
-    let packed = format::sizes::bytes_for(t);
-    let width = format::sizes::witness_bytes(s);
-    let mut table = [0u8; 8 * MOST_LEAF * LANES];
-    let mut sums = [0u8; LANES * MOST_LEAF];
-    let mut entries = [0u8; MOST_ROW * 32 * LANES];
-    let mut c = [0u8; LANES * MOST_LEAF];
-    let mut d = [0u8; MOST_ROW];
-    let mut ut = [0u8; MOST_ROW];
-    let mut vt = [0u8; LANES * MOST_HASH_ROWS];
-    let mut qs0 = [0u8; LANES];
-    let mut qs1 = [0u8; LANES];
-    prove_sections(
-        out,
-        &mut table[..8 * w * LANES],
-        &mut sums[..tau * w],
-        &mut entries,
-        &mut c[..(tau - 1) * w],
-        &mut d[..width],
-        &mut ut[..packed],
-        &mut vt[..tau * t],
-        &mut qs0,
-        &mut qs1,
-        key,
-        leaves,
-        witness,
-        matrix,
-        batching,
-        s,
-    );
 }
 
 // The three steps in one call (01).

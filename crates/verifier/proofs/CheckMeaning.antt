@@ -32,9 +32,9 @@ use Rattle.strings.proofs.Meaning.{byte-sum, byte-times}
 use Rattle.lanes.specs.Lanes.{lanes, laneAt}
 use Rattle.quadratic.proofs.FormsMeaning.{form-is, lin-is, batch-is, mask-is}
 use Rattle.vole.proofs.SumsMeaning.{byteOf}
-use Rattle.core.specs.Hashed.{hashLane}
-use Rattle.core.specs.Loaded.{HashForm}
-use Rattle.core.proofs.HashMeaning.{hash-lane-is}
+use Rattle.steps.specs.Hashed.{hashLane}
+use Rattle.steps.specs.Loaded.{HashForm}
+use Rattle.steps.proofs.HashMeaning.{hash-lane-is}
 use Rattle.verifier.specs.Checks.{rowConsistent, valueByte, productByte}
 
 abbrev F : Type 0

@@ -35,8 +35,8 @@ use Rattle.vole.specs.Opened.{OpenedTableIs}
 use Rattle.vole.proofs.SumsMeaning.{byteOf}
 use Rattle.vole.proofs.SectionLaws.{in-width}
 use Rattle.vole.proofs.OpenedMeaning.{table-w}
-use Rattle.core.specs.Hashed.{hashLane}
-use Rattle.core.specs.Loaded.{HashForm}
+use Rattle.steps.specs.Hashed.{hashLane}
+use Rattle.steps.specs.Loaded.{HashForm}
 use Rattle.verifier.specs.Checks.{rowConsistent, firstInconsistent, productByte, firstDiffering}
 use Rattle.verifier.specs.Given.{VerifyFacts, Opened}
 use Rattle.verifier.proofs.FirstLaws.{first-congr}

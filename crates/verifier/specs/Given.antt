@@ -13,8 +13,8 @@ use Rattle.protocol.specs.Shape.{Shape, wOf}
 use Rattle.protocol.specs.Sections.{lengths, sectionsIn}
 use Rattle.lanes.specs.Lanes.{lanes}
 use Rattle.vole.specs.Opened.{OpenedTableIs}
-use Rattle.core.specs.Loaded.{HashForm}
-use Rattle.core.specs.Facts.{KeyFacts}
+use Rattle.steps.specs.Loaded.{HashForm}
+use Rattle.steps.specs.Facts.{KeyFacts}
 
 abbrev pub ProofForm : Shape → List ℕ → Type 0
 ProofForm s proof = framed (lengths bits256 s) proof ≡ true

@@ -15,8 +15,8 @@ ghost use Rattle.strings.specs.Sums.{byteAt};
 ghost use Rattle.lanes.specs.Lanes.{lanes};
 ghost use Rattle.format.specs.Sizes.{shapeFor};
 ghost use Rattle.format.specs.Verdict.{answerOf};
-ghost use Rattle.core.specs.Loaded.{HashForm};
-ghost use Rattle.core.specs.Facts.{KeyFacts};
+ghost use Rattle.steps.specs.Loaded.{HashForm};
+ghost use Rattle.steps.specs.Facts.{KeyFacts};
 ghost use Rattle.verifier.specs.Given.{ProofForm, VerifyFacts, Opened};
 use super::consistency::first_inconsistent;
 use super::keys::add_difference;
@@ -66,8 +66,8 @@ fn check_consistency(
     let width = format::sizes::bytes_for(k);
     let tau = s.tau;
     let t = s.t;
-    core::steps::fill_entries(entries, table, s);
-    core::hash::hash_lanes(hashed, matrix, width, k, t, tau, table, entries);
+    steps::fill_entries(entries, table, s);
+    steps::hash::hash_lanes(hashed, matrix, width, k, t, tau, table, entries);
     first_inconsistent(
         hashed,
         proof_section(proof, s, format::proof::V),

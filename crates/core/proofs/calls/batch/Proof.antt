@@ -13,7 +13,7 @@ use Rattle.protocol.specs.Answers.{accepted, ask, written}
 use Rattle.protocol.specs.Calls.{batchQuestions}
 use Rattle.format.specs.Sizes.{shapeFor}
 use Rattle.format.specs.Verdict.{answerOf}
-use Rattle.core.specs.Facts.{BatchFacts}
+use Rattle.steps.specs.Facts.{BatchFacts}
 use Rattle.core.proofs.FactLaws.{batch-facts}
 use Rattle.core.proofs.ReplyLaws.{refused-not, batch-form-reply, batch-solved-reply}
 use borrow.Author.Needs.{needs}

@@ -13,7 +13,7 @@ use Rattle.protocol.specs.Answers.{accepted, ask, written}
 use Rattle.protocol.specs.Calls.{commitQuestions}
 use Rattle.format.specs.Sizes.{shapeFor}
 use Rattle.format.specs.Verdict.{answerOf}
-use Rattle.core.specs.Facts.{CommitFacts}
+use Rattle.steps.specs.Facts.{CommitFacts}
 use Rattle.core.proofs.FactLaws.{commit-facts}
 use Rattle.core.proofs.ReplyLaws.{refused-not, commit-form-reply, commit-solved-reply}
 use borrow.Author.Needs.{needs}

@@ -13,7 +13,7 @@ use Rattle.protocol.specs.Answers.{accepted, ask, written}
 use Rattle.protocol.specs.Calls.{hashQuestions, hashAnswer}
 use Rattle.format.specs.Sizes.{shapeFor}
 use Rattle.format.specs.Verdict.{answerOf}
-use Rattle.core.specs.Facts.{HashFacts}
+use Rattle.steps.specs.Facts.{HashFacts}
 use Rattle.core.proofs.FactLaws.{hash-facts}
 use borrow.Author.Needs.{needs}
 use Rattle.core.proofs.calls.hash.Statement.{statement}

@@ -13,7 +13,7 @@ use Rattle.protocol.specs.Answers.{accepted, ask, written}
 use Rattle.protocol.specs.Calls.{proveQuestions}
 use Rattle.format.specs.Sizes.{shapeFor}
 use Rattle.format.specs.Verdict.{answerOf}
-use Rattle.core.specs.Facts.{ProveFacts}
+use Rattle.steps.specs.Facts.{ProveFacts}
 use Rattle.core.proofs.FactLaws.{prove-facts}
 use Rattle.core.proofs.ReplyLaws.{refused-not, prove-form-reply, prove-solved-reply}
 use borrow.Author.Needs.{needs}

@@ -16,7 +16,7 @@ use Rattle.protocol.specs.Answers.{refused}
 use Rattle.protocol.specs.Questions.{consistentIn, productIn}
 use Rattle.format.specs.Sizes.{shapeFor}
 use Rattle.format.proofs.SizeLaws.{in-limits, w-most}
-use Rattle.core.specs.Facts.{KeyFacts}
+use Rattle.steps.specs.Facts.{KeyFacts}
 use Rattle.verifier.specs.Given.{Opened}
 use Rattle.verifier.proofs.AnswerLaws.{first-refused, second-refused, both-hold}
 use Rattle.verifier.proofs.GivenLaws.{section-lengths, opened-is}

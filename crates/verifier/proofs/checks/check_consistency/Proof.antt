@@ -15,9 +15,9 @@ use Rattle.protocol.specs.Sections.{lengths, sectionsIn}
 use Rattle.strings.specs.Sums.{byteAt}
 use Rattle.format.specs.Sizes.{shapeFor}
 use Rattle.format.proofs.SizeLaws.{in-limits, k-most, w-most}
-use Rattle.core.specs.Hashed.{hashLane}
-use Rattle.core.proofs.FitLaws.{k-fits, l-fits, bits-fit}
-use Rattle.core.proofs.HashSections.{hash-length}
+use Rattle.steps.specs.Hashed.{hashLane}
+use Rattle.steps.proofs.FitLaws.{k-fits, l-fits, bits-fit}
+use Rattle.steps.proofs.HashSections.{hash-length}
 use Rattle.verifier.specs.Checks.{firstInconsistent}
 use Rattle.verifier.proofs.GivenLaws.{section-lengths, section-bytes, first-inconsistent-is}
 use Rattle.verifier.proofs.checks.check_consistency.Statement.{statement}

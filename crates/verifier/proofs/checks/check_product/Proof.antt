@@ -21,7 +21,7 @@ use Rattle.strings.specs.Sums.{byteAt}
 use Rattle.lanes.specs.Lanes.{lanes, laneAt}
 use Rattle.format.specs.Sizes.{shapeFor}
 use Rattle.format.proofs.SizeLaws.{in-limits}
-use Rattle.core.proofs.FitLaws.{n-fits, mask-fits, bits-fit}
+use Rattle.steps.proofs.FitLaws.{n-fits, mask-fits, bits-fit}
 use Rattle.verifier.specs.Checks.{productByte, firstDiffering}
 use Rattle.verifier.proofs.GivenLaws.{section-lengths, section-bytes, first-differing-is}
 use Rattle.verifier.proofs.checks.check_product.Statement.{statement}

@@ -7,8 +7,8 @@ use native.Mathlib.Omega.{arith}
 use denote.Ref.{now}
 use lib.ListN.{length, take, replicate}
 use Rattle.format.specs.Sizes.{shapeFor}
-use Rattle.core.proofs.FitLaws.{room}
-use Rattle.core.proofs.Writes.{prefix-length}
+use Rattle.steps.proofs.FitLaws.{room}
+use Rattle.frames.proofs.Writes.{prefix-length}
 use Rattle.verifier.proofs.checks.checks.Statement.{statement}
 use Rattle.verifier.proofs.checks.checks.Tie as tie
 

@@ -1,0 +1,62 @@
+// The hash of every repetition's vector: H·v_e, H = [H′ | identity], row by row.
+ghost use mathlib.Core.Path.{_≡_};
+ghost use Prim.Native.Nat.{ℕ, _+_, _*_, _<_, _≤_};
+ghost use lib.ListN.{length, take};
+ghost use lib.Bits.{bitXor};
+ghost use Rattle.strings.specs.Sums.{byteAt, selected};
+ghost use Rattle.lanes.specs.Lanes.{lanes, laneAt, Tabled};
+ghost use Rattle.steps.specs.Hashed.{hashLane};
+use lanes::LANES;
+
+// What a row of H′ selects, and one coordinate more, for each lane.
+fn hash_row(out: &mut [u8], row: &[u8], identity: usize, table: &[u8], sums: &[u8])
+    requires { ⌜ (length (now out) ≡ lanes) × (length (now row) * 32 * lanes ≤ length (now sums)) × (identity * lanes + lanes ≤ length (now table)) × (length (now row) * 8 * lanes ≤ length (now table)) ⌝ }
+    requires { ⌜ Tabled (take (length (now row) * 8 * lanes) (now table)) (now sums) (length (now row) * 32) ⌝ }
+    ensures { λ _. ⌜ ((e : ℕ) → e < lanes → byteAt (now (out .exit)) e ≡ bitXor (selected (length (now (row .entry)) * 8) (now (row .entry)) (now (table .entry)) lanes e) (laneAt (now (table .entry)) identity e)) ⌝ }
+{
+    lanes::look_up_row(out, row, sums);
+    strings::xor_into(out, strings::row_at(table, LANES, identity));
+}
+
+// Puts the lanes below tau into column rho of a table of rows of t bytes, one row for each repetition.
+fn put_column(out: &mut [u8], rho: usize, t: usize, tau: usize, column: &[u8])
+    requires { ⌜ (length (now out) ≡ tau * t) × (rho < t) × (tau ≤ length (now column)) ⌝ }
+    ensures { λ _. ⌜ ((e : ℕ) → e < tau → byteAt (now (out .exit)) (e * t + rho) ≡ byteAt (now (column .entry)) e) ⌝ }
+    ensures { λ _. ⌜ ((e r : ℕ) → e < tau → r < t → (r ≡ rho → ⊥) → byteAt (now (out .exit)) (e * t + r) ≡ byteAt (now (out .entry)) (e * t + r)) ⌝ }
+{
+    let mut e = 0;
+    while e < tau {
+        out[e * t + rho] = column[e];
+        e += 1;
+    }
+}
+
+// The section Ṽ: byte e·t + ρ is row ρ of H·v_e.
+pub fn hash_lanes(
+    out: &mut [u8],
+    matrix: &[u8],
+    width: usize,
+    k: usize,
+    t: usize,
+    tau: usize,
+    table: &[u8],
+    sums: &[u8],
+)
+    requires { ⌜ (length (now out) ≡ tau * t) × (length (now matrix) ≡ t * width) × (tau ≤ lanes) × (width * 32 * lanes ≤ length (now sums)) × ((k + t) * lanes ≤ length (now table)) × (width * 8 * lanes ≤ length (now table)) ⌝ }
+    requires { ⌜ Tabled (take (width * 8 * lanes) (now table)) (now sums) (width * 32) ⌝ }
+    ensures { λ _. ⌜ ((e r : ℕ) → e < tau → r < t → byteAt (now (out .exit)) (e * t + r) ≡ hashLane (now (matrix .entry)) width k (now (table .entry)) r e) ⌝ }
+{
+    let mut rho = 0;
+    while rho < t {
+        let mut column = [0u8; LANES];
+        hash_row(
+            &mut column,
+            strings::row_at(matrix, width, rho),
+            k + rho,
+            table,
+            sums,
+        );
+        put_column(out, rho, t, tau, &column);
+        rho += 1;
+    }
+}

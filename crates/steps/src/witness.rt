@@ -1,0 +1,46 @@
+// Question 11: does the witness solve the system? Every equation is looked at; that the answer, place included, is told is 01's rule.
+ghost use mathlib.Core.Path.{_≡_};
+ghost use Prim.Native.Nat.{ℕ, _*_, _<_, _≤_};
+ghost use lib.ListN.{length};
+ghost use Rattle.protocol.specs.Shape.{shapeOf};
+ghost use Rattle.format.specs.Verdict.{answerOf};
+ghost use Rattle.steps.specs.Facts.{KeyFacts, WitnessForm};
+ghost use Rattle.steps.specs.Solved.{SolvedAs};
+use format::Reason;
+use format::Verdict;
+use quadratic::equations::Found;
+
+// Room for the largest key.
+const MOST_EQUATIONS: usize = 160;
+
+fn test_equations(errors: &mut [u8], key: &[u8], witness: &[u8]) -> Verdict
+    requires { ⌜ KeyFacts (shapeOf (now key)) (now key) × WitnessForm (shapeOf (now key)) (now witness) × (length (now errors) ≡ shapeOf (now key) .m) ⌝ }
+    ensures { λ r. ⌜ SolvedAs (now (key .entry)) (now (witness .entry)) (answerOf r) ⌝ }
+{
+    let s = format::sizes::sizes_of(key);
+    let n = s.n;
+    quadratic::equations::equation_errors(
+        errors,
+        format::key::section_a(key),
+        format::key::section_b(key),
+        format::key::section_y(key),
+        witness,
+        n,
+    );
+    let found = quadratic::equations::first_failing(errors);
+    match found {
+        Found::At(i) => format::refuse(Reason::EquationFails, i as u16),
+        Found::Nothing => Verdict::Accepted,
+    }
+}
+
+// Accepted, or refused 11 with an equation that fails.
+pub fn solved(key: &[u8], witness: &[u8]) -> Verdict
+    requires { ⌜ KeyFacts (shapeOf (now key)) (now key) × WitnessForm (shapeOf (now key)) (now witness) ⌝ }
+    ensures { λ r. ⌜ SolvedAs (now (key .entry)) (now (witness .entry)) (answerOf r) ⌝ }
+{
+    let s = format::sizes::sizes_of(key);
+    let m = s.m;
+    let mut errors = [0u8; MOST_EQUATIONS];
+    test_equations(&mut errors[..m], key, witness)
+}
