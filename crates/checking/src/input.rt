@@ -41,7 +41,7 @@ fn verify_sections(input: &[u8], lengths: &[usize]) -> Verdict
     requires { ⌜ (framedLength (now lengths) ≤ length (now input)) × (length (now lengths) ≡ 6) ⌝ }
     ensures { λ r. ⌜ answerOf r ≡ verifyParts (now (lengths .entry)) (now (input .entry)) ⌝ }
 {
-    verifier::checks::verify(
+    verifier::verify(
         section_no(input, lengths, 0),
         section_no(input, lengths, 1),
         section_no(input, lengths, 2),

@@ -71,5 +71,5 @@ pub extern "C" fn mq_verify(
 ) -> u32
     ensures { λ r. ⌜ VerifyTold (now (key .entry)) (now (delta .entry)) (now («hash_matrix» .entry)) (now (batching .entry)) (now (opened .entry)) (now (proof .entry)) r ⌝ }
 {
-    format::word_of(verifier::checks::verify(key, delta, hash_matrix, batching, opened, proof))
+    format::word_of(verifier::verify(key, delta, hash_matrix, batching, opened, proof))
 }

@@ -7,7 +7,7 @@ use Prim.Native.Nat.{ℕ, _≤_, _<_}
 use Rattle.protocol.specs.Lists.{allBelow, firstNot}
 use Rattle.protocol.specs.Answers.{accepted, refused, Question, question, ask}
 use Rattle.protocol.proofs.AnswerLaws.{ask-none, ask-no, ask-yes}
-use Rattle.verifier.proofs.FirstLaws.{first-below, first-all}
+use Rattle.checks.proofs.FirstLaws.{first-below, first-all}
 
 -- asked of every index, a question's place is the first that fails
 abbrev pub each : ℕ → (ℕ → Bool) → ℕ → Question

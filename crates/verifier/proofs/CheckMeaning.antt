@@ -35,7 +35,7 @@ use Rattle.vole.proofs.SumsMeaning.{byteOf}
 use Rattle.steps.specs.Hashed.{hashLane}
 use Rattle.steps.specs.Loaded.{HashForm}
 use Rattle.steps.proofs.HashMeaning.{hash-lane-is}
-use Rattle.verifier.specs.Checks.{rowConsistent, valueByte, productByte}
+use Rattle.checks.specs.Checks.{rowConsistent, valueByte, productByte}
 
 abbrev F : Type 0
 F = bits256 .K .base .R .F

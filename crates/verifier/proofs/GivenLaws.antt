@@ -37,9 +37,9 @@ use Rattle.vole.proofs.SectionLaws.{in-width}
 use Rattle.vole.proofs.OpenedMeaning.{table-w}
 use Rattle.steps.specs.Hashed.{hashLane}
 use Rattle.steps.specs.Loaded.{HashForm}
-use Rattle.verifier.specs.Checks.{rowConsistent, firstInconsistent, productByte, firstDiffering}
+use Rattle.checks.specs.Checks.{rowConsistent, firstInconsistent, productByte, firstDiffering}
 use Rattle.verifier.specs.Given.{VerifyFacts, Opened}
-use Rattle.verifier.proofs.FirstLaws.{first-congr}
+use Rattle.checks.proofs.FirstLaws.{first-congr}
 use Rattle.verifier.proofs.CheckMeaning.{consistent-is, holds-is}
 
 challenge-of : (s : Shape) (Δ : List ℕ) → ΔExact bits256 s Δ ≡ true → length Δ ≡ s .τ

@@ -1,4 +1,3 @@
-pub mod FirstLaws
 pub mod CheckMeaning
 pub mod GivenLaws
 pub mod AnswerLaws
