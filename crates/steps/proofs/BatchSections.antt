@@ -12,8 +12,8 @@ use Rattle.protocol.specs.Shape.{Shape, kOf, lOf, wOf}
 use Rattle.protocol.specs.Key.{sectionA, sectionB}
 use Rattle.protocol.specs.Prover.{qs0, qs1, qs0Section, qs1Section}
 use Rattle.strings.specs.Sums.{byteAt}
-use Rattle.vole.specs.Sums.{TableIs}
-use Rattle.vole.proofs.SumsMeaning.{byteOf, table-v}
+use Rattle.tables.specs.Sums.{TableIs}
+use Rattle.tables.proofs.SumsMeaning.{byteOf, table-v}
 use Rattle.vole.proofs.SectionLaws.{IsU, in-width}
 use Rattle.quadratic.specs.Batch.{qs0Byte, qs1Byte}
 use Rattle.quadratic.proofs.FormsMeaning.{qs0-is, qs1-is}

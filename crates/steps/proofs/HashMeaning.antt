@@ -29,7 +29,7 @@ use Rattle.strings.proofs.SumLaws.{sum-same}
 use Rattle.strings.proofs.Meaning.{byte-sum}
 use Rattle.lanes.specs.Lanes.{lanes}
 use Rattle.strings.proofs.Meaning.{byte-times}
-use Rattle.vole.proofs.SumsMeaning.{byteOf}
+use Rattle.tables.proofs.SumsMeaning.{byteOf}
 use Rattle.steps.specs.Hashed.{hashLane}
 
 abbrev F : Type 0

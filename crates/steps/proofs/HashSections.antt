@@ -17,8 +17,8 @@ use Rattle.protocol.proofs.TestLaws.{eqb-eq}
 use Rattle.protocol.proofs.ListLaws.{length-table, table-at}
 use Rattle.strings.specs.Sums.{byteAt}
 use Rattle.lanes.specs.Lanes.{lanes}
-use Rattle.vole.specs.Sums.{TableIs}
-use Rattle.vole.proofs.SumsMeaning.{byteOf, table-v}
+use Rattle.tables.specs.Sums.{TableIs}
+use Rattle.tables.proofs.SumsMeaning.{byteOf, table-v}
 use Rattle.vole.proofs.SectionLaws.{in-width}
 use Rattle.steps.specs.Hashed.{hashLane}
 use Rattle.steps.specs.Loaded.{HashForm}

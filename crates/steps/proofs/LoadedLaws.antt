@@ -9,8 +9,8 @@ use Rattle.protocol.specs.Binary.{bits256}
 use Rattle.protocol.specs.Shape.{Shape, perTree, wOf}
 use Rattle.protocol.proofs.CountingLaws.{leaves-length}
 use Rattle.lanes.specs.Lanes.{lanes}
-use Rattle.vole.specs.Sums.{SumsAre, TableIs}
-use Rattle.vole.proofs.SumsMeaning.{per-tree}
+use Rattle.tables.specs.Sums.{SumsAre, TableIs}
+use Rattle.tables.proofs.SumsMeaning.{per-tree}
 use Rattle.steps.specs.Loaded.{LeavesForm, Loaded}
 
 pub leaves-long : (s : Shape) (leaves : List ℕ) → LeavesForm s leaves → length leaves ≡ s .τ * 256 * wOf bits256 s

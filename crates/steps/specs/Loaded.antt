@@ -11,7 +11,7 @@ use Rattle.protocol.specs.Binary.{bits256}
 use Rattle.protocol.specs.Shape.{Shape, perTree, wOf}
 use Rattle.protocol.specs.Questions.{leavesExact, leavesSpare, hExact, hSpare}
 use Rattle.lanes.specs.Lanes.{lanes}
-use Rattle.vole.specs.Sums.{SumsAre, TableIs}
+use Rattle.tables.specs.Sums.{SumsAre, TableIs}
 
 pub record LeavesForm (s : Shape) (leaves : List ℕ) : Type 0 where
   pub leaves-exact : leavesExact bits256 s (perTree bits256) leaves ≡ true

@@ -31,7 +31,7 @@ use Rattle.strings.proofs.SumLaws.{sum-same}
 use Rattle.strings.proofs.Meaning.{byte-sum, byte-times}
 use Rattle.lanes.specs.Lanes.{lanes, laneAt}
 use Rattle.quadratic.proofs.FormsMeaning.{form-is, lin-is, batch-is, mask-is}
-use Rattle.vole.proofs.SumsMeaning.{byteOf}
+use Rattle.tables.proofs.SumsMeaning.{byteOf}
 use Rattle.steps.specs.Hashed.{hashLane}
 use Rattle.steps.specs.Loaded.{HashForm}
 use Rattle.steps.proofs.HashMeaning.{hash-lane-is}

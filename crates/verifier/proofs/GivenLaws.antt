@@ -31,10 +31,10 @@ use Rattle.strings.specs.Sums.{byteAt}
 use Rattle.strings.proofs.Meaning.{byte-times}
 use Rattle.lanes.specs.Lanes.{lanes, laneAt}
 use Rattle.format.proofs.SectionLaws.{section-part}
-use Rattle.vole.specs.Opened.{OpenedTableIs}
-use Rattle.vole.proofs.SumsMeaning.{byteOf}
+use Rattle.opened.specs.Opened.{OpenedTableIs}
+use Rattle.tables.proofs.SumsMeaning.{byteOf}
 use Rattle.vole.proofs.SectionLaws.{in-width}
-use Rattle.vole.proofs.OpenedMeaning.{table-w}
+use Rattle.opened.proofs.OpenedMeaning.{table-w}
 use Rattle.steps.specs.Hashed.{hashLane}
 use Rattle.steps.specs.Loaded.{HashForm}
 use Rattle.checks.specs.Checks.{rowConsistent, firstInconsistent, productByte, firstDiffering}

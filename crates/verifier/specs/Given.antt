@@ -12,7 +12,7 @@ use Rattle.protocol.specs.Binary.{bits256}
 use Rattle.protocol.specs.Shape.{Shape, wOf}
 use Rattle.protocol.specs.Sections.{lengths, sectionsIn}
 use Rattle.lanes.specs.Lanes.{lanes}
-use Rattle.vole.specs.Opened.{OpenedTableIs}
+use Rattle.opened.specs.Opened.{OpenedTableIs}
 use Rattle.steps.specs.Loaded.{HashForm}
 use Rattle.steps.specs.Facts.{KeyFacts}
 

@@ -141,7 +141,7 @@ fn ask_checks(
 {
     let tau = s.tau;
     let w = format::sizes::leaf_bytes(s);
-    vole::opened::load_opened(
+    opened::load_opened(
         table,
         opened,
         delta,

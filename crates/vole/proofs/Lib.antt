@@ -1,10 +1,2 @@
-pub mod PlaneLaws
-pub mod PartialLaws
-pub mod ChunkLaws
-pub mod LaneLaws
-pub mod TreeLaws
-pub mod SumsMeaning
-pub mod OpenedLaws
-pub mod OpenedMeaning
 pub mod SectionLaws
 pub mod HashLaws

@@ -29,9 +29,9 @@ use Rattle.strings.proofs.SumLaws.{sum-same, sum-short}
 use Rattle.strings.proofs.ProductLaws.{product-lt}
 use Rattle.strings.proofs.Packed.{packed, pack-congr, rows-are}
 use Rattle.vole.specs.Hash.{hashBit}
-use Rattle.vole.specs.Sums.{SumsAre, CorrectionsAre}
+use Rattle.tables.specs.Sums.{SumsAre, CorrectionsAre}
 use Rattle.vole.proofs.HashLaws.{hash-split}
-use Rattle.vole.proofs.SumsMeaning.{byteOf, u-lt, u-spare, sums-u}
+use Rattle.tables.proofs.SumsMeaning.{byteOf, u-lt, u-spare, sums-u}
 
 abbrev Element : Type 0
 Element = bits256 .K .base .R .F

@@ -1,4 +1,1 @@
-pub mod Sums
-pub mod Trees
-pub mod Opened
 pub mod Hash

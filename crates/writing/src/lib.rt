@@ -49,7 +49,7 @@ fn hash_sections(
 {
     let w = format::sizes::leaf_bytes(s);
     let tau = s.tau;
-    vole::load_trees(table, sums, leaves, tau, w);
+    tables::load_trees(table, sums, leaves, tau, w);
     fill_entries(entries, table, s);
     fill_hash(ut, vt, matrix, leaves, table, sums, entries, s);
     put_two(out, ut, vt);
@@ -100,7 +100,7 @@ fn commit_sections(
 {
     let w = format::sizes::leaf_bytes(s);
     let tau = s.tau;
-    vole::load_trees(table, sums, leaves, tau, w);
+    tables::load_trees(table, sums, leaves, tau, w);
     fill_commit(c, d, witness, leaves, table, sums, s);
     put_two(out, c, d);
 }
@@ -148,7 +148,7 @@ fn batch_sections(
 {
     let w = format::sizes::leaf_bytes(s);
     let tau = s.tau;
-    vole::load_trees(table, sums, leaves, tau, w);
+    tables::load_trees(table, sums, leaves, tau, w);
     fill_batch(qs0, qs1, key, witness, batching, leaves, table, sums, s);
     put_two(out, &qs0[..tau], &qs1[..tau]);
 }
@@ -205,7 +205,7 @@ fn prove_sections(
 {
     let w = format::sizes::leaf_bytes(s);
     let tau = s.tau;
-    vole::load_trees(table, sums, leaves, tau, w);
+    tables::load_trees(table, sums, leaves, tau, w);
     fill_entries(entries, table, s);
     fill_commit(c, d, witness, leaves, table, sums, s);
     fill_hash(ut, vt, matrix, leaves, table, sums, entries, s);

@@ -14,7 +14,7 @@ use Rattle.protocol.specs.Shape.{Shape, wOf}
 use Rattle.protocol.proofs.ListLaws.{row-end}
 use Rattle.format.specs.Sizes.{shapeFor}
 use Rattle.format.proofs.SizeLaws.{in-limits}
-use Rattle.vole.specs.Sums.{CorrectionsAre}
+use Rattle.tables.specs.Sums.{CorrectionsAre}
 use Rattle.vole.proofs.SectionLaws.{first-is-u, corrections-are, difference-is}
 use Rattle.steps.specs.Loaded.{Loaded}
 use Rattle.steps.proofs.FitLaws.{n-fits}

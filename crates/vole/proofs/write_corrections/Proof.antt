@@ -9,7 +9,7 @@ use lib.Bits.{bitXor}
 use lib.ListN.{length}
 use Rattle.strings.specs.Sums.{byteAt}
 use Rattle.strings.proofs.Rows.{row-end, rows-more}
-use Rattle.vole.specs.Sums.{CorrectionsAre}
+use Rattle.tables.specs.Sums.{CorrectionsAre}
 use Rattle.vole.proofs.write_corrections.Statement.{statement}
 use Rattle.vole.proofs.write_corrections.Tie as tie
 

@@ -1,0 +1,3 @@
+pub mod PlaneLaws
+pub mod PartialLaws
+pub mod ChunkLaws

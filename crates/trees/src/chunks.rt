@@ -1,0 +1,168 @@
+// The sums of one tree, sixteen bytes of every leaf at a time: these stay in a register over all leaves, and two additions are made for a leaf.
+//
+// As in the sums row by row, plane p takes the running sum of the leaves where bit p of the leaf's number changes from j to j + 1. These bits are the
+// lowest ones, up to some p, so that the running sum is held for the highest of them alone, and the held sums are added up at the end.
+// Row k of what is held has the sums for p = r - k, and row 0 those for all planes: plane p is the sum of the rows 0, .., r - p.
+ghost use mathlib.Core.Path.{_≡_};
+ghost use mathlib.Core.Bool.{cond};
+ghost use Prim.Native.Nat.{ℕ, _+_, _*_, _-_, _<_, _≤_};
+ghost use lib.Bits.{bitXor};
+ghost use lib.Dec.{ltb};
+ghost use lib.ListN.{length};
+ghost use Rattle.protocol.specs.Leaves.{place};
+ghost use Rattle.strings.specs.Sums.{byteAt, bitOf, xorSum};
+ghost use Rattle.trees.specs.Trees.{leafByte, TreeFits, Summed};
+use super::opened_leaf;
+
+pub const CHUNK: usize = 16;
+
+// A row for each plane, and one.
+const HELD: usize = 9 * CHUNK;
+
+// sum[i] ^= s[from + i], for each i. The count is a constant, here and below, so that a caller's local array stays in registers.
+fn add_chunk(sum: &mut [u8; CHUNK], s: &[u8], from: usize)
+    requires { ⌜ (from + 16 ≤ length (now s)) × (length (now sum) ≡ 16) ⌝ }
+    ensures { λ _. ⌜ length (now (sum .exit)) ≡ 16 ⌝ }
+    ensures { λ _. ⌜ ((i : ℕ) → i < 16 → byteAt (now (sum .exit)) i ≡ bitXor (byteAt (now (sum .entry)) i) (byteAt (now (s .entry)) (from + i))) ⌝ }
+{
+    let mut i = 0;
+    while i < CHUNK {
+        sum[i] ^= s[from + i];
+        i += 1;
+    }
+}
+
+// out[from + i] = sum[i], for each i.
+fn put_chunk(out: &mut [u8], from: usize, sum: &[u8; CHUNK])
+    requires { ⌜ (from + 16 ≤ length (now out)) × (length (now sum) ≡ 16) ⌝ }
+    ensures { λ _. ⌜ ((i : ℕ) → i < 16 → byteAt (now (out .exit)) (from + i) ≡ byteAt (now (sum .entry)) i) ⌝ }
+    ensures { λ _. ⌜ ((i : ℕ) → (from ≤ i → i < from + 16 → ⊥) → byteAt (now (out .exit)) i ≡ byteAt (now (out .entry)) i) ⌝ }
+{
+    let mut i = 0;
+    while i < CHUNK {
+        out[from + i] = sum[i];
+        i += 1;
+    }
+}
+
+// Adds sum to a row of what is held.
+fn add_held(held: &mut [u8; HELD], row: usize, sum: &[u8; CHUNK])
+    requires { ⌜ (row ≤ 8) × (length (now held) ≡ 144) × (length (now sum) ≡ 16) ⌝ }
+    ensures { λ _. ⌜ length (now (held .exit)) ≡ 144 ⌝ }
+    ensures { λ _. ⌜ ((b : ℕ) → b < 16 → byteAt (now (held .exit)) (row * 16 + b) ≡ bitXor (byteAt (now (held .entry)) (row * 16 + b)) (byteAt (now (sum .entry)) b)) ⌝ }
+    ensures { λ _. ⌜ ((k b : ℕ) → (k ≡ row → ⊥) → b < 16 → byteAt (now (held .exit)) (k * 16 + b) ≡ byteAt (now (held .entry)) (k * 16 + b)) ⌝ }
+{
+    let at = row * CHUNK;
+    let mut i = 0;
+    while i < CHUNK {
+        held[at + i] ^= sum[i];
+        i += 1;
+    }
+}
+
+// The row that takes the running sum of the leaves up to j: the bits that change from j to j + 1 are those up to the zeros at the end of j + 1.
+fn held_row(j: usize, r: usize) -> usize
+    requires { ⌜ (j < 65536) × (r ≤ 8) ⌝ }
+    ensures { λ k. ⌜ k ≤ r ⌝ }
+    ensures { λ k. ⌜ ((p : ℕ) → p < r → bitOf (bitXor j (j + 1)) p ≡ cond (ltb k (r + 1 - p)) 1 0) ⌝ }
+{
+    let zeros = usize::trailing_zeros(j + 1) as usize;
+    if zeros < r { r - zeros } else { 0 }
+}
+
+// Adds sixteen bytes of leaf j, from `at` on, and nothing for the leaf that is left out.
+fn add_part(sum: &mut [u8; CHUNK], tree: &[u8], w: usize, delta: usize, j: usize, at: usize)
+    requires { ⌜ ((j ≡ delta → ⊥) → place delta j * w + w ≤ length (now tree)) × (at + 16 ≤ w) × (length (now sum) ≡ 16) ⌝ }
+    ensures { λ _. ⌜ length (now (sum .exit)) ≡ 16 ⌝ }
+    ensures { λ _. ⌜ ((b : ℕ) → b < 16 → byteAt (now (sum .exit)) b ≡ bitXor (byteAt (now (sum .entry)) b) (leafByte (now (tree .entry)) w delta j (at + b))) ⌝ }
+{
+    if j != delta {
+        add_chunk(sum, opened_leaf(tree, w, delta, j), at);
+    }
+}
+
+// The running sum of all leaves, and what is held for the planes, from 0.
+fn hold(
+    sum: &mut [u8; CHUNK],
+    held: &mut [u8; HELD],
+    r: usize,
+    tree: &[u8],
+    count: usize,
+    delta: usize,
+    w: usize,
+    at: usize,
+)
+    requires { ⌜ (length (now sum) ≡ 16) × (length (now held) ≡ 144) × (r ≤ 8) × (count < 65536) × (at + 16 ≤ w) × TreeFits (now tree) w delta count ⌝ }
+    requires { ⌜ ((i : ℕ) → i < 16 → byteAt (now sum) i ≡ 0) × ((i : ℕ) → i < 144 → byteAt (now held) i ≡ 0) × ((p : ℕ) → p < r → bitOf count p ≡ 0) ⌝ }
+    ensures { λ _. ⌜ (length (now (sum .exit)) ≡ 16) × (length (now (held .exit)) ≡ 144) ⌝ }
+    ensures { λ _. ⌜ ((b : ℕ) → b < 16 → byteAt (now (sum .exit)) b ≡ xorSum count (λ j. leafByte (now (tree .entry)) w delta j (at + b))) ⌝ }
+    ensures { λ _. ⌜ ((p b : ℕ) → p < r → b < 16 → xorSum (r + 1 - p) (λ k. byteAt (now (held .exit)) (k * 16 + b)) ≡ xorSum count (λ j. bitOf j p * leafByte (now (tree .entry)) w delta j (at + b))) ⌝ }
+{
+    let mut j = 0;
+    while j < count {
+        add_part(sum, tree, w, delta, j, at);
+        add_held(held, held_row(j, r), sum);
+        j += 1;
+    }
+}
+
+// Sixteen bytes of each plane, from `at` on: the sums of the first rows of what is held.
+fn put_planes(planes: &mut [u8], held: &[u8; HELD], r: usize, w: usize, at: usize)
+    requires { ⌜ (length (now planes) ≡ r * w) × (length (now held) ≡ 144) × (r ≤ 8) × (at + 16 ≤ w) ⌝ }
+    ensures { λ _. ⌜ ((p b : ℕ) → p < r → b < 16 → byteAt (now (planes .exit)) (p * w + (at + b)) ≡ xorSum (r + 1 - p) (λ k. byteAt (now (held .entry)) (k * 16 + b))) ⌝ }
+    ensures { λ _. ⌜ ((p b : ℕ) → p < r → b < at → byteAt (now (planes .exit)) (p * w + b) ≡ byteAt (now (planes .entry)) (p * w + b)) ⌝ }
+{
+    let mut sum = [0u8; CHUNK];
+    add_chunk(&mut sum, held, 0);
+    let mut k = 0;
+    while k < r {
+        k += 1;
+        add_chunk(&mut sum, held, k * CHUNK);
+        put_chunk(planes, (r - k) * w + at, &sum);
+    }
+}
+
+// Sixteen bytes of u and of each plane, from `at` on. Those before are left.
+fn sum_chunk(
+    u: &mut [u8],
+    planes: &mut [u8],
+    r: usize,
+    tree: &[u8],
+    count: usize,
+    delta: usize,
+    w: usize,
+    at: usize,
+)
+    requires { ⌜ (length (now u) ≡ w) × (length (now planes) ≡ r * w) × (r ≤ 8) × (count < 65536) × (at + 16 ≤ w) × TreeFits (now tree) w delta count ⌝ }
+    requires { ⌜ ((p : ℕ) → p < r → bitOf count p ≡ 0) ⌝ }
+    ensures { λ _. ⌜ ((n : ℕ) → at ≤ n → Summed (leafByte (now (tree .entry)) w delta) count r w (now (u .entry)) (now (planes .entry)) n → Summed (leafByte (now (tree .entry)) w delta) count r w (now (u .exit)) (now (planes .exit)) (at + 16)) ⌝ }
+{
+    let mut sum = [0u8; CHUNK];
+    let mut held = [0u8; HELD];
+    hold(&mut sum, &mut held, r, tree, count, delta, w, at);
+    put_chunk(u, at, &sum);
+    put_planes(planes, &held, r, w, at);
+}
+
+// `tree_sums` of leaves of sixteen bytes or more. The last sixteen may have bytes in common with those before.
+pub fn sum_chunks(
+    u: &mut [u8],
+    planes: &mut [u8],
+    r: usize,
+    tree: &[u8],
+    count: usize,
+    delta: usize,
+    w: usize,
+)
+    requires { ⌜ (length (now u) ≡ w) × (length (now planes) ≡ r * w) × (r ≤ 8) × (count < 65536) × (16 ≤ w) × TreeFits (now tree) w delta count ⌝ }
+    requires { ⌜ ((p : ℕ) → p < r → bitOf count p ≡ 0) ⌝ }
+    ensures { λ _. ⌜ Summed (leafByte (now (tree .entry)) w delta) count r w (now (u .exit)) (now (planes .exit)) w ⌝ }
+{
+    let last = w - CHUNK;
+    let mut at = 0;
+    while at < last {
+        sum_chunk(u, planes, r, tree, count, delta, w, at);
+        at += CHUNK;
+    }
+    sum_chunk(u, planes, r, tree, count, delta, w, last);
+}
