@@ -17,7 +17,7 @@ pub fn hash(key: &[u8], leaves: &[u8], matrix: &[u8], out: &mut [u8]) -> Verdict
     ensures { λ r. ⌜ answerOf r ≡ hashAnswer bits256 (now (key .entry)) (now (leaves .entry)) (now (matrix .entry)) (now (out .entry)) ⌝ }
     ensures { λ r. ⌜ now (out .exit) ≡ written (answerOf r) (now (out .entry)) (hashBytes bits256 (now (key .entry)) (now (leaves .entry)) (now (matrix .entry))) ⌝ }
 {
-    let form = format::calls::hash_form(key, leaves, matrix, out.len());
+    let form = questions::calls::hash_form(key, leaves, matrix, out.len());
     let Verdict::Accepted = form else {
         return form;
     };
@@ -29,7 +29,7 @@ pub fn hash(key: &[u8], leaves: &[u8], matrix: &[u8], out: &mut [u8]) -> Verdict
 pub fn test(key: &[u8], witness: &[u8]) -> Verdict
     ensures { λ r. ⌜ TestReply bits256 (now (key .entry)) (now (witness .entry)) (answerOf r) ⌝ }
 {
-    let form = format::calls::test_form(key, witness);
+    let form = questions::calls::test_form(key, witness);
     let Verdict::Accepted = form else {
         return form;
     };
@@ -41,7 +41,7 @@ pub fn commit(key: &[u8], leaves: &[u8], witness: &[u8], out: &mut [u8]) -> Verd
     ensures { λ r. ⌜ CommitReply bits256 (now (key .entry)) (now (leaves .entry)) (now (witness .entry)) (now (out .entry)) (answerOf r) ⌝ }
     ensures { λ r. ⌜ now (out .exit) ≡ written (answerOf r) (now (out .entry)) (commitBytes bits256 (now (key .entry)) (now (leaves .entry)) (now (witness .entry))) ⌝ }
 {
-    let form = format::calls::commit_form(key, leaves, witness, out.len());
+    let form = questions::calls::commit_form(key, leaves, witness, out.len());
     let Verdict::Accepted = form else {
         return form;
     };
@@ -58,7 +58,7 @@ pub fn batch(key: &[u8], leaves: &[u8], witness: &[u8], batching: &[u8], out: &m
     ensures { λ r. ⌜ BatchReply bits256 (now (key .entry)) (now (leaves .entry)) (now (witness .entry)) (now (batching .entry)) (now (out .entry)) (answerOf r) ⌝ }
     ensures { λ r. ⌜ now (out .exit) ≡ written (answerOf r) (now (out .entry)) (batchBytes bits256 (now (key .entry)) (now (leaves .entry)) (now (witness .entry)) (now (batching .entry))) ⌝ }
 {
-    let form = format::calls::batch_form(key, leaves, witness, batching, out.len());
+    let form = questions::calls::batch_form(key, leaves, witness, batching, out.len());
     let Verdict::Accepted = form else {
         return form;
     };
@@ -89,7 +89,7 @@ pub fn prove(
     ensures { λ r. ⌜ ProveReply bits256 (now (key .entry)) (now (leaves .entry)) (now (witness .entry)) (now (matrix .entry)) (now (batching .entry)) (now (out .entry)) (answerOf r) ⌝ }
     ensures { λ r. ⌜ now (out .exit) ≡ written (answerOf r) (now (out .entry)) (proofOf bits256 (now (key .entry)) (now (leaves .entry)) (now (witness .entry)) (now (matrix .entry)) (now (batching .entry))) ⌝ }
 {
-    let form = format::calls::prove_form(key, leaves, witness, matrix, batching, out.len());
+    let form = questions::calls::prove_form(key, leaves, witness, matrix, batching, out.len());
     let Verdict::Accepted = form else {
         return form;
     };

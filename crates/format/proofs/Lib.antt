@@ -4,5 +4,4 @@ pub mod SectionLaws
 pub mod SpanLaws
 pub mod SpareLaws
 pub mod AskLaws
-pub mod KeyLaws
 pub mod ReadingLaws

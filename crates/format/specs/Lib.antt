@@ -1,5 +1,4 @@
 pub mod Verdict
 pub mod Span
 pub mod Sizes
-pub mod Asking
 pub mod Reading

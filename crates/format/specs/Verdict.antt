@@ -1,5 +1,6 @@
 -- What each case of the code's enums stands for in 01.
 --   numberFor reason == the number of the question that was answered no;  answerOf verdict == the answer
+--   andThen a b == the answer a where it refuses, else b
 -- Assumes nothing.
 use Prim.Native.Nat.{ℕ}
 use Rattle.protocol.specs.Answers.{Answer, accepted, refused}
@@ -29,3 +30,7 @@ numberFor ProductDiffers = 15
 abbrev pub answerOf : Verdict → Answer
 answerOf Accepted = accepted
 answerOf (Refused r) = refused (numberFor (r .reason)) (r .place)
+
+unfoldable pub andThen : Answer → Answer → Answer
+andThen accepted b = b
+andThen (refused i p) b = refused i p

@@ -1,9 +1,5 @@
 // The answers of the calls, and where a section stands, in the forms that 01 names.
-pub mod calls;
-pub mod inputs;
-pub mod key;
 pub mod numbers;
-pub mod proof;
 pub mod sections;
 pub mod sizes;
 pub mod spare;
@@ -13,8 +9,7 @@ ghost use mathlib.Core.Path.{_≡_};
 ghost use mathlib.Core.List.{[], _∷_};
 ghost use Prim.Native.Nat.{_<_};
 ghost use Rattle.protocol.specs.Answers.{refused, question, ask, word};
-ghost use Rattle.format.specs.Verdict.{numberFor, answerOf};
-ghost use Rattle.format.specs.Asking.{andThen};
+ghost use Rattle.format.specs.Verdict.{numberFor, answerOf, andThen};
 
 // Why a call refuses: one case for each question of 01.
 pub enum Reason {

@@ -16,7 +16,7 @@ pub extern "C" fn mq_key_size(n: usize, m: usize, tau: usize, t: usize) -> usize
 {
     let s = Sizes { n, m, tau, t };
     if format::sizes::in_limits(s) {
-        format::key::key_bytes(s)
+        questions::key::key_bytes(s)
     } else {
         0
     }

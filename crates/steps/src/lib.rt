@@ -100,8 +100,8 @@ pub fn fill_batch(
     quadratic::batch::batch_lanes(
         qs0,
         qs1,
-        format::key::section_a(key),
-        format::key::section_b(key),
+        questions::key::section_a(key),
+        questions::key::section_b(key),
         witness,
         batching,
         strings::row_at(sums, w, 0),

@@ -21,9 +21,9 @@ fn test_equations(errors: &mut [u8], key: &[u8], witness: &[u8]) -> Verdict
     let n = s.n;
     quadratic::equations::equation_errors(
         errors,
-        format::key::section_a(key),
-        format::key::section_b(key),
-        format::key::section_y(key),
+        questions::key::section_a(key),
+        questions::key::section_b(key),
+        questions::key::section_y(key),
         witness,
         n,
     );

@@ -25,7 +25,7 @@ use checks::product::product_lanes;
 use format::Reason;
 use format::Sizes;
 use format::Verdict;
-use format::proof::proof_section;
+use questions::proof::proof_section;
 use lanes::LANES;
 
 // Room for the largest key: bytes of a leaf, bytes of a row of bits, hash rows. Its repetitions are the lanes.
@@ -70,8 +70,8 @@ fn check_consistency(
     steps::hash::hash_lanes(hashed, matrix, width, k, t, tau, table, entries);
     first_inconsistent(
         hashed,
-        proof_section(proof, s, format::proof::V),
-        proof_section(proof, s, format::proof::U),
+        proof_section(proof, s, questions::proof::V),
+        proof_section(proof, s, questions::proof::U),
         delta,
         t,
     )
@@ -98,15 +98,15 @@ fn check_product(
     load_challenge(&mut challenge, delta);
     add_difference(
         table,
-        proof_section(proof, s, format::proof::D),
+        proof_section(proof, s, questions::proof::D),
         n,
         &challenge,
     );
     product_lanes(
         &mut left,
-        format::key::section_a(key),
-        format::key::section_b(key),
-        format::key::section_y(key),
+        questions::key::section_a(key),
+        questions::key::section_b(key),
+        questions::key::section_y(key),
         batching,
         &challenge,
         n,
@@ -116,8 +116,8 @@ fn check_product(
     );
     first_differing(
         &left,
-        proof_section(proof, s, format::proof::QS0),
-        proof_section(proof, s, format::proof::QS1),
+        proof_section(proof, s, questions::proof::QS0),
+        proof_section(proof, s, questions::proof::QS1),
         delta,
     )
 }
@@ -145,7 +145,7 @@ fn ask_checks(
         table,
         opened,
         delta,
-        proof_section(proof, s, format::proof::C),
+        proof_section(proof, s, questions::proof::C),
         tau,
         w,
     );
@@ -204,7 +204,7 @@ pub fn verify(
 ) -> Verdict
     ensures { λ r. ⌜ answerOf r ≡ verifyAnswer bits256 (now (key .entry)) (now (delta .entry)) (now (matrix .entry)) (now (batching .entry)) (now (opened .entry)) (now (proof .entry)) ⌝ }
 {
-    let form = format::calls::verify_form(key, delta, matrix, batching, opened, proof);
+    let form = questions::calls::verify_form(key, delta, matrix, batching, opened, proof);
     let Verdict::Accepted = form else {
         return form;
     };

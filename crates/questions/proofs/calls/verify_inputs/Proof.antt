@@ -1,0 +1,60 @@
+-- `questions::calls::verify_inputs` meets its contract. The questions on each input, one after the other.
+-- Assumes nothing.
+use mathlib.Core.Path.{sym, _∙_}
+use mathlib.Core.Bool.{_&&_}
+use borrow.Author.Needs.{needs}
+use Rattle.algebra.proofs.CountLaws.{and-left, and-right}
+use Rattle.protocol.specs.Shape.{perTree, perOpened}
+use Rattle.format.proofs.AllLaws.{all-three}
+use Rattle.format.proofs.AskLaws.{same-first, then-ask}
+use Rattle.questions.proofs.calls.verify_inputs.Statement.{statement}
+use Rattle.questions.proofs.calls.verify_inputs.Tie as tie
+
+challenge-exact-requires : tie.Need-challenge-exact-requires
+challenge-exact-requires c κs = search needs
+
+hash-matrix-exact-requires : tie.Need-hash-matrix-exact-requires
+hash-matrix-exact-requires c κs = search needs
+
+batching-exact-requires : tie.Need-batching-exact-requires
+batching-exact-requires c κs = search needs
+
+hash-matrix-form-requires : tie.Need-hash-matrix-form-requires
+hash-matrix-form-requires c κs =
+    let h = c .before in
+    let d = h .before in
+    let Δ? = d .challenge-exact .result in
+    let H? = h .hash-matrix-exact .result in
+    let χ? = c .batching-exact .result in
+    (d .before .before .before .before .before .before .pre, λ e. sym (h .hash-matrix-exact .ensures) ∙ and-right Δ? H? (and-left (Δ? && H?) χ? e))
+
+sub-leaves-form : tie.Need-sub-leaves-form
+sub-leaves-form c = search needs
+
+leaves-form-requires : tie.Need-leaves-form-requires
+leaves-form-requires c κs = search needs
+
+proof-form-requires : tie.Need-proof-form-requires
+proof-form-requires c κs = search needs
+
+returns : tie.Need-returns
+unfolding perOpened perTree
+returns c =
+    let l = c .before in
+    let h = l .before in
+    let b = h .before in
+    let q = same-first 5 0 _ (all-three (b .before .before .challenge-exact .ensures) (b .before .hash-matrix-exact .ensures) (b .batching-exact .ensures)) (h .hash-matrix-form .ensures) in
+    then-ask _ _ (then-ask _ _ q (l .leaves-form .ensures)) (c .proof-form .ensures)
+
+pub verify-inputs-spec : {M : Type 1} → statement M
+verify-inputs-spec =
+    tie.close
+    (tie.spec
+    challenge-exact-requires
+    hash-matrix-exact-requires
+    batching-exact-requires
+    hash-matrix-form-requires
+    sub-leaves-form
+    leaves-form-requires
+    proof-form-requires
+    returns)

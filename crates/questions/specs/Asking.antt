@@ -1,0 +1,55 @@
+-- How the code puts its questions: those on the key first, then one input after the other, each only where all before got a yes.
+--   keyQuestions key == questions 1 to 4;  outputQuestion ls n == question 10, of an output of n bytes
+--   commitInputs s .., hashInputs, batchInputs, proveInputs, verifyInputs == the questions of a call after those on the key, by the sizes s
+--   KeyForm key == what questions 1 to 3 ask of a key: its header is there, its sizes are in range, its sections are exact
+-- Assumes nothing.
+use mathlib.Core.Path.{_≡_}
+use mathlib.Core.Bool.{true}
+use mathlib.Core.List.{List, [], _∷_}
+use Prim.Native.Nat.{ℕ, _≤_}
+use lib.Dec.{eqb}
+use lib.ListN.{length}
+use Rattle.protocol.specs.Frames.{framedLength}
+use Rattle.protocol.specs.Binary.{bits256}
+use Rattle.protocol.specs.Shape.{Shape, shapeOf, limits, perTree, perOpened}
+use Rattle.protocol.specs.Sections.{lengths, commitLengths, hashLengths, batchLengths}
+use Rattle.protocol.specs.Key.{keyExact}
+use Rattle.protocol.specs.Answers.{Question, question}
+use Rattle.protocol.specs.Questions.{ΔExact, hExact, χExact, q1, q2, q3, q4, q5, q6, q7, q8, q9, q12, q13}
+
+abbrev pub keyQuestions : List ℕ → List Question
+keyQuestions key =
+    q1 bits256 (shapeOf key) key ∷ q2 bits256 (shapeOf key) ∷ q3 bits256 (shapeOf key) key ∷ q4 bits256 (shapeOf key) key ∷ []
+
+abbrev pub outputQuestion : List ℕ → ℕ → Question
+outputQuestion ls n = question (eqb n (framedLength ls)) 10 0
+
+module _ (s : Shape) where
+  abbrev pub commitInputs : List ℕ → List ℕ → ℕ → List Question
+  commitInputs leaves x n =
+      q7 bits256 s (perTree bits256) leaves ∷ q8 bits256 s (perTree bits256) leaves ∷ q9 bits256 s x ∷ outputQuestion (commitLengths bits256 s) n ∷ []
+
+  abbrev pub hashInputs : List ℕ → List ℕ → ℕ → List Question
+  hashInputs leaves H′ n =
+      q5 bits256 s (hExact bits256 s H′ ∷ []) ∷ q6 bits256 s H′ ∷ q7 bits256 s (perTree bits256) leaves ∷ q8 bits256 s (perTree bits256) leaves
+      ∷ outputQuestion (hashLengths bits256 s) n ∷ []
+
+  abbrev pub batchInputs : List ℕ → List ℕ → List ℕ → ℕ → List Question
+  batchInputs leaves x χ n =
+      q5 bits256 s (χExact bits256 s χ ∷ []) ∷ q7 bits256 s (perTree bits256) leaves ∷ q8 bits256 s (perTree bits256) leaves ∷ q9 bits256 s x
+      ∷ outputQuestion (batchLengths bits256 s) n ∷ []
+
+  abbrev pub proveInputs : List ℕ → List ℕ → List ℕ → List ℕ → ℕ → List Question
+  proveInputs leaves x H′ χ n =
+      q5 bits256 s (hExact bits256 s H′ ∷ χExact bits256 s χ ∷ []) ∷ q6 bits256 s H′ ∷ q7 bits256 s (perTree bits256) leaves
+      ∷ q8 bits256 s (perTree bits256) leaves ∷ q9 bits256 s x ∷ outputQuestion (lengths bits256 s) n ∷ []
+
+  abbrev pub verifyInputs : List ℕ → List ℕ → List ℕ → List ℕ → List ℕ → List Question
+  verifyInputs Δ H′ χ opened proof =
+      q5 bits256 s (ΔExact bits256 s Δ ∷ hExact bits256 s H′ ∷ χExact bits256 s χ ∷ []) ∷ q6 bits256 s H′ ∷ q7 bits256 s (perOpened bits256) opened
+      ∷ q8 bits256 s (perOpened bits256) opened ∷ q12 bits256 s proof ∷ q13 bits256 s proof ∷ []
+
+pub record KeyForm (key : List ℕ) : Type 0 where
+  pub header : 8 ≤ length key
+  pub sizes : limits (shapeOf key) ≡ true
+  pub exact : keyExact bits256 (shapeOf key) key ≡ true

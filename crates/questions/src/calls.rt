@@ -1,0 +1,191 @@
+// The questions on form of each call, in 01's order: all of its questions but 11, 14 and 15.
+ghost use mathlib.Core.Path.{_≡_};
+ghost use mathlib.Core.Bool.{true};
+ghost use mathlib.Core.List.{List};
+ghost use Prim.Native.Nat.{ℕ};
+ghost use lib.ListN.{length};
+ghost use Rattle.protocol.specs.Binary.{bits256};
+ghost use Rattle.protocol.specs.Shape.{limits};
+ghost use Rattle.protocol.specs.Answers.{ask};
+ghost use Rattle.protocol.specs.Calls.{testQuestions, commitQuestions, hashQuestions, batchQuestions, proveQuestions, verifyQuestions};
+ghost use Rattle.format.specs.Sizes.{shapeFor};
+ghost use Rattle.format.specs.Verdict.{answerOf};
+ghost use Rattle.questions.specs.Asking.{commitInputs, hashInputs, batchInputs, proveInputs, verifyInputs};
+use format::Reason;
+use format::Verdict;
+use format::also;
+use super::inputs::batching_exact;
+use super::inputs::challenge_exact;
+use super::inputs::hash_matrix_exact;
+use super::inputs::hash_matrix_form;
+use super::inputs::leaves_form;
+use super::inputs::witness_form;
+use super::key::key_form;
+use super::proof::proof_form;
+use format::sizes::Sizes;
+use format::sizes::batch_bytes;
+use format::sizes::commit_bytes;
+use format::sizes::hash_bytes;
+use format::sizes::proof_bytes;
+use format::sizes::sizes_of;
+use field::Gf256;
+
+fn commit_inputs(leaves: &[u8], witness: &[u8], out_len: usize, s: Sizes) -> Verdict
+    requires { ⌜ limits (shapeFor s) ≡ true ⌝ }
+    ensures { λ r. ⌜ answerOf r ≡ ask (commitInputs (shapeFor s) (now (leaves .entry)) (now (witness .entry)) «out_len») ⌝ }
+{
+    let asked = leaves_form(Verdict::Accepted, leaves, s, Gf256::SIZE);
+    let asked = witness_form(asked, witness, s);
+    also(asked, out_len == commit_bytes(s), Reason::OutputLength)
+}
+
+fn hash_inputs(leaves: &[u8], hash_matrix: &[u8], out_len: usize, s: Sizes) -> Verdict
+    requires { ⌜ limits (shapeFor s) ≡ true ⌝ }
+    ensures { λ r. ⌜ answerOf r ≡ ask (hashInputs (shapeFor s) (now (leaves .entry)) (now («hash_matrix» .entry)) «out_len») ⌝ }
+{
+    let exact = hash_matrix_exact(hash_matrix, s);
+    let asked = hash_matrix_form(exact, hash_matrix, s);
+    let asked = leaves_form(asked, leaves, s, Gf256::SIZE);
+    also(asked, out_len == hash_bytes(s), Reason::OutputLength)
+}
+
+fn batch_inputs(leaves: &[u8], witness: &[u8], batching: &[u8], out_len: usize, s: Sizes) -> Verdict
+    requires { ⌜ limits (shapeFor s) ≡ true ⌝ }
+    ensures { λ r. ⌜ answerOf r ≡ ask (batchInputs (shapeFor s) (now (leaves .entry)) (now (witness .entry)) (now (batching .entry)) «out_len») ⌝ }
+{
+    let exact = batching_exact(batching, s);
+    let asked = also(Verdict::Accepted, exact, Reason::ChallengeLength);
+    let asked = leaves_form(asked, leaves, s, Gf256::SIZE);
+    let asked = witness_form(asked, witness, s);
+    also(asked, out_len == batch_bytes(s), Reason::OutputLength)
+}
+
+fn prove_inputs(
+    leaves: &[u8],
+    witness: &[u8],
+    hash_matrix: &[u8],
+    batching: &[u8],
+    out_len: usize,
+    s: Sizes,
+) -> Verdict
+    requires { ⌜ limits (shapeFor s) ≡ true ⌝ }
+    ensures { λ r. ⌜ answerOf r ≡ ask (proveInputs (shapeFor s) (now (leaves .entry)) (now (witness .entry)) (now («hash_matrix» .entry)) (now (batching .entry)) «out_len») ⌝ }
+{
+    let exact = hash_matrix_exact(hash_matrix, s) & batching_exact(batching, s);
+    let asked = hash_matrix_form(exact, hash_matrix, s);
+    let asked = leaves_form(asked, leaves, s, Gf256::SIZE);
+    let asked = witness_form(asked, witness, s);
+    also(asked, out_len == proof_bytes(s), Reason::OutputLength)
+}
+
+fn verify_inputs(
+    delta: &[u8],
+    hash_matrix: &[u8],
+    batching: &[u8],
+    opened: &[u8],
+    proof: &[u8],
+    s: Sizes,
+) -> Verdict
+    requires { ⌜ limits (shapeFor s) ≡ true ⌝ }
+    ensures { λ r. ⌜ answerOf r ≡ ask (verifyInputs (shapeFor s) (now (delta .entry)) (now («hash_matrix» .entry)) (now (batching .entry)) (now (opened .entry)) (now (proof .entry))) ⌝ }
+{
+    let exact = challenge_exact(delta, s)
+        & hash_matrix_exact(hash_matrix, s)
+        & batching_exact(batching, s);
+    let asked = hash_matrix_form(exact, hash_matrix, s);
+    let asked = leaves_form(asked, opened, s, Gf256::SIZE - 1);
+    proof_form(asked, proof, s)
+}
+
+// The call that tests a key and a witness: questions 1 to 4, 9.
+pub fn test_form(key: &[u8], witness: &[u8]) -> Verdict
+    ensures { λ r. ⌜ answerOf r ≡ ask (testQuestions bits256 (now (key .entry)) (now (witness .entry))) ⌝ }
+{
+    let asked = key_form(key);
+    let Verdict::Accepted = asked else {
+        return asked;
+    };
+    witness_form(asked, witness, sizes_of(key))
+}
+
+// The first step: questions 1 to 4, 7 to 10. Of the output only its length is asked.
+pub fn commit_form(key: &[u8], leaves: &[u8], witness: &[u8], out_len: usize) -> Verdict
+    ensures { λ r. ⌜ ((out : List ℕ) → length out ≡ «out_len» → answerOf r ≡ ask (commitQuestions bits256 (now (key .entry)) (now (leaves .entry)) (now (witness .entry)) out)) ⌝ }
+{
+    let asked = key_form(key);
+    let Verdict::Accepted = asked else {
+        return asked;
+    };
+    commit_inputs(leaves, witness, out_len, sizes_of(key))
+}
+
+// The second step: questions 1 to 8, 10.
+pub fn hash_form(key: &[u8], leaves: &[u8], hash_matrix: &[u8], out_len: usize) -> Verdict
+    ensures { λ r. ⌜ ((out : List ℕ) → length out ≡ «out_len» → answerOf r ≡ ask (hashQuestions bits256 (now (key .entry)) (now (leaves .entry)) (now («hash_matrix» .entry)) out)) ⌝ }
+{
+    let asked = key_form(key);
+    let Verdict::Accepted = asked else {
+        return asked;
+    };
+    hash_inputs(leaves, hash_matrix, out_len, sizes_of(key))
+}
+
+// The third step: questions 1 to 5, 7 to 10.
+pub fn batch_form(
+    key: &[u8],
+    leaves: &[u8],
+    witness: &[u8],
+    batching: &[u8],
+    out_len: usize,
+) -> Verdict
+    ensures { λ r. ⌜ ((out : List ℕ) → length out ≡ «out_len» → answerOf r ≡ ask (batchQuestions bits256 (now (key .entry)) (now (leaves .entry)) (now (witness .entry)) (now (batching .entry)) out)) ⌝ }
+{
+    let asked = key_form(key);
+    let Verdict::Accepted = asked else {
+        return asked;
+    };
+    batch_inputs(leaves, witness, batching, out_len, sizes_of(key))
+}
+
+// The whole call: questions 1 to 10.
+pub fn prove_form(
+    key: &[u8],
+    leaves: &[u8],
+    witness: &[u8],
+    hash_matrix: &[u8],
+    batching: &[u8],
+    out_len: usize,
+) -> Verdict
+    ensures { λ r. ⌜ ((out : List ℕ) → length out ≡ «out_len» → answerOf r ≡ ask (proveQuestions bits256 (now (key .entry)) (now (leaves .entry)) (now (witness .entry)) (now («hash_matrix» .entry)) (now (batching .entry)) out)) ⌝ }
+{
+    let asked = key_form(key);
+    let Verdict::Accepted = asked else {
+        return asked;
+    };
+    prove_inputs(
+        leaves,
+        witness,
+        hash_matrix,
+        batching,
+        out_len,
+        sizes_of(key),
+    )
+}
+
+// The verifier: questions 1 to 8, 12, 13.
+pub fn verify_form(
+    key: &[u8],
+    delta: &[u8],
+    hash_matrix: &[u8],
+    batching: &[u8],
+    opened: &[u8],
+    proof: &[u8],
+) -> Verdict
+    ensures { λ r. ⌜ answerOf r ≡ ask (verifyQuestions bits256 (now (key .entry)) (now (delta .entry)) (now («hash_matrix» .entry)) (now (batching .entry)) (now (opened .entry)) (now (proof .entry))) ⌝ }
+{
+    let asked = key_form(key);
+    let Verdict::Accepted = asked else {
+        return asked;
+    };
+    verify_inputs(delta, hash_matrix, batching, opened, proof, sizes_of(key))
+}

@@ -1,0 +1,96 @@
+// Questions 5 to 10 of 01, one input at a time. Each takes the answer so far, and puts its own only where that is accepted.
+ghost use mathlib.Core.Path.{_≡_};
+ghost use mathlib.Core.Bool.{true};
+ghost use mathlib.Core.List.{[], _∷_};
+ghost use Prim.Native.Nat.{_≤_};
+ghost use Rattle.protocol.specs.Binary.{bits256};
+ghost use Rattle.protocol.specs.Shape.{limits};
+ghost use Rattle.protocol.specs.Answers.{question, ask};
+ghost use Rattle.protocol.specs.Questions.{ΔExact, hExact, χExact, q6, q7, q8, q9};
+ghost use Rattle.format.specs.Sizes.{shapeFor};
+ghost use Rattle.format.specs.Verdict.{answerOf, andThen};
+use format::Reason;
+use format::Verdict;
+use format::refuse;
+use format::sizes::Sizes;
+use format::sizes::batching_bytes;
+use format::sizes::hash_matrix_bytes;
+use format::sizes::hashed_bits;
+use format::sizes::leaf_bits;
+use format::sizes::leaves_bytes;
+use format::sizes::witness_bytes;
+use format::spare::row_spare;
+use format::spare::rows_spare;
+
+// Has Δ a byte for each repetition?
+pub fn challenge_exact(delta: &[u8], s: Sizes) -> bool
+    ensures { λ r. ⌜ r ≡ ΔExact bits256 (shapeFor s) (now (delta .entry)) ⌝ }
+{
+    delta.len() == s.tau
+}
+
+// Has H′ its t rows?
+pub fn hash_matrix_exact(hash_matrix: &[u8], s: Sizes) -> bool
+    requires { ⌜ limits (shapeFor s) ≡ true ⌝ }
+    ensures { λ r. ⌜ r ≡ hExact bits256 (shapeFor s) (now («hash_matrix» .entry)) ⌝ }
+{
+    hash_matrix.len() == hash_matrix_bytes(s)
+}
+
+// Has χ its columns?
+pub fn batching_exact(batching: &[u8], s: Sizes) -> bool
+    requires { ⌜ limits (shapeFor s) ≡ true ⌝ }
+    ensures { λ r. ⌜ r ≡ χExact bits256 (shapeFor s) (now (batching .entry)) ⌝ }
+{
+    batching.len() == batching_bytes(s)
+}
+
+// Questions 5 and 6 of a call that takes H′: `exact` is what question 5 asks, of H′ and of the call's other challenges.
+pub fn hash_matrix_form(exact: bool, hash_matrix: &[u8], s: Sizes) -> Verdict
+    requires { ⌜ (limits (shapeFor s) ≡ true) × (exact ≡ true → hExact bits256 (shapeFor s) (now «hash_matrix») ≡ true) ⌝ }
+    ensures { λ r. ⌜ answerOf r ≡ ask (question exact 5 0 ∷ q6 bits256 (shapeFor s) (now («hash_matrix» .entry)) ∷ []) ⌝ }
+{
+    if !exact {
+        return refuse(Reason::ChallengeLength, 0);
+    }
+    let t = s.t;
+    if !rows_spare(hash_matrix, hashed_bits(s), t) {
+        return refuse(Reason::HashSpareBit, 0);
+    }
+    Verdict::Accepted
+}
+
+// Questions 7 and 8, of so many leaves for each repetition.
+pub fn leaves_form(so_far: Verdict, leaves: &[u8], s: Sizes, per: usize) -> Verdict
+    requires { ⌜ (limits (shapeFor s) ≡ true) × (per ≤ 256) ⌝ }
+    ensures { λ r. ⌜ answerOf r ≡ andThen (answerOf «so_far») (ask (q7 bits256 (shapeFor s) per (now (leaves .entry)) ∷ q8 bits256 (shapeFor s) per (now (leaves .entry)) ∷ [])) ⌝ }
+{
+    let Verdict::Accepted = so_far else {
+        return so_far;
+    };
+    if leaves.len() != leaves_bytes(s, per) {
+        return refuse(Reason::LeafLength, 0);
+    }
+    if !rows_spare(leaves, leaf_bits(s), s.tau * per) {
+        return refuse(Reason::LeafSpareBit, 0);
+    }
+    Verdict::Accepted
+}
+
+// Question 9.
+pub fn witness_form(so_far: Verdict, witness: &[u8], s: Sizes) -> Verdict
+    requires { ⌜ limits (shapeFor s) ≡ true ⌝ }
+    ensures { λ r. ⌜ answerOf r ≡ andThen (answerOf «so_far») (ask (q9 bits256 (shapeFor s) (now (witness .entry)) ∷ [])) ⌝ }
+{
+    let Verdict::Accepted = so_far else {
+        return so_far;
+    };
+    if witness.len() != witness_bytes(s) {
+        return refuse(Reason::WitnessForm, 0);
+    }
+    let n = s.n;
+    if !row_spare(witness, n) {
+        return refuse(Reason::WitnessForm, 0);
+    }
+    Verdict::Accepted
+}

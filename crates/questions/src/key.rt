@@ -1,0 +1,104 @@
+// The key: questions 1 to 4 of 01, and its sections.
+ghost use mathlib.Core.Path.{_≡_};
+ghost use mathlib.Core.Bool.{true};
+ghost use Prim.Native.Nat.{_+_, _*_, _<_};
+ghost use lib.ListN.{length, getD, drop};
+ghost use Rattle.protocol.specs.Strings.{bytesFor};
+ghost use Rattle.protocol.specs.Frames.{sectionNo, framedLength};
+ghost use Rattle.protocol.specs.Binary.{bits256};
+ghost use Rattle.protocol.specs.Shape.{shapeOf, limits};
+ghost use Rattle.protocol.specs.Key.{keyLengths, keySpare, sectionA, sectionB, sectionY};
+ghost use Rattle.protocol.specs.Answers.{ask};
+ghost use Rattle.format.specs.Sizes.{shapeFor};
+ghost use Rattle.format.specs.Verdict.{answerOf};
+ghost use Rattle.questions.specs.Asking.{keyQuestions, KeyForm};
+use format::Reason;
+use format::Verdict;
+use format::also;
+use format::refuse;
+use format::sections::framed_length;
+use format::sections::section_no;
+use format::sections::sections_form;
+use format::sizes::Sizes;
+use format::sizes::in_limits;
+use format::sizes::key_lengths;
+use format::sizes::sizes_of;
+use format::spare::row_spare;
+use format::spare::rows_spare;
+
+// The bytes of n, m, τ, t.
+const HEADER: usize = 8;
+
+// The bytes of a key of these sizes.
+pub fn key_bytes(s: Sizes) -> usize
+    requires { ⌜ limits (shapeFor s) ≡ true ⌝ }
+    ensures { λ r. ⌜ r ≡ 8 + framedLength (keyLengths bits256 (shapeFor s)) ⌝ }
+{
+    let lengths = key_lengths(s);
+    HEADER + framed_length(&lengths)
+}
+
+// Section i of a key whose sections are exact, as part of it.
+fn key_section(key: &[u8], i: usize) -> &[u8]
+    requires { ⌜ (KeyForm (now key)) × (i < 3) ⌝ }
+    ensures { λ r. ⌜ (now r ≡ sectionNo (keyLengths bits256 (shapeOf (now (key .entry)))) i (drop 8 (now (key .entry)))) × (length (now r) ≡ getD (keyLengths bits256 (shapeOf (now (key .entry)))) i 0) ⌝ }
+{
+    let lengths = key_lengths(sizes_of(key));
+    section_no(&key[HEADER..], &lengths, i)
+}
+
+// The matrices A.
+pub fn section_a(key: &[u8]) -> &[u8]
+    requires { ⌜ KeyForm (now key) ⌝ }
+    ensures { λ r. ⌜ (now r ≡ sectionA bits256 (shapeOf (now (key .entry))) (now (key .entry))) × (length (now r) ≡ shapeOf (now (key .entry)) .m * shapeOf (now (key .entry)) .n * bytesFor (shapeOf (now (key .entry)) .n)) ⌝ }
+{
+    key_section(key, 0)
+}
+
+// The linear parts b.
+pub fn section_b(key: &[u8]) -> &[u8]
+    requires { ⌜ KeyForm (now key) ⌝ }
+    ensures { λ r. ⌜ (now r ≡ sectionB bits256 (shapeOf (now (key .entry))) (now (key .entry))) × (length (now r) ≡ shapeOf (now (key .entry)) .m * bytesFor (shapeOf (now (key .entry)) .n)) ⌝ }
+{
+    key_section(key, 1)
+}
+
+// The right sides y.
+pub fn section_y(key: &[u8]) -> &[u8]
+    requires { ⌜ KeyForm (now key) ⌝ }
+    ensures { λ r. ⌜ (now r ≡ sectionY bits256 (shapeOf (now (key .entry))) (now (key .entry))) × (length (now r) ≡ bytesFor (shapeOf (now (key .entry)) .m)) ⌝ }
+{
+    key_section(key, 2)
+}
+
+// Question 4: are the key's spare bits 0?
+pub fn key_spare(key: &[u8]) -> bool
+    requires { ⌜ KeyForm (now key) ⌝ }
+    ensures { λ r. ⌜ r ≡ keySpare bits256 (shapeOf (now (key .entry))) (now (key .entry)) ⌝ }
+{
+    let s = sizes_of(key);
+    let n = s.n;
+    let m = s.m;
+    rows_spare(section_a(key), n, m * n)
+        & rows_spare(section_b(key), n, m)
+        & row_spare(section_y(key), m)
+}
+
+// Questions 1 to 4.
+pub fn key_form(key: &[u8]) -> Verdict
+    ensures { λ r. ⌜ answerOf r ≡ ask (keyQuestions (now (key .entry))) ⌝ }
+{
+    if key.len() < HEADER {
+        return refuse(Reason::ShortHeader, 0);
+    }
+    let s = sizes_of(key);
+    if !in_limits(s) {
+        return refuse(Reason::SizeOutOfRange, 0);
+    }
+    let lengths = key_lengths(s);
+    let exact = sections_form(key, HEADER, &lengths, Reason::KeyLength);
+    let Verdict::Accepted = exact else {
+        return exact;
+    };
+    also(exact, key_spare(key), Reason::KeySpareBit)
+}
