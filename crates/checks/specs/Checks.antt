@@ -17,7 +17,7 @@ use Rattle.protocol.specs.Lists.{allBelow, firstNot, blockAt}
 use Rattle.protocol.specs.Strings.{bit}
 use Rattle.strings.specs.Sums.{byteAt, xorSum, selected}
 use Rattle.lanes.specs.Lanes.{lanes, maskLane}
-use Rattle.quadratic.specs.Equations.{rowOf, matrixOf}
+use Rattle.equations.specs.Equations.{rowOf, matrixOf}
 use Rattle.quadratic.specs.Forms.{formByte}
 use Rattle.quadratic.specs.Batch.{batchByte}
 

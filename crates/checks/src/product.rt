@@ -7,9 +7,9 @@ ghost use Rattle.protocol.specs.Strings.{bytesFor, bit};
 ghost use Rattle.strings.specs.Sums.{byteAt, xorSum};
 ghost use Rattle.lanes.specs.Lanes.{lanes};
 ghost use Rattle.checks.specs.Checks.{valueByte, productByte, firstDiffering};
+use equations::VARIABLES;
 use field::Gf256;
 use lanes::LANES;
-use quadratic::VARIABLES;
 
 // Σ_i row_i·y_i, the y_i being bits.
 fn weigh(row: &[u8], y: &[u8]) -> u8

@@ -1,59 +1,33 @@
--- The forms of the batched matrix are the batched forms; and with the rows b + xᵀ·A, errors and middle coefficients are sums over fewer terms.
+-- The forms of the batched matrix are the batched forms; and with the rows b + xᵀ·A, middle coefficients are sums over fewer terms.
 -- Assumes nothing.
-use mathlib.Core.Path.{_≡_, refl, sym, ap, ap₂, _∙_}
+use mathlib.Core.Path.{_≡_, sym, ap, ap₂, _∙_}
 use mathlib.Core.List.{List}
-use Prim.Native.Nat.{ℕ, zero, suc, _+_, _*_, _-_, _/_, _%_, _≤_, _<_}
-use native.Mathlib.Nat.{one-mul, zero-mul, mul-zero, mul-assoc, mul-comm, zero-add}
-use native.Mathlib.Decide.{decLt}
+use Prim.Native.Nat.{ℕ, zero, suc, _+_, _*_, _/_, _%_, _≤_, _<_}
+use native.Mathlib.Nat.{one-mul, zero-mul, mul-zero, zero-add}
 use native.Mathlib.Omega.{arith}
-use lib.ListN.{length, replicate, length-take, length-drop, List·getD-eq-default}
-use lib.Bits.{bitXor, xor-zero-l, xor-comm}
+use lib.ListN.{length, List·getD-eq-default}
+use lib.Bits.{bitXor, xor-zero-l}
 use Rattle.algebra.specs.Ring.{Ring}
 use Rattle.algebra.specs.Field.{Field}
 use Rattle.algebra.specs.Coded.{Coded, mulByte}
 use Rattle.field.specs.Gf256.{gf256}
-use Rattle.protocol.specs.Lists.{part, blockAt}
+use Rattle.protocol.specs.Lists.{blockAt}
 use Rattle.protocol.specs.Strings.{bytesFor, bit}
 use Rattle.protocol.proofs.StringLaws.{bit-lt}
 use Rattle.strings.specs.Sums.{byteAt, bitOf, xorSum, selected}
 use Rattle.strings.proofs.XorLaws.{xor-assoc}
 use Rattle.strings.proofs.SumLaws.{sum-same, sum-short, sum-lt}
-use Rattle.strings.proofs.Rows.{row-byte, row-end}
-use Rattle.strings.proofs.Meaning.{bit-is, bitOf-lt, bitOf-xor, bitOf-sum, bit-times}
+use Rattle.strings.proofs.Rows.{row-end}
+use Rattle.strings.proofs.Meaning.{bit-is, bitOf-lt}
 use Rattle.strings.proofs.ProductLaws.{product-lt}
 use Rattle.lanes.specs.Lanes.{lanes, laneAt}
 use Rattle.batching.specs.Stacks.{product, batchedByte, columnByte}
-use Rattle.batching.proofs.StackLaws.{sum-xor, sum-swap, times-xor, times-sum, bit-sum, bits-lt, bits-times, product-comm}
+use Rattle.batching.proofs.StackLaws.{sum-xor, product-comm}
 use Rattle.batching.proofs.FormLaws.{batch-first, product-scale, product-one, product-lt as factor-lt}
-use Rattle.quadratic.specs.Equations.{rowProduct, rowOf, matrixOf, errorBit}
+use Rattle.equations.specs.Equations.{rowProduct, rowOf, matrixOf}
+use Rattle.equations.proofs.RowLaws.{row-bit, block-length, row-sum}
 use Rattle.quadratic.specs.Forms.{formByte, middleByte}
 use Rattle.quadratic.specs.Batch.{batchByte}
-use Rattle.quadratic.proofs.BlockLaws.{bit-past}
-
--- ---- strings of zeros, and the bits of a string one to a byte
-
-pub zeros : (n b : ℕ) → byteAt (replicate n 0) b ≡ 0
-zeros zero b = refl
-zeros (suc n) zero = refl
-zeros (suc n) (suc b) = zeros n b
-
-pub all-bits : (old xs x : List ℕ) → ((c : ℕ) → byteAt old c ≡ 0) → ((c : ℕ) → c < length x * 8 → byteAt xs c ≡ bit x c) → ((c : ℕ) → length x * 8 ≤ c → byteAt xs c ≡ byteAt old c)
-    → (c : ℕ) → byteAt xs c ≡ bit x c
-all-bits old xs x none is same c = go (decLt c (length x * 8))
-  where
-    go : Dec (c < length x * 8) → byteAt xs c ≡ bit x c
-    go (yes l) = is c l
-    go (no l) = same c (omega arith) ∙ none c ∙ sym (bit-past x c (omega arith))
-
--- ---- bits of rows
-
--- bit c of row ρ of a string
-row-bit : (M : List ℕ) (w ρ c : ℕ) → c < w * 8 → bitOf (byteAt M (ρ * w + c / 8)) (c % 8) ≡ bit (blockAt M w ρ) c
-row-bit M w ρ c h = let inside : c / 8 < w = omega arith in sym (bit-is (blockAt M w ρ) c ∙ ap (λ x. bitOf x (c % 8)) (row-byte M w ρ (c / 8) inside))
-
-pub block-length : (s : List ℕ) (w q : ℕ) → q * w + w ≤ length s → length (blockAt s w q) ≡ w
-unfolding blockAt part
-block-length s w q h = simp (length-take, length-drop) (omega arith)
 
 single : (f : ℕ → ℕ) → xorSum 1 f ≡ f 0
 unfolding xorSum
@@ -132,52 +106,6 @@ module _ (n m e : ℕ) (T χ : List ℕ) (long : length T ≡ n * lanes) where
             (ap₂ (λ v k. bitOf (byteAt (blockAt rows v i) k) (c % 8)) (one-mul (bytesFor n)) (ap (λ k. k + c / 8) (zero-mul (bytesFor n)) ∙ zero-add (c / 8)) ∙ sym (bit-is (rowOf n rows i) c)))
             ∙ whole-row (rowOf n rows i))
             ∙ product-one (selected n (rowOf n rows i) T lanes e) (small (rowOf n rows i))
-
--- ---- the rows b + xᵀ·A
-
-module _ (n w : ℕ) (g b A xs x : List ℕ) (is : (c : ℕ) → byteAt xs c ≡ bit x c)
-    (sums : (j : ℕ) → j < w → byteAt g j ≡ bitXor (byteAt b j) (xorSum n (λ ρ. byteAt xs ρ * byteAt A (ρ * w + j)))) where
-  sum-bit : (c : ℕ) → c < w * 8 → bit g c ≡ bitXor (bit b c) (xorSum n (λ ρ. bit x ρ * bit (blockAt A w ρ) c))
-  sum-bit c h =
-      let inside : c / 8 < w = omega arith in
-      bit-is g c ∙ ap (λ y. bitOf y (c % 8)) (sums (c / 8) inside)
-      ∙ bitOf-xor (byteAt b (c / 8)) (xorSum n (λ ρ. byteAt xs ρ * byteAt A (ρ * w + c / 8))) (c % 8)
-      ∙ ap₂ bitXor (sym (bit-is b c))
-      (bitOf-sum n (λ ρ. byteAt xs ρ * byteAt A (ρ * w + c / 8)) (c % 8)
-      ∙ sum-same n _ _ (λ ρ l.
-      ap (λ q. bitOf (q * byteAt A (ρ * w + c / 8)) (c % 8)) (is ρ) ∙ bit-times (bit x ρ) (byteAt A (ρ * w + c / 8)) (c % 8) (bit-lt x ρ)
-      ∙ ap (λ y. bit x ρ * y) (row-bit A w ρ c h)))
-
-  pub row-sum : (K : ℕ) (y : ℕ → ℕ) → K ≤ w * 8
-      → xorSum K (λ c. bit g c * y c) ≡ bitXor (xorSum K (λ c. bit b c * y c)) (xorSum n (λ ρ. bit x ρ * xorSum K (λ c. bit (blockAt A w ρ) c * y c)))
-  row-sum K y h =
-      sum-same K _ (λ c. bitXor (bit b c * y c) (xorSum n (λ ρ. bit x ρ * bit (blockAt A w ρ) c * y c)))
-      (λ c l.
-      ap (λ q. q * y c) (sum-bit c (omega arith))
-      ∙ times-xor (bit b c) (xorSum n (λ ρ. bit x ρ * bit (blockAt A w ρ) c)) (y c) (bit-lt b c) (bits-lt n _ (λ ρ. bits-times (bit x ρ) (bit (blockAt A w ρ) c) (bit-lt x ρ) (bit-lt (blockAt A w ρ) c)))
-      ∙ ap (bitXor (bit b c * y c)) (times-sum n (λ ρ. bit x ρ * bit (blockAt A w ρ) c) (y c) (λ ρ. bits-times (bit x ρ) (bit (blockAt A w ρ) c) (bit-lt x ρ) (bit-lt (blockAt A w ρ) c))))
-      ∙ sum-xor K (λ c. bit b c * y c) (λ c. xorSum n (λ ρ. bit x ρ * bit (blockAt A w ρ) c * y c))
-      ∙ ap (bitXor (xorSum K (λ c. bit b c * y c)))
-      (sum-swap K n (λ c ρ. bit x ρ * bit (blockAt A w ρ) c * y c)
-      ∙ sum-same n _ _ (λ ρ l.
-      sum-same K _ (λ c. bit x ρ * (bit (blockAt A w ρ) c * y c)) (λ c k. mul-assoc (bit x ρ) (bit (blockAt A w ρ) c) (y c))
-      ∙ sym (bit-sum (bit x ρ) K (λ c. bit (blockAt A w ρ) c * y c) (bit-lt x ρ))))
-
--- the error, by the row b + xᵀ·A
-pub error-by-row : (n : ℕ) (g b A xs x : List ℕ) (y : ℕ) → ((c : ℕ) → byteAt xs c ≡ bit x c)
-    → ((j : ℕ) → j < bytesFor n → byteAt g j ≡ bitXor (byteAt b j) (xorSum n (λ ρ. byteAt xs ρ * byteAt A (ρ * bytesFor n + j))))
-    → length g ≡ bytesFor n → length b ≡ bytesFor n → length A ≡ n * bytesFor n → bitXor (rowProduct g x) y ≡ errorBit n A b y x
-unfolding errorBit
-error-by-row n g b A xs x y is sums lg lb la =
-    ap (λ q. bitXor q y)
-    (ap (λ v. xorSum (v * 8) (λ c. bit g c * bit x c)) lg
-    ∙ row-sum n (bytesFor n) g b A xs x is sums (bytesFor n * 8) (bit x) (omega arith)
-    ∙ xor-comm (xorSum (bytesFor n * 8) (λ c. bit b c * bit x c)) (xorSum n (λ ρ. bit x ρ * xorSum (bytesFor n * 8) (λ c. bit (blockAt A (bytesFor n) ρ) c * bit x c)))
-    ∙ ap₂ bitXor
-    (sum-same n _ _ (λ ρ l.
-    let inside : ρ * bytesFor n + bytesFor n ≤ length A = omega (arith, la, row-end ρ n (bytesFor n) l) in
-    ap (λ v. bit x ρ * xorSum (v * 8) (λ c. bit (blockAt A (bytesFor n) ρ) c * bit x c)) (sym (block-length A (bytesFor n) ρ inside))))
-    (ap (λ v. xorSum (v * 8) (λ c. bit b c * bit x c)) (sym lb)))
 
 -- the middle coefficient, by the row b + xᵀ·A
 pub middle-by-row : (n e : ℕ) (g b A xs x T : List ℕ) → ((c : ℕ) → byteAt xs c ≡ bit x c)

@@ -14,7 +14,7 @@ use Rattle.strings.specs.Sums.{selected}
 use Rattle.strings.proofs.Rows.{row-end}
 use Rattle.strings.proofs.SumLaws.{sum-same}
 use Rattle.lanes.specs.Lanes.{lanes, laneAt}
-use Rattle.quadratic.specs.Equations.{rowProduct, rowOf}
+use Rattle.equations.specs.Equations.{rowProduct, rowOf}
 use Rattle.quadratic.specs.Forms.{formByte, middleByte}
 
 module _ (n : ℕ) (T : List ℕ) (e : ℕ) (h : e < lanes) where

@@ -9,7 +9,7 @@ use Rattle.algebra.specs.Coded.{mulByte}
 use Rattle.field.specs.Gf256.{gf256}
 use Rattle.strings.specs.Sums.{byteAt, xorSum}
 use Rattle.lanes.specs.Lanes.{maskLane, maskBits}
-use Rattle.quadratic.specs.Equations.{rowOf, matrixOf}
+use Rattle.equations.specs.Equations.{rowOf, matrixOf}
 use Rattle.quadratic.specs.Forms.{formByte, middleByte}
 
 abbrev pub batchByte : ℕ → List ℕ → ℕ → (ℕ → ℕ) → ℕ

@@ -10,7 +10,7 @@ use Rattle.field.specs.Gf256.{gf256}
 use Rattle.protocol.specs.Strings.{bit}
 use Rattle.strings.specs.Sums.{byteAt, xorSum, selected}
 use Rattle.lanes.specs.Lanes.{lanes, laneAt}
-use Rattle.quadratic.specs.Equations.{rowProduct, rowOf}
+use Rattle.equations.specs.Equations.{rowProduct, rowOf}
 
 abbrev pub formByte : ℕ → List ℕ → List ℕ → ℕ → ℕ
 formByte n A T e = xorSum n (λ ρ. mulByte gf256 (laneAt T ρ e) (selected n (rowOf n A ρ) T lanes e))

@@ -1,3 +1,2 @@
-pub mod Equations
 pub mod Forms
 pub mod Batch

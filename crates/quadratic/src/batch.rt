@@ -11,13 +11,13 @@ ghost use Rattle.strings.specs.Sums.{byteAt, xorSum, selected};
 ghost use Rattle.lanes.specs.Lanes.{lanes, laneAt, maskLane, maskBits};
 ghost use Rattle.batching.specs.Chunks.{chunk};
 ghost use Rattle.batching.specs.Stacks.{Spread};
-ghost use Rattle.quadratic.specs.Equations.{rowProduct, rowOf, matrixOf};
+ghost use Rattle.equations.specs.Equations.{rowProduct, rowOf, matrixOf};
 ghost use Rattle.quadratic.specs.Forms.{formByte};
 ghost use Rattle.quadratic.specs.Batch.{batchByte, qs0Byte, qs1Byte};
 use super::EQUATIONS;
-use super::MASKS;
-use super::VARIABLES;
-use super::WIDTH;
+use equations::MASKS;
+use equations::VARIABLES;
+use equations::WIDTH;
 use lanes::LANES;
 
 // The offsets that as many batching bytes as a key may have choose, and the bytes of a row of bits for each equation.
@@ -145,7 +145,7 @@ pub fn batch_lanes(
     let mut rows = [0u8; ROWS];
     let mut right = [0u8; LANES];
     let front = &table[..n * LANES];
-    super::equations::prepare(&mut xs, &mut masks, x, n);
+    equations::prepare(&mut xs, &mut masks, x, n);
     fill_rows(&mut rows, m, a, b, &masks, n, width);
     strings::clear(qs0);
     strings::clear(qs1);

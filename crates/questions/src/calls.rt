@@ -11,9 +11,6 @@ ghost use Rattle.protocol.specs.Calls.{testQuestions, commitQuestions, hashQues
 ghost use Rattle.format.specs.Sizes.{shapeFor};
 ghost use Rattle.format.specs.Verdict.{answerOf};
 ghost use Rattle.questions.specs.Asking.{commitInputs, hashInputs, batchInputs, proveInputs, verifyInputs};
-use format::Reason;
-use format::Verdict;
-use format::also;
 use super::inputs::batching_exact;
 use super::inputs::challenge_exact;
 use super::inputs::hash_matrix_exact;
@@ -22,13 +19,16 @@ use super::inputs::leaves_form;
 use super::inputs::witness_form;
 use super::key::key_form;
 use super::proof::proof_form;
+use field::Gf256;
+use format::Reason;
+use format::Verdict;
+use format::also;
 use format::sizes::Sizes;
 use format::sizes::batch_bytes;
 use format::sizes::commit_bytes;
 use format::sizes::hash_bytes;
 use format::sizes::proof_bytes;
 use format::sizes::sizes_of;
-use field::Gf256;
 
 fn commit_inputs(leaves: &[u8], witness: &[u8], out_len: usize, s: Sizes) -> Verdict
     requires { ⌜ limits (shapeFor s) ≡ true ⌝ }

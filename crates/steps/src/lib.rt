@@ -14,8 +14,8 @@ ghost use Rattle.lanes.specs.Lanes.{lanes, Tabled};
 ghost use Rattle.format.specs.Sizes.{shapeFor};
 ghost use Rattle.steps.specs.Loaded.{LeavesForm, HashForm, Loaded};
 ghost use Rattle.steps.specs.Facts.{KeyFacts, WitnessForm};
-use hash::hash_lanes;
 use format::Sizes;
+use hash::hash_lanes;
 use lanes::LANES;
 
 // C and d. The leaves are named by the contract only.

@@ -6,9 +6,9 @@ ghost use Rattle.protocol.specs.Shape.{shapeOf};
 ghost use Rattle.format.specs.Verdict.{answerOf};
 ghost use Rattle.steps.specs.Facts.{KeyFacts, WitnessForm};
 ghost use Rattle.steps.specs.Solved.{SolvedAs};
+use equations::Found;
 use format::Reason;
 use format::Verdict;
-use quadratic::equations::Found;
 
 // Room for the largest key.
 const MOST_EQUATIONS: usize = 160;
@@ -19,7 +19,7 @@ fn test_equations(errors: &mut [u8], key: &[u8], witness: &[u8]) -> Verdict
 {
     let s = format::sizes::sizes_of(key);
     let n = s.n;
-    quadratic::equations::equation_errors(
+    equations::equation_errors(
         errors,
         questions::key::section_a(key),
         questions::key::section_b(key),
@@ -27,7 +27,7 @@ fn test_equations(errors: &mut [u8], key: &[u8], witness: &[u8]) -> Verdict
         witness,
         n,
     );
-    let found = quadratic::equations::first_failing(errors);
+    let found = equations::first_failing(errors);
     match found {
         Found::At(i) => format::refuse(Reason::EquationFails, i as u16),
         Found::Nothing => Verdict::Accepted,

@@ -25,8 +25,8 @@ use checks::product::product_lanes;
 use format::Reason;
 use format::Sizes;
 use format::Verdict;
-use questions::proof::proof_section;
 use lanes::LANES;
+use questions::proof::proof_section;
 
 // Room for the largest key: bytes of a leaf, bytes of a row of bits, hash rows. Its repetitions are the lanes.
 const MOST_LEAF: usize = 41;

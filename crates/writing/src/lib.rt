@@ -154,7 +154,14 @@ fn batch_sections(
 }
 
 // The third step: QS0 and QS1.
-pub fn write_batch(out: &mut [u8], key: &[u8], leaves: &[u8], witness: &[u8], batching: &[u8], s: Sizes)
+pub fn write_batch(
+    out: &mut [u8],
+    key: &[u8],
+    leaves: &[u8],
+    witness: &[u8],
+    batching: &[u8],
+    s: Sizes,
+)
     requires { ⌜ KeyFacts (shapeOf (now key)) (now key) × (shapeFor s ≡ shapeOf (now key)) × WitnessForm (shapeFor s) (now witness) × (length (now batching) ≡ s .tau * s .m) × (limits (shapeFor s) ≡ true) × LeavesForm (shapeFor s) (now leaves) × (length (now out) ≡ 8 + s .tau + s .tau) ⌝ }
     ensures { λ _. ⌜ now (out .exit) ≡ frame (qs0Section bits256 (shapeFor s) (now (leaves .entry)) (now (key .entry)) (now (batching .entry)) ∷ qs1Section bits256 (shapeFor s) (now (leaves .entry)) (now (key .entry)) (now (witness .entry)) (now (batching .entry)) ∷ []) ⌝ }
 {

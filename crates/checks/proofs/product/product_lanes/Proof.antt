@@ -15,7 +15,7 @@ use Rattle.protocol.specs.Strings.{bytesFor}
 use Rattle.strings.specs.Sums.{byteAt, selected}
 use Rattle.strings.proofs.SumLaws.{sum-same}
 use Rattle.lanes.specs.Lanes.{lanes, maskLane}
-use Rattle.quadratic.specs.Equations.{rowOf, matrixOf}
+use Rattle.equations.specs.Equations.{rowOf, matrixOf}
 use Rattle.quadratic.specs.Forms.{formByte}
 use Rattle.quadratic.specs.Batch.{batchByte}
 use Rattle.quadratic.proofs.PrefixLaws.{form-prefix, selected-prefix}

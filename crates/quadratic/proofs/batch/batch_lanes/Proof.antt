@@ -16,11 +16,12 @@ use Rattle.protocol.proofs.StringLaws.{bit-lt}
 use Rattle.strings.specs.Sums.{byteAt, xorSum, selected}
 use Rattle.strings.proofs.Rows.{row-byte, row-end}
 use Rattle.lanes.specs.Lanes.{lanes, laneAt, maskLane, maskBits}
-use Rattle.quadratic.specs.Equations.{rowProduct, rowOf, matrixOf}
+use Rattle.equations.specs.Equations.{rowProduct, rowOf, matrixOf}
 use Rattle.quadratic.specs.Forms.{formByte, middleByte}
 use Rattle.quadratic.specs.Batch.{batchByte}
 use Rattle.quadratic.proofs.PrefixLaws.{form-prefix, middle-prefix}
-use Rattle.quadratic.proofs.BatchLaws.{zeros, middle-by-row, batch-xor, batch-same}
+use Rattle.equations.proofs.RowLaws.{zeros}
+use Rattle.quadratic.proofs.BatchLaws.{middle-by-row, batch-xor, batch-same}
 use Rattle.quadratic.proofs.batch.batch_lanes.Statement.{statement}
 use Rattle.quadratic.proofs.batch.batch_lanes.Tie as tie
 

@@ -14,7 +14,7 @@ use lib.Bits.{bitXor}
 use Rattle.strings.specs.Sums.{byteAt, xorSum}
 use Rattle.strings.proofs.Rows.{row-end}
 use Rattle.batching.specs.Stacks.{Spread}
-use Rattle.quadratic.specs.Equations.{matrixOf}
+use Rattle.equations.specs.Equations.{matrixOf}
 use Rattle.quadratic.proofs.batch.fill_rows.Statement.{statement}
 use Rattle.quadratic.proofs.batch.fill_rows.Tie as tie
 

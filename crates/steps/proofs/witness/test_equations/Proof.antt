@@ -15,9 +15,9 @@ use Rattle.protocol.specs.Key.{sectionA, sectionB, sectionY}
 use Rattle.format.specs.Sizes.{shapeFor}
 use Rattle.format.proofs.SizeLaws.{in-limits}
 use Rattle.strings.specs.Sums.{byteAt}
-use Rattle.quadratic.specs.Equations.{errorOf, FirstIn}
-use Rattle.quadratic.specs.declared.equations.Found.the-variants.{At, Nothing}
-use Rattle.quadratic.proofs.EquationsMeaning.{first-fails, first-refutes, none-solves}
+use Rattle.equations.specs.Equations.{errorOf, FirstIn}
+use Rattle.equations.specs.declared.Found.the-variants.{At, Nothing}
+use Rattle.equations.proofs.EquationsMeaning.{first-fails, first-refutes, none-solves}
 use Rattle.steps.proofs.FitLaws.{bits-fit}
 use borrow.Author.Needs.{needs}
 use Rattle.steps.proofs.witness.test_equations.Statement.{statement}

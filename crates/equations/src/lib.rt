@@ -8,10 +8,15 @@ ghost use Rattle.protocol.specs.Strings.{bytesFor, bit};
 ghost use Rattle.strings.specs.Sums.{byteAt};
 ghost use Rattle.batching.specs.Chunks.{chunk};
 ghost use Rattle.batching.specs.Stacks.{Spread};
-ghost use Rattle.quadratic.specs.Equations.{errorBit, errorOf, FirstIn};
-use super::MASKS;
-use super::VARIABLES;
-use super::WIDTH;
+ghost use Rattle.equations.specs.Equations.{errorBit, errorOf, FirstIn};
+
+// As many as a key may have variables (01: 1..160).
+pub const VARIABLES: usize = 160;
+
+// The bytes of a row of as many bits, and of the masks of as many, four to a chunk.
+pub const WIDTH: usize = VARIABLES / 8;
+
+pub const MASKS: usize = VARIABLES / 4 * batching::CHUNK;
 
 // The first equation that fails, or that none does.
 pub enum Found {

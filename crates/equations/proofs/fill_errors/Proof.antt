@@ -1,4 +1,4 @@
--- `quadratic::equations::fill_errors` meets its contract. Each element is changed once (`Elementwise`), to the error of its equation.
+-- `equations::fill_errors` meets its contract. Each element is changed once (`Elementwise`), to the error of its equation.
 -- Assumes nothing.
 use borrow.Author.Needs.{needs}
 use Prim.Native.Nat.{ℕ, _+_, _*_, _-_, _/_, _≤_, _<_}
@@ -14,9 +14,9 @@ use Rattle.strings.specs.Sums.{byteAt}
 use Rattle.strings.proofs.Elementwise.{changed, changed-more, changed-all}
 use Rattle.strings.proofs.Rows.{row-end}
 use Rattle.batching.specs.Stacks.{Spread}
-use Rattle.quadratic.specs.Equations.{errorBit, errorOf}
-use Rattle.quadratic.proofs.equations.fill_errors.Statement.{statement}
-use Rattle.quadratic.proofs.equations.fill_errors.Tie as tie
+use Rattle.equations.specs.Equations.{errorBit, errorOf}
+use Rattle.equations.proofs.fill_errors.Statement.{statement}
+use Rattle.equations.proofs.fill_errors.Tie as tie
 
 abbrev change : List ℕ → List ℕ → List ℕ → List ℕ → ℕ → ℕ → ℕ → ℕ
 change a b y x n k e = errorOf n a b y x k

@@ -1,4 +1,4 @@
--- `quadratic::equations::prepare` meets its contract: past the end of x the bytes were 0, as its bits are.
+-- `equations::prepare` meets its contract: past the end of x the bytes were 0, as its bits are.
 -- Assumes nothing.
 use borrow.Author.Needs.{needs}
 use Prim.Native.Nat.{ℕ, _+_, _*_, _/_, _≤_, _<_}
@@ -9,9 +9,9 @@ use lib.ListN.{length}
 use Rattle.protocol.specs.Strings.{bytesFor, bit}
 use Rattle.protocol.proofs.StringLaws.{bit-lt}
 use Rattle.strings.specs.Sums.{byteAt}
-use Rattle.quadratic.proofs.BatchLaws.{all-bits}
-use Rattle.quadratic.proofs.equations.prepare.Statement.{statement}
-use Rattle.quadratic.proofs.equations.prepare.Tie as tie
+use Rattle.equations.proofs.RowLaws.{all-bits}
+use Rattle.equations.proofs.prepare.Statement.{statement}
+use Rattle.equations.proofs.prepare.Tie as tie
 
 mul-unpack : tie.Need-mul-unpack
 unfolding bytesFor

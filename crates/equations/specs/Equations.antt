@@ -13,8 +13,8 @@ use Rattle.protocol.specs.Lists.{blockAt}
 use Rattle.protocol.specs.Strings.{bytesFor, bit}
 use Rattle.strings.specs.Sums.{byteAt, xorSum}
 use Rattle.strings.specs.Products.{product}
-use Rattle.quadratic.specs.declared.equations.Found.{Found}
-use Rattle.quadratic.specs.declared.equations.Found.the-variants.{At, Nothing}
+use Rattle.equations.specs.declared.Found.{Found}
+use Rattle.equations.specs.declared.Found.the-variants.{At, Nothing}
 
 abbrev pub rowProduct : List ℕ → List ℕ → ℕ
 rowProduct row x = product (length row * 8) row x

@@ -1,4 +1,4 @@
--- `quadratic::equations::unpack` meets its contract. Each element is changed once (`Elementwise`).
+-- `equations::unpack` meets its contract. Each element is changed once (`Elementwise`).
 -- Assumes nothing.
 use borrow.Author.Needs.{needs}
 use Prim.Native.Nat.{ℕ, _-_, _≤_, _<_}
@@ -10,8 +10,8 @@ use lib.ListN.{length, length-set}
 use Rattle.protocol.specs.Strings.{bit}
 use Rattle.strings.specs.Sums.{byteAt}
 use Rattle.strings.proofs.Elementwise.{changed, changed-more, changed-at, changed-past}
-use Rattle.quadratic.proofs.equations.unpack.Statement.{statement}
-use Rattle.quadratic.proofs.equations.unpack.Tie as tie
+use Rattle.equations.proofs.unpack.Statement.{statement}
+use Rattle.equations.proofs.unpack.Tie as tie
 
 abbrev Inv-loop : tie.InvT-loop
 Inv-loop out₀ x n c₀ out c = (c ≤ n) × (out ≡ changed (λ k y. bit x k) out₀ c) × (length out ≡ length out₀)

@@ -1,4 +1,4 @@
--- `quadratic::equations::first_failing` meets its contract. The invariant: the errors passed are 0.
+-- `equations::first_failing` meets its contract. The invariant: the errors passed are 0.
 -- Assumes nothing.
 use borrow.Author.Needs.{needs}
 use Prim.Native.Nat.{ℕ, _-_, _≤_, _<_}
@@ -7,8 +7,8 @@ use native.Mathlib.Omega.{arith}
 use borrow.Author.Count.{below-more}
 use lib.ListN.{length}
 use Rattle.strings.specs.Sums.{byteAt}
-use Rattle.quadratic.proofs.equations.first_failing.Statement.{statement}
-use Rattle.quadratic.proofs.equations.first_failing.Tie as tie
+use Rattle.equations.proofs.first_failing.Statement.{statement}
+use Rattle.equations.proofs.first_failing.Tie as tie
 
 abbrev Inv-loop : tie.InvT-loop
 Inv-loop errors i₀ i = (i ≤ length errors) × ((k : ℕ) → k < i → byteAt errors k ≡ 0)

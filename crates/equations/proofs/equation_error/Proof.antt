@@ -1,4 +1,4 @@
--- `quadratic::equations::equation_error` meets its contract: (b + xᵀ·A)·x is the left side (`BatchLaws`).
+-- `equations::equation_error` meets its contract: (b + xᵀ·A)·x is the left side (`BatchLaws`).
 -- Assumes nothing.
 use borrow.Author.Needs.{needs}
 use Prim.Native.Nat.{ℕ, _+_, _*_, _/_, _≤_, _<_}
@@ -12,9 +12,9 @@ use Rattle.protocol.specs.Strings.{bytesFor, bit}
 use Rattle.protocol.proofs.StringLaws.{bit-lt}
 use Rattle.strings.specs.Sums.{byteAt, xorSum}
 use Rattle.batching.specs.Stacks.{Spread}
-use Rattle.quadratic.proofs.BatchLaws.{error-by-row}
-use Rattle.quadratic.proofs.equations.equation_error.Statement.{statement}
-use Rattle.quadratic.proofs.equations.equation_error.Tie as tie
+use Rattle.equations.proofs.RowLaws.{error-by-row}
+use Rattle.equations.proofs.equation_error.Statement.{statement}
+use Rattle.equations.proofs.equation_error.Tie as tie
 
 witness-row-requires : tie.Need-witness-row-requires
 unfolding bytesFor

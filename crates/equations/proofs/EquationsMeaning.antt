@@ -27,10 +27,10 @@ use Rattle.protocol.proofs.StringLaws.{bit-lt}
 use Rattle.strings.specs.Sums.{byteAt, xorSum}
 use Rattle.strings.proofs.SumLaws.{sum-same}
 use Rattle.strings.proofs.Meaning.{byte-sum}
-use Rattle.quadratic.specs.Equations.{rowProduct, rowOf, errorBit, errorOf, FirstIn}
-use Rattle.quadratic.specs.declared.equations.Found.the-variants.{At, Nothing}
-use Rattle.quadratic.proofs.BlockLaws.{block-block}
-use Rattle.quadratic.proofs.ElementLaws.{byte-bit, byte-scale, byte-form, product-is, bitsOf}
+use Rattle.equations.specs.Equations.{rowProduct, rowOf, errorBit, errorOf, FirstIn}
+use Rattle.equations.specs.declared.Found.the-variants.{At, Nothing}
+use Rattle.equations.proofs.BlockLaws.{block-block}
+use Rattle.equations.proofs.ElementLaws.{byte-bit, byte-scale, byte-form, product-is, bitsOf}
 
 module _ (C : Coded) (s : Shape) (key x : List ℕ) where
   open Coded C using (base, elem, byte)

@@ -1,4 +1,4 @@
--- `quadratic::equations::equation_errors` meets its contract: the masks of the bits of x are made once.
+-- `equations::equation_errors` meets its contract: the masks of the bits of x are made once.
 -- Assumes nothing.
 use borrow.Author.Needs.{needs}
 use Prim.Native.Nat.{ℕ, _+_, _*_, _/_, _≤_, _<_}
@@ -8,9 +8,9 @@ use native.Mathlib.Omega.{arith}
 use denote.Ref.{now}
 use lib.ListN.{length, take, length-take}
 use Rattle.protocol.specs.Strings.{bytesFor}
-use Rattle.quadratic.proofs.BatchLaws.{zeros}
-use Rattle.quadratic.proofs.equations.equation_errors.Statement.{statement}
-use Rattle.quadratic.proofs.equations.equation_errors.Tie as tie
+use Rattle.equations.proofs.RowLaws.{zeros}
+use Rattle.equations.proofs.equation_errors.Statement.{statement}
+use Rattle.equations.proofs.equation_errors.Tie as tie
 
 prefix : (l : List ℕ) (n : ℕ) → n ≤ length l → length (take n l) ≡ n
 prefix l n h = simp length-take (omega arith)

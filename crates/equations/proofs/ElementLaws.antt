@@ -21,8 +21,8 @@ use Rattle.strings.specs.Sums.{byteAt, xorSum, selected}
 use Rattle.strings.proofs.SumLaws.{sum-same, sum-past}
 use Rattle.strings.proofs.Meaning.{byte-sum}
 use Rattle.lanes.specs.Lanes.{lanes, laneAt}
-use Rattle.quadratic.specs.Equations.{rowProduct}
-use Rattle.quadratic.proofs.BlockLaws.{bit-past, spare-past}
+use Rattle.equations.specs.Equations.{rowProduct}
+use Rattle.equations.proofs.BlockLaws.{bit-past, spare-past}
 
 module _ (C : Coded) where
   open Coded C using (base, elem, byte)

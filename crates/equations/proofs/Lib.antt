@@ -1,0 +1,4 @@
+pub mod BlockLaws
+pub mod RowLaws
+pub mod ElementLaws
+pub mod EquationsMeaning
