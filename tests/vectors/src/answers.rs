@@ -1,0 +1,134 @@
+//! answers.rsp: one call in each case, and its answer: every number that a call can answer, and the order in which
+//! the questions are put.
+
+use crate::calls::{Call, CALLS};
+use crate::damages::{change_y, spare_in_last, Damage, DAMAGES};
+use crate::lent::{honest, toy, Lent};
+use crate::rsp::File;
+
+pub fn file() -> String {
+    let mut file = File::new(&[
+        "Solfadrus: answers, one call in each case. The form is that of README.md.",
+        "Written by tests/vectors; every number below was answered by the Rust rendering, tests/reference.",
+    ]);
+    let base = base();
+    for call in CALLS {
+        for damage in damages(call) {
+            let mut lent = base.clone();
+            (damage.make)(&mut lent);
+            let word = damage.number * 65_536 + damage.place;
+            add(&mut file, call, &lent, damage.what, word);
+        }
+        both(&mut file, call, &base);
+    }
+    more(&mut file, &base);
+    file.text()
+}
+
+/// The case that is damaged: all its strings have spare bits.
+fn base() -> Lent {
+    let mut lent = honest(2026, 3, 3, 2, 2);
+    lent.open_at(&[0x35, 0xC2]);
+    lent
+}
+
+/// The damages that concern a call.
+fn damages(call: Call) -> impl Iterator<Item = &'static Damage> {
+    let lent = base();
+    let inputs: Vec<&str> = call.inputs(&lent).iter().map(|(name, _)| *name).collect();
+    DAMAGES.iter().filter(move |damage| {
+        call.questions().contains(&damage.number)
+            && (damage.input == "out" || inputs.contains(&damage.input))
+    })
+}
+
+/// Two questions that follow each other both get a no: the answer is the first.
+fn both(file: &mut File, call: Call, base: &Lent) {
+    let first = |number| {
+        damages(call)
+            .find(|damage| damage.number == number)
+            .unwrap_or_else(|| panic!("no damage for {number} of {}", call.name()))
+    };
+    for pair in call.questions().windows(2) {
+        let (earlier, later) = (first(pair[0]), first(pair[1]));
+        let mut lent = base.clone();
+        (later.make)(&mut lent);
+        (earlier.make)(&mut lent);
+        let what = format!("{}, and {}", earlier.what, later.what);
+        add(
+            file,
+            call,
+            &lent,
+            &what,
+            earlier.number * 65_536 + earlier.place,
+        );
+    }
+}
+
+/// What docs/REFUSALS.md notes beside its table, and the toy's answers that 01 gives.
+fn more(file: &mut File, base: &Lent) {
+    let mut lent = base.clone();
+    change_y(&mut lent, 0);
+    let what = "the key of a witness that fails: hash takes no witness";
+    add(file, Call::Hash, &lent, what, 0);
+
+    let mut lent = base.clone();
+    lent.batching.pop();
+    spare_in_last(&mut lent.hash_matrix);
+    for call in [Call::Prove, Call::Verify] {
+        let what = "batching has one byte less, and a spare bit in hash_matrix";
+        add(file, call, &lent, what, 5 * 65_536);
+    }
+
+    let toy = toy();
+    let last = toy.proof.len() - 1;
+    let u_tilde = toy.proof_section(2) + 4;
+    let mut forged = toy.clone();
+    forged.proof[last] = 0x05;
+    let mut other_key = forged.clone();
+    change_y(&mut other_key, 0);
+    let mut other_hash = toy.clone();
+    other_hash.proof[u_tilde] = 0x00;
+    let cases: [(&Lent, &str, u8, u32); 8] = [
+        (&toy, "the toy", 0x02, 0),
+        (&forged, "the toy, QS1 changed to 05", 0x02, 15 * 65_536),
+        (&forged, "the toy, QS1 changed to 05", 0x00, 0),
+        (&other_hash, "the toy, u~ changed to 00", 0x02, 14 * 65_536),
+        (&other_key, "the toy, y = 0 and QS1 = 05", 0x00, 0),
+        (&other_key, "the toy, y = 0 and QS1 = 05", 0x52, 0),
+        (&other_key, "the toy, y = 0 and QS1 = 05", 0x02, 15 * 65_536),
+        (&other_key, "the toy, y = 0 and QS1 = 05", 0x53, 15 * 65_536),
+    ];
+    for (lent, what, delta, word) in cases {
+        let mut lent = lent.clone();
+        lent.open_at(&[delta]);
+        add(file, Call::Verify, &lent, what, word);
+    }
+    add(file, Call::Test, &other_key, "the toy, y = 0", 11 * 65_536);
+}
+
+/// Writes a case. What is written is the rendering's answer; `meant` is that of 01, and must be the same.
+fn add(file: &mut File, call: Call, lent: &Lent, what: &str, meant: u32) {
+    let (word, out) = call.answer(lent);
+    assert_eq!(word, meant, "{} where {what}", call.name());
+    if word / 65_536 == 11 {
+        // 01 leaves free which equation is named: the vectors have no case in which there is a choice.
+        let failing = reference::failing(&lent.key, &lent.witness);
+        assert_eq!(failing.len(), 1, "{} where {what}", call.name());
+    }
+    file.case();
+    file.line("call", call.name());
+    file.line("what", what);
+    for (name, bytes) in call.inputs(lent) {
+        file.bytes(name, bytes);
+    }
+    if !call.writes(lent).is_empty() {
+        file.line("out_len", &call.out_len(lent).to_string());
+    }
+    file.line("number", &(word / 65_536).to_string());
+    file.line("place", &(word % 65_536).to_string());
+    if let Some(out) = out.filter(|out| !out.is_empty()) {
+        file.bytes("out", &out);
+    }
+    file.end_case();
+}

@@ -1,0 +1,66 @@
+//! proofs.rsp: honest cases, with the bytes that each step and the whole prover write.
+
+use crate::calls::{Call, CALLS};
+use crate::lent::{honest, toy, Lent};
+use crate::rsp::File;
+
+/// The sizes at the edges of a byte.
+const EDGES: [usize; 4] = [1, 7, 8, 9];
+
+/// Sizes of every case: n, m, tau, t.
+fn shapes() -> Vec<[usize; 4]> {
+    let mut shapes = Vec::new();
+    // Over the field of four elements (sums are exclusive ors) the columns a, b, a+b, a+2b: in any two of them, each
+    // pair of values comes once.
+    let double = [0, 2, 3, 1];
+    for a in 0..4 {
+        for b in 0..4 {
+            shapes.push([a, b, a ^ b, a ^ double[b]].map(|index| EDGES[index]));
+        }
+    }
+    // Each limit once, the other sizes small; and one with several words to each string.
+    shapes.extend([
+        [160, 2, 1, 3],
+        [2, 160, 1, 3],
+        [1, 1, 48, 1],
+        [3, 2, 1, 160],
+    ]);
+    shapes.push([70, 17, 3, 65]);
+    shapes
+}
+
+pub fn file() -> String {
+    let mut file = File::new(&[
+        "Solfadrus: honest proofs. The form is that of README.md.",
+        "Written by tests/vectors; every byte below was computed by the Rust rendering, tests/reference.",
+        "Case 0 is the toy of the scope paper; the others are random, from a fixed seed.",
+    ]);
+    add(&mut file, &toy());
+    for (seed, [n, m, tau, t]) in shapes().into_iter().enumerate() {
+        add(&mut file, &honest(seed as u64, n, m, tau, t));
+    }
+    file.text()
+}
+
+fn add(file: &mut File, lent: &Lent) {
+    file.sizes(&lent.shape);
+    file.case();
+    file.bytes("key", &lent.key);
+    file.bytes("witness", &lent.witness);
+    file.bytes("leaves", &lent.leaves);
+    file.bytes("hash_matrix", &lent.hash_matrix);
+    file.bytes("batching", &lent.batching);
+    file.bytes("delta", &lent.delta);
+    file.bytes("opened", &lent.opened);
+    for call in CALLS {
+        let (word, out) = call.answer(lent);
+        assert_eq!(word, 0, "{} of an honest case", call.name());
+        let name = match call {
+            Call::Test | Call::Verify => continue,
+            Call::Prove => "proof",
+            step => step.name(),
+        };
+        file.bytes(name, &out.unwrap());
+    }
+    file.end_case();
+}
