@@ -12,10 +12,9 @@ fn shapes() -> Vec<[usize; 4]> {
     let mut shapes = Vec::new();
     // Over the field of four elements (sums are exclusive ors) the columns a, b, a+b, a+2b: in any two of them, each
     // pair of values comes once.
-    let double = [0, 2, 3, 1];
     for a in 0..4 {
-        for b in 0..4 {
-            shapes.push([a, b, a ^ b, a ^ double[b]].map(|index| EDGES[index]));
+        for (b, double) in [(0, 0), (1, 2), (2, 3), (3, 1)] {
+            shapes.push([a, b, a ^ b, a ^ double].map(|index| EDGES[index]));
         }
     }
     // Each limit once, the other sizes small; and one with several words to each string.
