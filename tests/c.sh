@@ -14,12 +14,14 @@ gcc -std=c99 $strict -x c -fsyntax-only include/solfadrus.h
 g++ -std=c++11 $strict -x c++ -fsyntax-only include/solfadrus.h
 
 echo "size macros and size functions"
-gcc -std=c99 -O2 $strict tests/sizes.c "$lib/libsolfadrus.a" -o target/sizes
-target/sizes
+SOLFADRUS_LIB_DIR=$lib sh tests/sizes.sh
 
 echo "a caller in C++"
 g++ -std=c++11 -O2 $strict tests/header.cpp "$lib/libsolfadrus.a" -o target/header
 target/header
+
+echo "the test vectors"
+SOLFADRUS_LIB_DIR=$lib sh tests/vectors.sh
 
 echo "the comparison with the Rust rendering"
 sh tests/compare.sh "$lib" --selftest
@@ -27,6 +29,15 @@ sh tests/compare.sh "$lib"
 
 echo "the example"
 SOLFADRUS_LIB_DIR=$lib sh tests/demo.sh
+
+echo "the manual pages"
+SOLFADRUS_LIB_DIR=$lib sh tests/man.sh
+
+echo "the Rust wrapper"
+SOLFADRUS_LIB_DIR=$lib sh tests/bindings.sh
+
+echo "installing and uninstalling"
+SOLFADRUS_LIB_DIR=$lib sh tests/install.sh
 
 echo "the example server"
 SOLFADRUS_LIB_DIR=$lib sh tests/server.sh

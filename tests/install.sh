@@ -8,8 +8,9 @@ cd "$(dirname "$0")/.."
 need gcc gcc
 need g++ g++
 need pkg-config pkg-config
-need groff groff
+need groff groff-base
 need man man-db
+need make make
 SOLFADRUS_LIB_DIR=$(library)
 export SOLFADRUS_LIB_DIR
 work=$(mktemp -d)

@@ -5,7 +5,7 @@ set -eu
 cd "$(dirname "$0")/.."
 . tests/need.sh
 need gcc gcc
-need groff groff
+need groff groff-base
 lib=$(library)
 page=docs/man/solfadrus.3
 work=$(mktemp -d)

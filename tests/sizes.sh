@@ -15,7 +15,7 @@ covered() {
     sed -n 's/^#define MQ_\([A-Z_]*\)_SIZE[ (].*/\1/p' "$1" | sort >"$work/macros"
     sed -n 's/^size_t mq_\([a-z_]*\)_size(.*/\1/p' "$1" | tr '[:lower:]' '[:upper:]' | sort >"$work/functions"
     sed -n 's/^    { "[a-z_]*", mq_\([a-z_]*\)_size, macro_[A-Z_]* },$/\1/p' "$2" | tr '[:lower:]' '[:upper:]' | sort >"$work/tested"
-    # Parts of lengths: no string that is lent or written has one of these, so they have no function.
+    # Parts of lengths, for places inside a string, have no function.
     printf '%s\n' COUNT FIELD HASH_ROW HEADER LEAF STRING | sort - "$work/functions" >"$work/named"
     [ -s "$work/functions" ] && diff "$work/macros" "$work/named" && diff "$work/functions" "$work/tested"
 }
