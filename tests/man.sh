@@ -1,6 +1,7 @@
 #!/bin/sh
 # The manual pages: rendered without a warning; solfadrus.3 has the header's declarations, numbers and limits; its
-# example compiles against the library (that of SOLFADRUS_LIB_DIR, or else the one that rt builds), and runs.
+# example compiles against the library (that of SOLFADRUS_LIB_DIR, or else the one that rt builds), and says what it is
+# meant to.
 set -eu
 cd "$(dirname "$0")/.."
 . tests/need.sh
@@ -70,4 +71,6 @@ echo "solfadrus.3 has the header's $(wc -l <"$work/header") declarations, number
 
 sed -n '/^\.\\" example: begin/,/^\.\\" example: end/p' "$page" | grep -v '^\.' | sed 's/\\e/\\/g' >"$work/example.c"
 gcc -std=c99 -O2 -Wall -Wextra -pedantic -Werror -Iinclude "$work/example.c" "$lib/libsolfadrus.a" -o "$work/example"
-"$work/example"
+"$work/example" >"$work/said"
+cat "$work/said"
+[ "$(tail -n 1 "$work/said")" = "verify: refused 15 place 0" ]
