@@ -2,7 +2,7 @@
 //! the questions are put.
 
 use crate::calls::{Call, CALLS};
-use crate::damages::{change_y, spare_in_last, Damage, DAMAGES};
+use crate::damages::{change_proof, change_y, spare_in_last, Damage, DAMAGES};
 use crate::lent::{honest, toy, Lent};
 use crate::rsp::File;
 
@@ -21,7 +21,9 @@ pub fn file() -> String {
         }
         both(&mut file, call, &base);
     }
-    more(&mut file, &base);
+    notes(&mut file, &base);
+    last_places(&mut file);
+    toy_answers(&mut file);
     file.text()
 }
 
@@ -65,11 +67,11 @@ fn both(file: &mut File, call: Call, base: &Lent) {
     }
 }
 
-/// What docs/REFUSALS.md notes beside its table, and the toy's answers that 01 gives.
-fn more(file: &mut File, base: &Lent) {
+/// What docs/REFUSALS.md notes beside its table.
+fn notes(file: &mut File, base: &Lent) {
     let mut lent = base.clone();
     change_y(&mut lent, 0);
-    let what = "the key of a witness that fails: hash takes no witness";
+    let what = "y of equation 0 is changed: hash takes no witness";
     add(file, Call::Hash, &lent, what, 0);
 
     let mut lent = base.clone();
@@ -79,16 +81,34 @@ fn more(file: &mut File, base: &Lent) {
         let what = "batching has one byte less, and a spare bit in hash_matrix";
         add(file, call, &lent, what, 5 * 65_536);
     }
+}
 
+/// The highest place of each number that has one.
+fn last_places(file: &mut File) {
+    let mut lent = honest(160, 2, 160, 1, 1);
+    change_y(&mut lent, 159);
+    let what = "equation 159 of 160 fails";
+    add(file, Call::Test, &lent, what, 11 * 65_536 + 159);
+
+    let lent = honest(48, 1, 1, 48, 1);
+    for (section, name, number) in [(3, "V~", 14), (4, "QS0", 15)] {
+        let mut lent = lent.clone();
+        change_proof(&mut lent, section, 47);
+        let what = format!("{name} of repetition 47 of 48 is changed");
+        add(file, Call::Verify, &lent, &what, number * 65_536 + 47);
+    }
+}
+
+/// The toy's answers that 01 gives, and two more: y = 0 and QS1 = 05 are accepted at 00 and 52 only.
+fn toy_answers(file: &mut File) {
     let toy = toy();
     let last = toy.proof.len() - 1;
-    let u_tilde = toy.proof_section(2) + 4;
     let mut forged = toy.clone();
     forged.proof[last] = 0x05;
     let mut other_key = forged.clone();
     change_y(&mut other_key, 0);
     let mut other_hash = toy.clone();
-    other_hash.proof[u_tilde] = 0x00;
+    change_proof(&mut other_hash, 2, 0);
     let cases: [(&Lent, &str, u8, u32); 8] = [
         (&toy, "the toy", 0x02, 0),
         (&forged, "the toy, QS1 changed to 05", 0x02, 15 * 65_536),

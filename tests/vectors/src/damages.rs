@@ -77,7 +77,7 @@ fn spare_in_proof(lent: &mut Lent, section: usize) {
 }
 
 /// Changes the lowest bit of a byte of a section of the proof.
-fn change_proof(lent: &mut Lent, section: usize, byte: usize) {
+pub fn change_proof(lent: &mut Lent, section: usize, byte: usize) {
     let at = lent.proof_section(section) + 4 + byte;
     lent.proof[at] ^= 1;
 }
