@@ -79,9 +79,18 @@ for program in c cpp; do
 done
 echo "callers in C and C++: version $version from the .pc file, the header and the library"
 
+# wrapper DIRECTORY: the wrapper's tests, by the pkg-config file of that directory.
+wrapper() {
+    env -u SOLFADRUS_LIB_DIR PKG_CONFIG_PATH="$1" cargo test --quiet --release --offline -j1 \
+        --manifest-path bindings/rust/Cargo.toml --target-dir target/bindings-installed --lib -- --test-threads=1
+}
 echo "the Rust wrapper, by pkg-config"
-env -u SOLFADRUS_LIB_DIR cargo test --quiet --release --offline -j1 --manifest-path bindings/rust/Cargo.toml \
-    --target-dir target/bindings-installed --lib -- --test-threads=1
+wrapper "$prefix/lib/pkgconfig"
+mkdir "$work/other"
+sed 's/^Version: .*/Version: 65535.0.0/' "$prefix/lib/pkgconfig/solfadrus.pc" >"$work/other/solfadrus.pc"
+if wrapper "$work/other" >"$work/log" 2>&1 || ! grep -q "pkg-config has no solfadrus = " "$work/log"; then
+    fail "the wrapper takes a library of another version"
+fi
 
 for section in 1:mqcheck 3:solfadrus; do
     LC_ALL=C.UTF-8 MANPATH=$prefix/share/man man --warnings "${section%%:*}" "${section#*:}" >"$work/text" 2>"$work/warnings"

@@ -274,17 +274,17 @@ static void read_string(int which, const char *value)
     size_t i;
     if (s->given)
         stop("a name comes twice", "");
+    if (strlen(value) % 2)
+        stop("half a byte", "");
     s->given = 1;
     s->len = strlen(value) / 2;
-    if (s->len == 0 && *value == '\0')
+    if (s->len == 0)
         return;
-    s->at = malloc(s->len + 1);
+    s->at = malloc(s->len);
     if (!s->at)
         stop("no memory", "");
     for (i = 0; i < s->len; i++)
         s->at[i] = (uint8_t)(digit(value[2 * i]) * 16 + digit(value[2 * i + 1]));
-    if (value[2 * i])
-        stop("half a byte", "");
 }
 
 static void read_number(int which, const char *value)

@@ -4,7 +4,12 @@ use std::path::PathBuf;
 use std::process::Command;
 
 fn main() {
-    for name in ["SOLFADRUS_LIB_DIR", "PKG_CONFIG", "PKG_CONFIG_PATH"] {
+    for name in [
+        "SOLFADRUS_LIB_DIR",
+        "PKG_CONFIG",
+        "PKG_CONFIG_PATH",
+        "PKG_CONFIG_LIBDIR",
+    ] {
         println!("cargo:rerun-if-env-changed={name}");
     }
     let directory = match std::env::var_os("SOLFADRUS_LIB_DIR") {

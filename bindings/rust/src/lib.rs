@@ -63,8 +63,6 @@
 //! ```
 
 #![deny(missing_docs)]
-#![deny(unsafe_op_in_unsafe_fn)]
-#![warn(clippy::all)]
 
 mod calls;
 mod ffi;
