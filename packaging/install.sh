@@ -24,7 +24,7 @@ case $PREFIX in
 esac
 root=${DESTDIR:-}$PREFIX
 
-# The header's version: it stands nowhere else.
+# The header's version, so that it is not written again for the pkg-config file.
 version() {
     awk '$1 == "#define" && $2 ~ /^MQ_VERSION_(MAJOR|MINOR|PATCH)$/ { part[$2] = $3 }
          END { print part["MQ_VERSION_MAJOR"] "." part["MQ_VERSION_MINOR"] "." part["MQ_VERSION_PATCH"] }' \
