@@ -59,7 +59,7 @@ entry-chosen S χ p g f =
 -- ---- offsets
 
 -- an entry at an offset stands whole in the largest table
-pub chosen-fits : (χ O : List ℕ) (m G R k : ℕ) → 0 < G → G ≤ 40 → ((r : ℕ) → r < R → Chosen χ m G O r) → k < R * G → byteAt O k + chunk ≤ 51200
+pub chosen-fits : (χ O : List ℕ) (m G R k : ℕ) → 0 < G → G ≤ 40 → ((r : ℕ) → r < R → Chosen χ m G O r) → k < R * G → byteAt O k * 16 + chunk ≤ 51200
 chosen-fits χ O m G R k pos most chosen h =
     let r = k / G in
     let g = k % G in
@@ -68,6 +68,9 @@ chosen-fits χ O m G R k pos most chosen h =
     let within = choice-lt (byteAt (blockAt χ m (r / 8))) (r % 8) g in
     let e : byteAt O k ≡ byteAt O (r * G + g) = ap (byteAt O) (sym (div-add-mod' k G)) in
     omega (arith, e, is, within, small, most)
+
+unit-entry : (o k : ℕ) → o ≡ k * 5 → o * 16 ≡ k * chunk
+unit-entry o k h = omega arith
 
 -- there are no rows from m on
 rows-end : (S : List ℕ) (q : ℕ → ℕ) (m k f : ℕ) → length S ≡ m * chunk → xorSum (m + k) (λ i. q i * cellAt S i f) ≡ xorSum m (λ i. q i * cellAt S i f)
@@ -78,12 +81,12 @@ rows-end S q m k f long =
     ap (λ (y : ℕ). q (m + s) * y) (List·getD-eq-default S 0 past) ∙ mul-zero (q (m + s)))
 
 pub chosen-sum : (S : List ℕ) (χ : ℕ → ℕ) (m : ℕ) (sums O : List ℕ) (G r p f : ℕ) → Weighed S χ m sums O G r → p < 8 → f < chunk
-    → xorSum G (λ g. byteAt sums (byteAt O ((r + p) * G + g) + f)) ≡ xorSum m (λ i. bitOf (χ i) p * cellAt S i f)
+    → xorSum G (λ g. byteAt sums (byteAt O ((r + p) * G + g) * 16 + f)) ≡ xorSum m (λ i. bitOf (χ i) p * cellAt S i f)
 chosen-sum S χ m sums O G r p f (tabled, long, most, small, offset) hp hf =
     let whole : G * 4 ≡ m + (G * 4 - m) = omega arith in
     sum-same G _ (λ g. xorSum 4 (λ s. bitOf (χ (g * 4 + s)) p * cellAt S (g * 4 + s) f))
     (λ g h.
-    ap (λ (x : ℕ). byteAt sums (x + f)) (offset p g hp h)
+    ap (λ (x : ℕ). byteAt sums (x + f)) (unit-entry (byteAt O ((r + p) * G + g)) (g * 16 + choice χ p g) (offset p g hp h))
     ∙ tabled (g * 16 + choice χ p g) f (omega (arith, choice-lt χ p g)) hf ∙ entry-chosen S χ p g f)
     ∙ sum-blocks G 4 (λ i. bitOf (χ i) p * cellAt S i f) ∙ ap (λ (n : ℕ). xorSum n (λ i. bitOf (χ i) p * cellAt S i f)) whole
     ∙ rows-end S (λ i. bitOf (χ i) p) m (G * 4 - m) f long

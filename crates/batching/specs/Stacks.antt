@@ -5,7 +5,7 @@
 --   Masks v masks == masks holds eight masks: byte f of mask b is 255 where bit b of byte f of v is set, and 0 elsewhere
 --   choice χ p g == the number that bit p of each of the bytes χ(4·g), .., χ(4·g + 3) writes, the first lowest
 --   Chosen χ m G O r == row r of O is G offsets: offset g is that of the entry, among the sixteen of the rows 4·g, .., 4·g + 3, which
---     bit r mod 8 of the m bytes χ of repetition ⌊r/8⌋ chooses
+--     bit r mod 8 of the m bytes χ of repetition ⌊r/8⌋ chooses; offsets count sixteen bytes, of which an entry has five
 --   Weighed S χ m sums O G r == sums is the table of the m rows S, and the eight rows of O from r on are the offsets which the bits of χ choose
 --   foldOf T e w j z == the sum of the values of stack e at bit z of byte j of each of four parts of w bytes
 --   Spread xs w masks k == row k of masks, of a chunk, is four masks of w bytes: mask g is 255 where byte 4·k + g of xs is 1, and 0 where it is 0
@@ -48,10 +48,10 @@ unfoldable pub choice : (ℕ → ℕ) → ℕ → ℕ → ℕ
 choice χ p g = bitOf (χ (g * 4)) p + bitOf (χ (g * 4 + 1)) p * 2 + bitOf (χ (g * 4 + 2)) p * 4 + bitOf (χ (g * 4 + 3)) p * 8
 
 abbrev pub Chosen : List ℕ → ℕ → ℕ → List ℕ → ℕ → Type 0
-Chosen χ m G O r = (g : ℕ) → g < G → byteAt O (r * G + g) ≡ (g * 16 + choice (byteAt (blockAt χ m (r / 8))) (r % 8) g) * chunk
+Chosen χ m G O r = (g : ℕ) → g < G → byteAt O (r * G + g) ≡ (g * 16 + choice (byteAt (blockAt χ m (r / 8))) (r % 8) g) * 5
 
 abbrev pub Weighed : List ℕ → (ℕ → ℕ) → ℕ → List ℕ → List ℕ → ℕ → ℕ → Type 0
-Weighed S χ m sums O G r = Tabled S sums (G * 16) × (length S ≡ m * chunk) × (m ≤ G * 4) × ((i : ℕ) → i < m → χ i < 256) × ((p g : ℕ) → p < 8 → g < G → byteAt O ((r + p) * G + g) ≡ (g * 16 + choice χ p g) * chunk)
+Weighed S χ m sums O G r = Tabled S sums (G * 16) × (length S ≡ m * chunk) × (m ≤ G * 4) × ((i : ℕ) → i < m → χ i < 256) × ((p g : ℕ) → p < 8 → g < G → byteAt O ((r + p) * G + g) ≡ (g * 16 + choice χ p g) * 5)
 
 unfoldable pub foldOf : List ℕ → ℕ → ℕ → ℕ → ℕ → ℕ
 foldOf T e w j z = xorSum 4 (λ g. stackOf T e (g * w + j) z)

@@ -125,7 +125,7 @@ fn absorb_plane(t: &mut [u8], p: usize, m: &[u8], masks: &[u8])
 
 // Adds to a stack the chunk of the batched matrix times v: the sum of the rows S, each times its byte χ, whose bits chose the offsets.
 fn absorb(t: &mut [u8], offsets: &[u16], base: usize, groups: usize, sums: &[u8], masks: &[u8])
-    requires { ⌜ (length (now t) ≡ stack) × ((base + 8) * groups ≤ length (now offsets)) × ((k : ℕ) → k < (base + 8) * groups → byteAt (now offsets) k + chunk ≤ length (now sums)) × (length (now masks) ≡ 8 * chunk) × (base ≤ 1000) ⌝ }
+    requires { ⌜ (length (now t) ≡ stack) × ((base + 8) * groups ≤ length (now offsets)) × (groups % 2 ≡ 0) × ((k : ℕ) → k < (base + 8) * groups → byteAt (now offsets) k * 16 + chunk ≤ length (now sums)) × (length (now masks) ≡ 8 * chunk) × (base ≤ 1000) ⌝ }
     ensures { λ _. ⌜ ((S v : List ℕ) (χ : ℕ → ℕ) (m f z : ℕ) → Weighed S χ m (now (sums .entry)) (now (offsets .entry)) groups base → Masks v (now (masks .entry)) → byteAt v f < 256 → f < chunk → stackAt (now (t .exit)) f z ≡ bitXor (stackAt (now (t .entry)) f z) (product (byteAt v f) (xorSum m (λ i. bitOf (cellAt S i f) z * χ i)))) ⌝ }
 {
     let mut p = 0;
@@ -153,7 +153,7 @@ fn absorb_lane(
     n: usize,
     width: usize,
 )
-    requires { ⌜ (e * stack + stack ≤ length (now stacks)) × ((e * 8 + 8) * groups ≤ length (now offsets)) × ((k : ℕ) → k < (e * 8 + 8) * groups → byteAt (now offsets) k + chunk ≤ length (now sums)) × (length (now table) ≡ n * lanes) × (e < lanes) × (first < n) × (4 * width ≤ chunk) ⌝ }
+    requires { ⌜ (e * stack + stack ≤ length (now stacks)) × ((e * 8 + 8) * groups ≤ length (now offsets)) × (groups % 2 ≡ 0) × ((k : ℕ) → k < (e * 8 + 8) * groups → byteAt (now offsets) k * 16 + chunk ≤ length (now sums)) × (length (now table) ≡ n * lanes) × (e < lanes) × (first < n) × (4 * width ≤ chunk) ⌝ }
     ensures { λ _. ⌜ ((S : List ℕ) (χ : ℕ → ℕ) (m g j z : ℕ) → Weighed S χ m (now (sums .entry)) (now (offsets .entry)) groups (e * 8) → g < 4 → j < width → stackOf (now (stacks .exit)) e (g * width + j) z ≡ bitXor (stackOf (now (stacks .entry)) e (g * width + j) z) (product (laneAt (now (table .entry)) (first + g) e) (xorSum m (λ i. bitOf (cellAt S i (g * width + j)) z * χ i)))) ⌝ }
     ensures { λ _. ⌜ ((q b : ℕ) → (q ≡ e → ⊥) → b < stack → byteAt (now (stacks .exit)) (q * stack + b) ≡ byteAt (now (stacks .entry)) (q * stack + b)) ⌝ }
 {
@@ -184,7 +184,7 @@ fn absorb_lanes(
     n: usize,
     width: usize,
 )
-    requires { ⌜ (tau * stack ≤ length (now stacks)) × (tau * 8 * groups ≤ length (now offsets)) × ((k : ℕ) → k < tau * 8 * groups → byteAt (now offsets) k + chunk ≤ length (now sums)) × (length (now table) ≡ n * lanes) × (tau ≤ lanes) × (first < n) × (4 * width ≤ chunk) ⌝ }
+    requires { ⌜ (tau * stack ≤ length (now stacks)) × (tau * 8 * groups ≤ length (now offsets)) × (groups % 2 ≡ 0) × ((k : ℕ) → k < tau * 8 * groups → byteAt (now offsets) k * 16 + chunk ≤ length (now sums)) × (length (now table) ≡ n * lanes) × (tau ≤ lanes) × (first < n) × (4 * width ≤ chunk) ⌝ }
     ensures { λ _. ⌜ ((S : List ℕ) (χ : ℕ → ℕ → ℕ) (m e g j z : ℕ) → ((q : ℕ) → q < tau → Weighed S (χ q) m (now (sums .entry)) (now (offsets .entry)) groups (q * 8)) → e < tau → g < 4 → j < width → stackOf (now (stacks .exit)) e (g * width + j) z ≡ bitXor (stackOf (now (stacks .entry)) e (g * width + j) z) (product (laneAt (now (table .entry)) (first + g) e) (xorSum m (λ i. bitOf (cellAt S i (g * width + j)) z * χ e i)))) ⌝ }
 {
     let mut e = 0;
@@ -207,7 +207,7 @@ pub fn collect(
     groups: usize,
     table: &[u8],
 )
-    requires { ⌜ (tau * stack ≤ length (now stacks)) × (length (now a) ≡ m * (n * width)) × (n ≤ 160) × (m ≤ 160) × (groups ≡ (m + 3) / 4) × (tau * 8 * groups ≤ length (now offsets)) × ((k : ℕ) → k < tau * 8 * groups → byteAt (now offsets) k + chunk ≤ 51200) × (length (now table) ≡ n * lanes) × (tau ≤ lanes) × (4 * width ≤ chunk) × (0 < m) × (0 < tau) ⌝ }
+    requires { ⌜ (tau * stack ≤ length (now stacks)) × (length (now a) ≡ m * (n * width)) × (n ≤ 160) × (m ≤ 160) × (groups ≡ (m + 7) / 8 * 2) × (tau * 8 * groups ≤ length (now offsets)) × ((k : ℕ) → k < tau * 8 * groups → byteAt (now offsets) k * 16 + chunk ≤ 51200) × (length (now table) ≡ n * lanes) × (tau ≤ lanes) × (4 * width ≤ chunk) × (0 < m) × (0 < tau) ⌝ }
     ensures { λ _. ⌜ ((χ : List ℕ) (e g j z : ℕ) → ((k : ℕ) → byteAt χ k < 256) → ((r : ℕ) → r < tau * 8 → Chosen χ m groups (now (offsets .entry)) r) → e < tau → g < 4 → j < width → stackOf (now (stacks .exit)) e (g * width + j) z ≡ bitXor (stackOf (now (stacks .entry)) e (g * width + j) z) (xorSum ((n + 3) / 4) (λ k. product (laneAt (now (table .entry)) (k * 4 + g) e) (batchedByte width (n * width) m (now (a .entry)) χ e (k * 4 + g) j z)))) ⌝ }
 {
     let mut cells = [0u8; 160 * CHUNK];
@@ -215,7 +215,7 @@ pub fn collect(
     let mut k = 0;
     while k * 4 < n {
         super::cells::load(&mut cells, a, n * width, k * 4 * width, 4 * width, m);
-        super::sums::fill_sums(&mut sums, groups * 16, m, &cells[..m * CHUNK]);
+        super::sums::fill_sums(&mut sums, groups, m, &cells[..m * CHUNK]);
         super::sums::add_first(stacks, &sums);
         absorb_lanes(stacks, tau, offsets, groups, &sums, table, k * 4, n, width);
         k += 1;

@@ -11,6 +11,9 @@ use super::CHUNK;
 // The entries of the table of sums for four rows, one for each value of half a byte.
 const HALF: usize = 16;
 
+// The bytes that offsets count.
+pub const UNIT: usize = 16;
+
 fn wide(x: u16) -> usize
     ensures { λ r. ⌜ r ≡ x ⌝ }
 {
@@ -41,54 +44,6 @@ fn add_row(dst: &mut [u8; CHUNK], c: usize, n: usize, table: &[u8])
     }
 }
 
-// Half a byte that is not 0 as its highest bit and what is below it.
-struct Parted {
-    high: usize,
-    low: usize,
-}
-
-fn part(v: usize) -> Parted
-    requires { ⌜ (0 < v) × (v < 16) ⌝ }
-    ensures { λ r. ⌜ (r .high < 4) × (r .low < 2 ^ r .high) × (v ≡ 2 ^ r .high + r .low) ⌝ }
-{
-    if v < 2 {
-        return Parted { high: 0, low: 0 };
-    }
-    if v < 4 {
-        return Parted {
-            high: 1,
-            low: v - 2,
-        };
-    }
-    if v < 8 {
-        return Parted {
-            high: 2,
-            low: v - 4,
-        };
-    }
-    Parted {
-        high: 3,
-        low: v - 8,
-    }
-}
-
-// Adds entry k of the table of sums, where those below it are filled: an entry without its highest bit, and the row of that bit. The branch
-// goes by k, which is public.
-fn add_entry(dst: &mut [u8; CHUNK], sums: &[u8], k: usize, n: usize, table: &[u8])
-    requires { ⌜ (length (now dst) ≡ chunk) × (k * chunk ≤ length (now sums)) × (length (now table) ≡ n * chunk) ⌝ }
-    ensures { λ _. ⌜ length (now (dst .exit)) ≡ chunk ⌝ }
-    ensures { λ _. ⌜ ((f : ℕ) → f < chunk → Tabled (now (table .entry)) (now (sums .entry)) k → byteAt (now (dst .exit)) f ≡ bitXor (byteAt (now (dst .entry)) f) (entryByte (now (table .entry)) k f)) ⌝ }
-{
-    let half = k % HALF;
-    if half != 0 {
-        let parted = part(half);
-        let low = parted.low;
-        let high = parted.high;
-        add_at(dst, sums, (k - half + low) * CHUNK);
-        add_row(dst, k / HALF * 4 + high, n, table);
-    }
-}
-
 fn store(sums: &mut [u8], k: usize, src: &[u8; CHUNK])
     requires { ⌜ (k * chunk + chunk ≤ length (now sums)) × (length (now src) ≡ chunk) ⌝ }
     ensures { λ _. ⌜ ((f : ℕ) → f < chunk → cellAt (now (sums .exit)) k f ≡ byteAt (now (src .entry)) f) ⌝ }
@@ -98,25 +53,59 @@ fn store(sums: &mut [u8], k: usize, src: &[u8; CHUNK])
     copy_chunk(&mut sums[at..at + CHUNK], src);
 }
 
-fn fill_row(sums: &mut [u8], k: usize, n: usize, table: &[u8])
-    requires { ⌜ (length (now table) ≡ n * chunk) × (k * chunk + chunk ≤ length (now sums)) ⌝ }
-    ensures { λ _. ⌜ ((f : ℕ) → f < chunk → Tabled (now (table .entry)) (now (sums .entry)) k → cellAt (now (sums .exit)) k f ≡ entryByte (now (table .entry)) k f) ⌝ }
-    ensures { λ _. ⌜ ((q f : ℕ) → (q ≡ k → ⊥) → f < chunk → cellAt (now (sums .exit)) q f ≡ cellAt (now (sums .entry)) q f) ⌝ }
+// Entry `to` becomes entry `from` plus a row.
+fn fill_entry(sums: &mut [u8], from: usize, to: usize, row: &[u8; CHUNK])
+    requires { ⌜ (from * chunk + chunk ≤ length (now sums)) × (to * chunk + chunk ≤ length (now sums)) × (length (now row) ≡ chunk) ⌝ }
+    ensures { λ _. ⌜ ((f : ℕ) → f < chunk → cellAt (now (sums .exit)) to f ≡ bitXor (cellAt (now (sums .entry)) from f) (byteAt (now (row .entry)) f)) ⌝ }
+    ensures { λ _. ⌜ ((q f : ℕ) → (q ≡ to → ⊥) → f < chunk → cellAt (now (sums .exit)) q f ≡ cellAt (now (sums .entry)) q f) ⌝ }
 {
     let mut sum = [0u8; CHUNK];
-    add_entry(&mut sum, sums, k, n, table);
-    store(sums, k, &sum);
+    add_at(&mut sum, sums, from * CHUNK);
+    add_at(&mut sum, row, 0);
+    store(sums, to, &sum);
 }
 
-// The first entries of the table of sums: sixteen for each four of the n coordinates. Made once, they serve every row of every matrix.
-pub fn fill_sums(sums: &mut [u8], count: usize, n: usize, table: &[u8])
-    requires { ⌜ (count * chunk ≤ length (now sums)) × (length (now table) ≡ n * chunk) ⌝ }
-    ensures { λ _. ⌜ Tabled (now (table .entry)) (now (sums .exit)) count ⌝ }
+// The `count` entries from base on, each plus a row, become the next as many.
+fn fill_next(sums: &mut [u8], base: usize, count: usize, row: &[u8; CHUNK])
+    requires { ⌜ ((base + count + count) * chunk ≤ length (now sums)) × (length (now row) ≡ chunk) ⌝ }
+    ensures { λ _. ⌜ ((v f : ℕ) → v < count → f < chunk → cellAt (now (sums .exit)) (base + count + v) f ≡ bitXor (cellAt (now (sums .entry)) (base + v) f) (byteAt (now (row .entry)) f)) ⌝ }
+    ensures { λ _. ⌜ ((q f : ℕ) → q < base + count → f < chunk → cellAt (now (sums .exit)) q f ≡ cellAt (now (sums .entry)) q f) ⌝ }
 {
-    let mut k = 0;
-    while k < count {
-        fill_row(sums, k, n, table);
-        k += 1;
+    let mut v = 0;
+    while v < count {
+        fill_entry(sums, base + v, base + count + v, row);
+        v += 1;
+    }
+}
+
+// The sixteen sums of four rows: with each row the sums so far are doubled.
+fn fill_group(sums: &mut [u8], g: usize, n: usize, table: &[u8])
+    requires { ⌜ ((g * 16 + 16) * chunk ≤ length (now sums)) × (length (now table) ≡ n * chunk) ⌝ }
+    ensures { λ _. ⌜ ((v f : ℕ) → v < 16 → f < chunk → cellAt (now (sums .exit)) (g * 16 + v) f ≡ entryByte (now (table .entry)) (g * 16 + v) f) ⌝ }
+    ensures { λ _. ⌜ ((q f : ℕ) → q < g * 16 → f < chunk → cellAt (now (sums .exit)) q f ≡ cellAt (now (sums .entry)) q f) ⌝ }
+{
+    let zero = [0u8; CHUNK];
+    store(sums, g * HALF, &zero);
+    let mut count = 1;
+    let mut s = 0;
+    while s < 4 {
+        let mut row = [0u8; CHUNK];
+        add_row(&mut row, g * 4 + s, n, table);
+        fill_next(sums, g * HALF, count, &row);
+        count *= 2;
+        s += 1;
+    }
+}
+
+// The table of sums of the n rows, sixteen entries for each four of them. Made once, it serves every plane of every repetition.
+pub fn fill_sums(sums: &mut [u8], groups: usize, n: usize, table: &[u8])
+    requires { ⌜ (groups * 16 * chunk ≤ length (now sums)) × (length (now table) ≡ n * chunk) ⌝ }
+    ensures { λ _. ⌜ Tabled (now (table .entry)) (now (sums .exit)) (groups * 16) ⌝ }
+{
+    let mut g = 0;
+    while g < groups {
+        fill_group(sums, g, n, table);
+        g += 1;
     }
 }
 
@@ -131,16 +120,17 @@ fn copy_chunk(out: &mut [u8], src: &[u8; CHUNK])
     }
 }
 
-// out[f] = the sum of byte f of the entries that stand at the offsets.
+// out[f] = the sum of byte f of the entries that stand at the offsets, two at a time.
 pub fn look_up(out: &mut [u8], offsets: &[u16], sums: &[u8])
-    requires { ⌜ (length (now out) ≡ chunk) × ((g : ℕ) → g < length (now offsets) → byteAt (now offsets) g + chunk ≤ length (now sums)) ⌝ }
-    ensures { λ _. ⌜ ((f : ℕ) → f < chunk → byteAt (now (out .exit)) f ≡ xorSum (length (now (offsets .entry))) (λ g. byteAt (now (sums .entry)) (byteAt (now (offsets .entry)) g + f))) ⌝ }
+    requires { ⌜ (length (now out) ≡ chunk) × (length (now offsets) % 2 ≡ 0) × ((g : ℕ) → g < length (now offsets) → byteAt (now offsets) g * 16 + chunk ≤ length (now sums)) ⌝ }
+    ensures { λ _. ⌜ ((f : ℕ) → f < chunk → byteAt (now (out .exit)) f ≡ xorSum (length (now (offsets .entry))) (λ g. byteAt (now (sums .entry)) (byteAt (now (offsets .entry)) g * 16 + f))) ⌝ }
 {
     let mut sum = [0u8; CHUNK];
     let mut g = 0;
     while g < offsets.len() {
-        add_at(&mut sum, sums, wide(offsets[g]));
-        g += 1;
+        add_at(&mut sum, sums, wide(offsets[g]) * UNIT);
+        add_at(&mut sum, sums, wide(offsets[g + 1]) * UNIT);
+        g += 2;
     }
     copy_chunk(out, &sum);
 }

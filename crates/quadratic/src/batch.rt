@@ -46,7 +46,7 @@ pub fn batch_forms(
     ensures { λ _. ⌜ ((e : ℕ) → e < tau → byteAt (now (lin .exit)) e ≡ bitXor (byteAt (now (lin .entry)) e) (batchByte m (now (chi .entry)) e (λ i. selected n (rowOf n (now (rows .entry)) i) (now (table .entry)) lanes e))) ⌝ }
     ensures { λ _. ⌜ ((x : List ℕ) (e : ℕ) → ((c : ℕ) → byteAt (now (xs .entry)) c ≡ bit x c) → e < tau → byteAt (now (right .exit)) e ≡ bitXor (byteAt (now (right .entry)) e) (batchByte m (now (chi .entry)) e (λ i. xorSum n (λ ρ. rowProduct (rowOf n (matrixOf n (now (a .entry)) i) ρ) x * laneAt (now (table .entry)) ρ e)))) ⌝ }
 {
-    let groups = (m + 3) / 4;
+    let groups = (m + 7) / 8 * 2;
     let width = (n + 7) / 8;
     let mut offsets = [0u16; OFFSETS];
     let mut rest = [0u8; LANES];

@@ -60,10 +60,11 @@ look-up-requires c κs =
     let r = a .base + c .before .before .before .loop .p in
     let row = c .row-at in (
       search needs,
+      omega (arith, row .ensures .1, pre .2),
       λ g h.
           let inside : g < a .groups = omega (arith, h, row .ensures .1) in
           let is : byteAt (now (row .result)) g ≡ byteAt (now (a .offsets)) (r * a .groups + g) = ap (λ (x : List ℕ). byteAt x g) (row .ensures .0) ∙ row-byte (now (a .offsets)) (a .groups) r g inside in
-          rw is (pre .2 (r * a .groups + g) (omega (arith, inside, row-end r (a .base + 8) (a .groups) (omega arith)))),
+          rw is (pre .3 (r * a .groups + g) (omega (arith, inside, row-end r (a .base + 8) (a .groups) (omega arith)))),
     )
 
 slice-aggregate-absorb-plane : tie.Need-slice-aggregate-absorb-plane Inv-loop μ-loop
@@ -90,9 +91,9 @@ loop-again c =
       (λ S v χ m f z weighed masks hv h.
           done .ensures v f z masks hv h
           ∙ ap (λ (x : ℕ). bitXor (stackAt (l .t) f z) (bitOf x z * product (alpha (l .p)) (byteAt v f)))
-          (looked .ensures f h ∙ ap (λ (n : ℕ). xorSum n (λ g. byteAt (now (a .sums)) (byteAt (now (row .result)) g + f))) (row .ensures .1)
-          ∙ sum-same (a .groups) _ (λ g. byteAt (now (a .sums)) (byteAt (now (a .offsets)) ((a .base + l .p) * a .groups + g) + f))
-          (λ g k. ap (λ (x : ℕ). byteAt (now (a .sums)) (x + f)) (ap (λ (x : List ℕ). byteAt x g) (row .ensures .0) ∙ row-byte (now (a .offsets)) (a .groups) (a .base + l .p) g k))
+          (looked .ensures f h ∙ ap (λ (n : ℕ). xorSum n (λ g. byteAt (now (a .sums)) (byteAt (now (row .result)) g * 16 + f))) (row .ensures .1)
+          ∙ sum-same (a .groups) _ (λ g. byteAt (now (a .sums)) (byteAt (now (a .offsets)) ((a .base + l .p) * a .groups + g) * 16 + f))
+          (λ g k. ap (λ (x : ℕ). byteAt (now (a .sums)) (x * 16 + f)) (ap (λ (x : List ℕ). byteAt x g) (row .ensures .0) ∙ row-byte (now (a .offsets)) (a .groups) (a .base + l .p) g k))
           ∙ chosen-sum S χ m (now (a .sums)) (now (a .offsets)) (a .groups) (a .base) (l .p) f weighed (omega arith) h)
           ∙ sum-step (stackAt (now (a .t)) f z) (stackAt (l .t) f z) (l .p) (term S v χ m f z) (l .inv .2 S v χ m f z weighed masks hv h)),
     )

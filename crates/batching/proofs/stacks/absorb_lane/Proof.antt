@@ -57,7 +57,8 @@ slice-aggregate-absorb : tie.Need-slice-aggregate-absorb
 slice-aggregate-absorb c = search needs
 
 absorb-requires : tie.Need-absorb-requires
-absorb-requires c κs = (search needs, search needs, c .before .before .before .before .before .before .before .before .before .before .before .before .before .pre .2, search needs, search needs)
+absorb-requires c κs =
+    (search needs, search needs, c .before .before .before .before .before .before .before .before .before .before .before .before .before .pre .2, c .before .before .before .before .before .before .before .before .before .before .before .before .before .pre .3, search needs, search needs)
 
 same-length : tie.Need-same-length
 same-length c = search needs

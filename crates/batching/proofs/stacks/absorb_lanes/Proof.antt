@@ -39,7 +39,7 @@ absorb-lane-requires c κs =
     let a = c .before .before .before .before .before .before .before .args in
     let l = c .before .before .loop in
     let within : l .e * 8 + 8 ≤ a .tau * 8 = omega arith in
-    (omega (arith, l .inv .1), omega (arith, mul-le-mul-right (a .groups) within), (λ k h. c .before .before .before .before .before .before .before .pre .2 k (omega (arith, h, mul-le-mul-right (a .groups) within))), c .before .before .before .before .before .before .before .pre .3, omega arith, c .before .before .before .before .before .before .before .pre .5, c .before .before .before .before .before .before .before .pre .6)
+    (omega (arith, l .inv .1), omega (arith, mul-le-mul-right (a .groups) within), c .before .before .before .before .before .before .before .pre .2, (λ k h. c .before .before .before .before .before .before .before .pre .3 k (omega (arith, h, mul-le-mul-right (a .groups) within))), c .before .before .before .before .before .before .before .pre .4, omega arith, c .before .before .before .before .before .before .before .pre .6, c .before .before .before .before .before .before .before .pre .7)
 
 add-e : tie.Need-add-e Inv-loop μ-loop
 add-e c = search needs

@@ -33,7 +33,7 @@ term width size m a χ table e g j z k = product (laneAt table (k * 4 + g) e) (b
 weighed : (S sums O χ : List ℕ) (m G tau : ℕ) → Tabled S sums (G * 16) → length S ≡ m * chunk → m ≤ G * 4 → ((k : ℕ) → byteAt χ k < 256)
     → ((r : ℕ) → r < tau * 8 → Chosen χ m G O r) → (q : ℕ) → q < tau → Weighed S (byteAt (blockAt χ m q)) m sums O G (q * 8)
 weighed S sums O χ m G tau tabled long most small chosen q h =
-    (tabled, long, most, (λ i l. row-lt χ m q 256 (lit< tt) small i), λ p g hp hg. chosen (q * 8 + p) (omega arith) g hg ∙ ap₂ (λ x y. (g * 16 + choice (byteAt (blockAt χ m x)) y g) * chunk) (digits-div q hp) (digits-mod q hp))
+    (tabled, long, most, (λ i l. row-lt χ m q 256 (lit< tt) small i), λ p g hp hg. chosen (q * 8 + p) (omega arith) g hg ∙ ap₂ (λ x y. (g * 16 + choice (byteAt (blockAt χ m x)) y g) * 5) (digits-div q hp) (digits-mod q hp))
 
 taken : (m : ℕ) (l : List ℕ) → length l ≡ 12800 → m ≤ 160 → length (take (m * 80) l) ≡ m * 80
 taken m l long most = simp length-take (omega arith)
@@ -117,9 +117,6 @@ load-requires c κs =
 slice-aggregate-fill-sums : tie.Need-slice-aggregate-fill-sums Inv-loop μ-loop
 slice-aggregate-fill-sums c = search needs
 
-mul-fill-sums : tie.Need-mul-fill-sums Inv-loop μ-loop
-mul-fill-sums c = omega (arith, c .before .before .before .before .before .before .before .before .before .before .pre .4, c .before .before .before .before .before .before .before .before .before .before .pre .3)
-
 mul-cells : tie.Need-mul-cells Inv-loop μ-loop
 mul-cells c = search needs
 
@@ -151,7 +148,7 @@ mul-absorb-lanes c = search needs
 absorb-lanes-requires : tie.Need-absorb-lanes-requires Inv-loop μ-loop
 absorb-lanes-requires c κs =
     let l = c .before .before .before .before .before .before .before .before .before .before .before .before .before .before .before .loop in
-    (omega (arith, c .before .before .before .before .add-first .kept .0, l .inv .1), c .before .before .before .before .before .before .before .before .before .before .before .before .before .before .before .before .before .before .before .before .pre .5, (λ k h. omega (arith, c .before .before .before .before .before .before .before .before .fill-sums .kept .0, l .inv .3, c .before .before .before .before .before .before .before .before .before .before .before .before .before .before .before .before .before .before .before .before .pre .6 k h)), c .before .before .before .before .before .before .before .before .before .before .before .before .before .before .before .before .before .before .before .before .pre .7, c .before .before .before .before .before .before .before .before .before .before .before .before .before .before .before .before .before .before .before .before .pre .8, c .before .before .before .before .before .before .before .before .before .before .before .before .before .before .loop-test .taken, c .before .before .before .before .before .before .before .before .before .before .before .before .before .before .before .before .before .before .before .before .pre .9)
+    (omega (arith, c .before .before .before .before .add-first .kept .0, l .inv .1), c .before .before .before .before .before .before .before .before .before .before .before .before .before .before .before .before .before .before .before .before .pre .5, omega (arith, c .before .before .before .before .before .before .before .before .before .before .before .before .before .before .before .before .before .before .before .before .pre .4), (λ k h. omega (arith, c .before .before .before .before .before .before .before .before .fill-sums .kept .0, l .inv .3, c .before .before .before .before .before .before .before .before .before .before .before .before .before .before .before .before .before .before .before .before .pre .6 k h)), c .before .before .before .before .before .before .before .before .before .before .before .before .before .before .before .before .before .before .before .before .pre .7, c .before .before .before .before .before .before .before .before .before .before .before .before .before .before .before .before .before .before .before .before .pre .8, c .before .before .before .before .before .before .before .before .before .before .before .before .before .before .loop-test .taken, c .before .before .before .before .before .before .before .before .before .before .before .before .before .before .before .before .before .before .before .before .pre .9)
 
 add-k : tie.Need-add-k Inv-loop μ-loop
 add-k c = search needs
@@ -212,7 +209,6 @@ collect-spec =
     mul-load-4
     load-requires
     slice-aggregate-fill-sums
-    mul-fill-sums
     mul-cells
     array-share-prefix-cells
     slice-aggregate-fill-sums-2

@@ -19,10 +19,10 @@ use Rattle.quadratic.proofs.batch.batch_forms.Tie as tie
 one : (e : ℕ) → e < 48 → byteAt (replicate 48 1) (0 * 48 + e) ≡ 1
 one e h = let first : 0 * 48 + e ≡ e = omega arith in ap (byteAt (replicate 48 1)) first ∙ getD-replicate 48 e 1 0 h
 
-offsets-fit : (tau m : ℕ) → tau ≤ lanes → m ≤ 160 → tau * 8 * ((m + 3) / 4) ≤ 15360
+offsets-fit : (tau m : ℕ) → tau ≤ lanes → m ≤ 160 → tau * 8 * ((m + 7) / 8 * 2) ≤ 15360
 offsets-fit tau m h k =
     let t≤ : tau * 8 ≤ 384 = omega arith in
-    let g≤ : (m + 3) / 4 ≤ 40 = omega arith in
+    let g≤ : (m + 7) / 8 * 2 ≤ 40 = omega arith in
     omega (arith, mul-le-mul t≤ g≤)
 
 add-groups : tie.Need-add-groups
