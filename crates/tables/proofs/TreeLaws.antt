@@ -34,13 +34,6 @@ times-lt j (suc (suc q)) h k = absurd (omega arith)
 pub full-fits : (leaves : List ℕ) (w count : ℕ) → length leaves ≡ count * w → TreeFits leaves w count count
 full-fits leaves w count long j h other = rw (place-below count j h) (omega (arith, long, row-end j count w h))
 
-pub full-byte : (leaves : List ℕ) (w count j b : ℕ) → j < count → b < w → leafByte leaves w count j b ≡ byteAt leaves (j * w + b)
-unfolding openedLeaf
-full-byte leaves w count j b h l =
-    ap (λ q. cond q 0 (byteAt (openedLeaf w count leaves j) b)) (eqb-other j count (λ e. omega arith))
-    ∙ ap (λ i. byteAt (blockAt leaves w i) b) (place-below count j h)
-    ∙ row-byte leaves w j b l
-
 pub opened-fits : (tree : List ℕ) (w δ : ℕ) → δ < 256 → length tree ≡ 255 * w → TreeFits tree w δ 256
 opened-fits tree w δ d long j h other = go (decLt j δ)
   where

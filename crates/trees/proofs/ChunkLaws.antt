@@ -21,7 +21,9 @@ use Rattle.protocol.proofs.TestLaws.{ltb-yes, ltb-no}
 use Rattle.strings.specs.Sums.{byteAt, bitOf, xorSum}
 use Rattle.strings.proofs.Rows.{row-end}
 use Rattle.strings.proofs.Meaning.{bitOf-zero}
+use Rattle.strings.proofs.SumLaws.{sum-put}
 use Rattle.trees.specs.Trees.{Summed}
+use Rattle.trees.specs.Partial.{heldPlane}
 
 -- ---- bits that change
 
@@ -36,10 +38,10 @@ next-bit x p =
     ap (λ k. x / 2 ^ k % 2) e ∙ ap (λ y. y % 2) (sym (shr-shr x 1 p))
 
 -- the bits in which j and j + 1 differ
-abbrev differing : ℕ → ℕ → ℕ
+abbrev pub differing : ℕ → ℕ → ℕ
 differing j p = bitOf (bitXor j (j + 1)) p
 
-first-differs : (j : ℕ) → differing j 0 ≡ 1
+pub first-differs : (j : ℕ) → differing j 0 ≡ 1
 first-differs j = low-bit (bitXor j (j + 1)) ∙ xor-mod j (j + 1) 1 ∙ two (j % 2) ((j + 1) % 2) (omega arith) (omega arith)
   where
     two : (a b : ℕ) → a < 2 → b ≡ 1 - a → bitXor a b ≡ 1
@@ -47,12 +49,12 @@ first-differs j = low-bit (bitXor j (j + 1)) ∙ xor-mod j (j + 1) 1 ∙ two (j 
     two (suc zero) b h e = ap (bitXor 1) e
     two (suc (suc a)) b h e = absurd (omega arith)
 
-even-rest : (j p : ℕ) → j % 2 ≡ 0 → differing j (suc p) ≡ 0
+pub even-rest : (j p : ℕ) → j % 2 ≡ 0 → differing j (suc p) ≡ 0
 even-rest j p even =
     let same : (j + 1) / 2 ≡ j / 2 = omega arith in
     next-bit (bitXor j (j + 1)) p ∙ ap (λ y. bitOf y p) (xor-shr j (j + 1) 1 ∙ ap (bitXor (j / 2)) same ∙ xor-self (j / 2)) ∙ bitOf-zero p
 
-odd-rest : (j p : ℕ) → j % 2 ≡ 1 → differing j (suc p) ≡ differing (j / 2) p
+pub odd-rest : (j p : ℕ) → j % 2 ≡ 1 → differing j (suc p) ≡ differing (j / 2) p
 odd-rest j p odd =
     let next : (j + 1) / 2 ≡ j / 2 + 1 = omega arith in
     next-bit (bitXor j (j + 1)) p ∙ ap (λ y. bitOf y p) (xor-shr j (j + 1) 1 ∙ ap (bitXor (j / 2)) next)
@@ -105,6 +107,12 @@ row-takes n j r p h k = go (decLt (trailingZeros n (j + 1)) p)
     go : Dec (trailingZeros n (j + 1) < p) → differing j p ≡ cond (ltb (r - trailingZeros n (j + 1)) (r + 1 - p)) 1 0
     go (yes lt) = bit-stays n j p (omega arith) lt ∙ sym (ap (λ b. cond b 1 0) (ltb-no (r - trailingZeros n (j + 1)) (r + 1 - p) (omega arith)))
     go (no ge) = bit-changes n j p (omega arith) (omega arith) ∙ sym (ap (λ b. cond b 1 0) (ltb-yes (r - trailingZeros n (j + 1)) (r + 1 - p) (omega arith)))
+
+-- what the held rows add up to in plane p, after x was added to row k; q says whether the plane takes that row
+pub held-put : (held held′ : List ℕ) (r k p b x q : ℕ) → q ≡ cond (ltb k (r + 1 - p)) 1 0 → byteAt held′ (k * 16 + b) ≡ bitXor (byteAt held (k * 16 + b)) x
+    → ((i : ℕ) → (i ≡ k → ⊥) → byteAt held′ (i * 16 + b) ≡ byteAt held (i * 16 + b)) → heldPlane held′ r p b ≡ bitXor (heldPlane held r p b) (q * x)
+held-put held held′ r k p b x q takes here others =
+    sum-put (r + 1 - p) k x (λ i. byteAt held (i * 16 + b)) (λ i. byteAt held′ (i * 16 + b)) here others ∙ ap (λ y. bitXor (heldPlane held r p b) (y * x)) (sym takes)
 
 -- ---- a part of a string, changed byte by byte
 

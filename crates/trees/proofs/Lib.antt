@@ -1,3 +1,4 @@
 pub mod PlaneLaws
 pub mod PartialLaws
 pub mod ChunkLaws
+pub mod FourLaws

@@ -1,6 +1,4 @@
 -- Partial sums: after k leaves, plane p holds its sum, plus the sum of all k leaves where bit p of k is 1. The leaves are any rows of bytes.
---   Running f r w u planes j == u is the sum of the first j leaves, and the r planes are as said, where f i b is byte b of leaf i, u b of u,
---     and planes p b of plane p, for each b below w
 -- Assumes nothing.
 use Prim.Native.Nat.{ℕ, zero, suc, _+_, _*_, _<_}
 use mathlib.Core.Path.{_≡_, refl, sym, ap, ap₂, _∙_}
@@ -11,6 +9,7 @@ use Rattle.strings.specs.Sums.{bitOf, xorSum}
 use Rattle.strings.proofs.SumLaws.{sum-more}
 use Rattle.strings.proofs.Meaning.{bitOf-lt, bitOf-xor, bitOf-zero}
 use Rattle.strings.proofs.XorLaws.{xor-assoc}
+use Rattle.trees.specs.Partial.{Running}
 
 left-comm : (a b c : ℕ) → bitXor a (bitXor b c) ≡ bitXor b (bitXor a c)
 left-comm a b c = sym (xor-assoc a b c) ∙ ap (λ (x : ℕ). bitXor x c) (xor-comm a b) ∙ xor-assoc b a c
@@ -32,9 +31,6 @@ partial-step (suc zero) (suc zero) s l x h h′ =
 partial-step zero (suc (suc q′)) s l x h h′ = absurd (omega arith)
 partial-step (suc zero) (suc (suc q′)) s l x h h′ = absurd (omega arith)
 partial-step (suc (suc q)) q′ s l x h h′ = absurd (omega arith)
-
-abbrev pub Running : (ℕ → ℕ → ℕ) → ℕ → ℕ → (ℕ → ℕ) → (ℕ → ℕ → ℕ) → ℕ → Type 0
-Running f r w u planes j = ((b : ℕ) → b < w → u b ≡ xorSum j (λ i. f i b)) × ((p b : ℕ) → p < r → b < w → planes p b ≡ bitXor (bitOf j p * xorSum j (λ i. f i b)) (xorSum j (λ i. bitOf i p * f i b)))
 
 module _ (f : ℕ → ℕ → ℕ) (r w : ℕ) (u : ℕ → ℕ) (planes : ℕ → ℕ → ℕ) where
   pub running-none : ((b : ℕ) → b < w → u b ≡ 0) → ((p b : ℕ) → p < r → b < w → planes p b ≡ 0) → Running f r w u planes 0

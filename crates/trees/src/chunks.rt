@@ -12,15 +12,17 @@ ghost use lib.ListN.{length};
 ghost use Rattle.protocol.specs.Leaves.{place};
 ghost use Rattle.strings.specs.Sums.{byteAt, bitOf, xorSum};
 ghost use Rattle.trees.specs.Trees.{leafByte, TreeFits, Summed};
+ghost use Rattle.trees.specs.Partial.{Running, heldPlane};
+use super::fours::hold_fours;
 use super::opened_leaf;
 
 pub const CHUNK: usize = 16;
 
 // A row for each plane, and one.
-const HELD: usize = 9 * CHUNK;
+pub const HELD: usize = 9 * CHUNK;
 
 // sum[i] ^= s[from + i], for each i. The count is a constant, here and below, so that a caller's local array stays in registers.
-fn add_chunk(sum: &mut [u8; CHUNK], s: &[u8], from: usize)
+pub fn add_chunk(sum: &mut [u8; CHUNK], s: &[u8], from: usize)
     requires { ⌜ (from + 16 ≤ length (now s)) × (length (now sum) ≡ 16) ⌝ }
     ensures { λ _. ⌜ length (now (sum .exit)) ≡ 16 ⌝ }
     ensures { λ _. ⌜ ((i : ℕ) → i < 16 → byteAt (now (sum .exit)) i ≡ bitXor (byteAt (now (sum .entry)) i) (byteAt (now (s .entry)) (from + i))) ⌝ }
@@ -33,7 +35,7 @@ fn add_chunk(sum: &mut [u8; CHUNK], s: &[u8], from: usize)
 }
 
 // out[from + i] = sum[i], for each i.
-fn put_chunk(out: &mut [u8], from: usize, sum: &[u8; CHUNK])
+pub fn put_chunk(out: &mut [u8], from: usize, sum: &[u8; CHUNK])
     requires { ⌜ (from + 16 ≤ length (now out)) × (length (now sum) ≡ 16) ⌝ }
     ensures { λ _. ⌜ ((i : ℕ) → i < 16 → byteAt (now (out .exit)) (from + i) ≡ byteAt (now (sum .entry)) i) ⌝ }
     ensures { λ _. ⌜ ((i : ℕ) → (from ≤ i → i < from + 16 → ⊥) → byteAt (now (out .exit)) i ≡ byteAt (now (out .entry)) i) ⌝ }
@@ -46,7 +48,7 @@ fn put_chunk(out: &mut [u8], from: usize, sum: &[u8; CHUNK])
 }
 
 // Adds sum to a row of what is held.
-fn add_held(held: &mut [u8; HELD], row: usize, sum: &[u8; CHUNK])
+pub fn add_held(held: &mut [u8; HELD], row: usize, sum: &[u8; CHUNK])
     requires { ⌜ (row ≤ 8) × (length (now held) ≡ 144) × (length (now sum) ≡ 16) ⌝ }
     ensures { λ _. ⌜ length (now (held .exit)) ≡ 144 ⌝ }
     ensures { λ _. ⌜ ((b : ℕ) → b < 16 → byteAt (now (held .exit)) (row * 16 + b) ≡ bitXor (byteAt (now (held .entry)) (row * 16 + b)) (byteAt (now (sum .entry)) b)) ⌝ }
@@ -61,7 +63,7 @@ fn add_held(held: &mut [u8; HELD], row: usize, sum: &[u8; CHUNK])
 }
 
 // The row that takes the running sum of the leaves up to j: the bits that change from j to j + 1 are those up to the zeros at the end of j + 1.
-fn held_row(j: usize, r: usize) -> usize
+pub fn held_row(j: usize, r: usize) -> usize
     requires { ⌜ (j < 65536) × (r ≤ 8) ⌝ }
     ensures { λ k. ⌜ k ≤ r ⌝ }
     ensures { λ k. ⌜ ((p : ℕ) → p < r → bitOf (bitXor j (j + 1)) p ≡ cond (ltb k (r + 1 - p)) 1 0) ⌝ }
@@ -81,7 +83,38 @@ fn add_part(sum: &mut [u8; CHUNK], tree: &[u8], w: usize, delta: usize, j: usize
     }
 }
 
-// The running sum of all leaves, and what is held for the planes, from 0.
+// The running sum of the leaves from `from` on and below `to`, and what is held for the planes, one leaf after the other.
+fn hold_leaves(
+    sum: &mut [u8; CHUNK],
+    held: &mut [u8; HELD],
+    r: usize,
+    tree: &[u8],
+    delta: usize,
+    w: usize,
+    at: usize,
+    from: usize,
+    to: usize,
+)
+    requires { ⌜ (length (now sum) ≡ 16) × (length (now held) ≡ 144) × (r ≤ 8) × (from ≤ to) × (to < 65536) × (at + 16 ≤ w) × TreeFits (now tree) w delta to ⌝ }
+    ensures { λ _. ⌜ (length (now (sum .exit)) ≡ 16) × (length (now (held .exit)) ≡ 144) ⌝ }
+    ensures { λ _. ⌜ (Running (λ i b. leafByte (now (tree .entry)) w delta i (at + b)) r 16 (byteAt (now (sum .entry))) (heldPlane (now (held .entry)) r) from → Running (λ i b. leafByte (now (tree .entry)) w delta i (at + b)) r 16 (byteAt (now (sum .exit))) (heldPlane (now (held .exit)) r) to) ⌝ }
+{
+    let mut j = from;
+    while j < to {
+        add_part(sum, tree, w, delta, j, at);
+        add_held(held, held_row(j, r), sum);
+        j += 1;
+    }
+}
+
+fn least(a: usize, b: usize) -> usize
+    ensures { λ r. ⌜ (r ≤ a) × (r ≤ b) × (r < a → r ≡ b) ⌝ }
+{
+    if a < b { a } else { b }
+}
+
+// The running sum of all leaves, and what is held for the planes, from 0: by four before the leaf that is left out and after it, and one by one the
+// four that have it, and those at the end.
 fn hold(
     sum: &mut [u8; CHUNK],
     held: &mut [u8; HELD],
@@ -98,12 +131,13 @@ fn hold(
     ensures { λ _. ⌜ ((b : ℕ) → b < 16 → byteAt (now (sum .exit)) b ≡ xorSum count (λ j. leafByte (now (tree .entry)) w delta j (at + b))) ⌝ }
     ensures { λ _. ⌜ ((p b : ℕ) → p < r → b < 16 → xorSum (r + 1 - p) (λ k. byteAt (now (held .exit)) (k * 16 + b)) ≡ xorSum count (λ j. bitOf j p * leafByte (now (tree .entry)) w delta j (at + b))) ⌝ }
 {
-    let mut j = 0;
-    while j < count {
-        add_part(sum, tree, w, delta, j, at);
-        add_held(held, held_row(j, r), sum);
-        j += 1;
-    }
+    let cut = least(delta, count) / 4 * 4;
+    let next = least(cut + 4, count);
+    let end = next + (count - next) / 4 * 4;
+    hold_fours(sum, held, r, tree, w, at, 0, 0, cut);
+    hold_leaves(sum, held, r, tree, delta, w, at, cut, next);
+    hold_fours(sum, held, r, tree, w, at, 1, next, end);
+    hold_leaves(sum, held, r, tree, delta, w, at, end, count);
 }
 
 // Sixteen bytes of each plane, from `at` on: the sums of the first rows of what is held.

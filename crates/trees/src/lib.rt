@@ -1,5 +1,6 @@
 // The sums u and v of one tree of leaves, full or opened. Leaf delta is left out, and counts as 0; a full tree has delta at its count.
 mod chunks;
+mod fours;
 
 ghost use mathlib.Core.Path.{_≡_};
 ghost use Prim.Native.Nat.{ℕ, _+_, _*_, _<_, _≤_};

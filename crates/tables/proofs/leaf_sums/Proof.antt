@@ -7,7 +7,8 @@ use native.Mathlib.Omega.{arith}
 use denote.Ref.{now}
 use Rattle.strings.specs.Sums.{bitOf}
 use Rattle.strings.proofs.SumLaws.{sum-same}
-use Rattle.tables.proofs.TreeLaws.{full-fits, full-byte}
+use Rattle.trees.proofs.FourLaws.{full-byte}
+use Rattle.tables.proofs.TreeLaws.{full-fits}
 use Rattle.tables.proofs.leaf_sums.Statement.{statement}
 use Rattle.tables.proofs.leaf_sums.Tie as tie
 

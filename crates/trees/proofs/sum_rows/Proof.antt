@@ -9,7 +9,8 @@ use native.Mathlib.Omega.{arith}
 use Rattle.strings.specs.Sums.{byteAt}
 use Rattle.strings.proofs.Rows.{row-end}
 use Rattle.trees.specs.Trees.{leafByte}
-use Rattle.trees.proofs.PartialLaws.{Running, running-none, running-more, running-all}
+use Rattle.trees.specs.Partial.{Running}
+use Rattle.trees.proofs.PartialLaws.{running-none, running-more, running-all}
 use Rattle.trees.proofs.sum_rows.Statement.{statement}
 use Rattle.trees.proofs.sum_rows.Tie as tie
 

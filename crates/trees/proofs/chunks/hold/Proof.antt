@@ -1,97 +1,119 @@
--- `trees::chunks::hold` meets its contract. The invariant is that of the sums row by row (`Running`), of the planes that the held rows add up to.
+-- `trees::chunks::hold` meets its contract: `Running` holds of no leaf, and then of those below each cut, up to all.
 -- Assumes nothing.
-use borrow.Author.Needs.{needs}
-use Prim.Native.Nat.{ℕ, _+_, _*_, _-_, _≤_}
-use mathlib.Core.Path.{_≡_, sym, ap, _∙_}
-use mathlib.Core.List.{List}
+use Prim.Native.Nat.{ℕ, _+_, _*_, _-_, _/_}
+use mathlib.Core.Path.{refl, _∙_}
 use native.Mathlib.Omega.{arith}
 use denote.Ref.{now}
-use lib.Bits.{bitXor}
-use lib.ListN.{length}
-use Rattle.strings.specs.Sums.{byteAt, xorSum}
-use Rattle.strings.proofs.SumLaws.{sum-same, sum-none, sum-put}
+use Rattle.strings.specs.Sums.{byteAt}
+use Rattle.strings.proofs.SumLaws.{sum-same, sum-none}
 use Rattle.trees.specs.Trees.{leafByte}
-use Rattle.trees.proofs.PartialLaws.{Running, running-none, running-more, running-all}
+use Rattle.trees.specs.Partial.{heldPlane}
+use Rattle.trees.proofs.PartialLaws.{running-none, running-all}
+use Rattle.trees.proofs.FourLaws.{below-byte, above-byte, before-fits, after-fits, under-least, cut-out}
+use borrow.Author.Needs.{needs}
 use Rattle.trees.proofs.chunks.hold.Statement.{statement}
 use Rattle.trees.proofs.chunks.hold.Tie as tie
 
--- byte b of plane p, from the rows that are held
-abbrev added : List ℕ → ℕ → ℕ → ℕ → ℕ
-added held r p b = xorSum (r + 1 - p) (λ k. byteAt held (k * 16 + b))
+least-requires : tie.Need-least-requires
+least-requires c κs = search needs
 
-abbrev Inv-loop : tie.InvT-loop
-Inv-loop sum₀ held₀ r tree count delta w at j₀ sum held j = (j ≤ count) × (length sum ≡ 16) × (length held ≡ 144) × Running (λ i b. leafByte tree w delta i (at + b)) r 16 (byteAt sum) (added held r) j
+mul-cut : tie.Need-mul-cut
+mul-cut c = search needs
 
-abbrev μ-loop : tie.MeasureT-loop
-μ-loop sum₀ held₀ r tree count delta w at j₀ sum held j = count - j
+add-least : tie.Need-add-least
+add-least c = search needs
 
-loop-holds : tie.Need-loop-holds Inv-loop μ-loop
-loop-holds c =
-    let start = c .before in
-    let a = start .args in (
-      search needs,
-      start .pre .0 .0,
-      start .pre .0 .1,
-      running-none (λ i b. leafByte (now (a .tree)) (a .w) (a .delta) i (a .at + b)) (a .r) 16 (byteAt (now (a .sum))) (added (now (a .held)) (a .r))
-          (start .pre .1 .0)
-          (λ p b hp hb. sum-same (a .r + 1 - p) _ (λ k. 0) (λ k h. start .pre .1 .1 (k * 16 + b) (omega arith)) ∙ sum-none (a .r + 1 - p)),
-    )
+least-requires-2 : tie.Need-least-requires-2
+least-requires-2 c κs = search needs
 
-add-part-requires : tie.Need-add-part-requires Inv-loop μ-loop
-add-part-requires c κs = let l = c .before .before .loop in (c .before .before .before .before .pre .0 .5 (l .j) (search needs), omega arith, l .inv .1)
+sub-end : tie.Need-sub-end
+sub-end c = search needs
 
-held-row-requires : tie.Need-held-row-requires Inv-loop μ-loop
-held-row-requires c κs = search needs
+mul-end : tie.Need-mul-end
+mul-end c = search needs
 
-add-held-requires : tie.Need-add-held-requires Inv-loop μ-loop
-add-held-requires c κs = let l = c .before .before .before .before .before .before .loop in (omega (arith, c .before .held-row .ensures .0), l .inv .2, c .before .before .before .add-part .ensures .0)
+add-end : tie.Need-add-end
+add-end c = search needs
 
-add-j : tie.Need-add-j Inv-loop μ-loop
-add-j c = search needs
-
-loop-less : tie.Need-loop-less Inv-loop μ-loop
-loop-less c = search needs
-
-loop-again : tie.Need-loop-again Inv-loop μ-loop
-loop-again c =
-    let a = c .before .before .before .before .before .before .before .before .before .args in
-    let l = c .before .before .before .before .before .before .before .loop in
-    let part = c .before .before .before .before .add-part in
-    let row = c .before .before .held-row in
-    let more = c .add-held in
-    let held : ℕ → ℕ → ℕ = λ b k. byteAt (l .held) (k * 16 + b) in
-    let held′ : ℕ → ℕ → ℕ = λ b k. byteAt (more .last .0) (k * 16 + b) in (
-      omega arith,
-      part .ensures .0,
-      more .ensures .0,
-      running-more (λ i b. leafByte (now (a .tree)) (a .w) (a .delta) i (a .at + b)) (a .r) 16 (byteAt (l .sum)) (added (l .held) (a .r)) (l .j) (byteAt (part .last .0)) (added (more .last .0) (a .r))
-          (l .inv .3) (part .ensures .1)
-          (λ p b hp hb.
-          sum-put (a .r + 1 - p) (row .result) (byteAt (part .last .0) b) (held b) (held′ b) (more .ensures .1 .0 b hb) (λ k other. more .ensures .1 .1 k b other hb)
-          ∙ ap (λ q. bitXor (added (l .held) (a .r) p b) (q * byteAt (part .last .0) b)) (sym (row .ensures .1 p hp))),
-    )
-
-returns : tie.Need-returns Inv-loop μ-loop
-returns c =
-    let start = c .before .before .before in
+hold-fours-requires : tie.Need-hold-fours-requires
+hold-fours-requires c κs =
+    let start = c .before .before .before .before .before in
     let a = start .args in
-    let l = c .before .loop in
-    let f : ℕ → ℕ → ℕ = λ i b. leafByte (now (a .tree)) (a .w) (a .delta) i (a .at + b) in
-    let end : l .j ≡ a .count = omega arith in
-    let run : Running f (a .r) 16 (byteAt (l .sum)) (added (l .held) (a .r)) (a .count) = rw end at (l .inv .3) in
-    ((l .inv .1, l .inv .2), (run .0, running-all f (a .r) 16 (byteAt (l .sum)) (added (l .held) (a .r)) (a .count) run (start .pre .1 .2)))
+    let m = c .before .before .before .least in (
+      (start .pre .0 .0, start .pre .0 .1),
+      (omega arith, omega arith, omega arith, omega arith, omega arith, λ lt. (refl, omega arith, before-fits (now (a .tree)) (a .w) (a .delta) (a .count) (start .pre .0 .5) (m .result / 4 * 4) (omega arith) (omega arith) lt)),
+    )
+
+hold-leaves-requires : tie.Need-hold-leaves-requires
+hold-leaves-requires c κs =
+    let start = c .before .before .before .before .before .before .before .before in
+    let m = c .before .before .before .before .before .before .least in
+    let next = c .before .before .before .before .before .least2 in
+    let fours = c .before .before .hold-fours in
+    (fours .ensures .0 .0, fours .ensures .0 .1, omega arith, under-least (m .result / 4 * 4) (next .result) (m .result / 4 * 4 + 4) (start .args .count) (omega arith) (omega arith) (next .ensures .0) (next .ensures .2), omega arith, omega arith, λ j lt other. start .pre .0 .5 j (omega arith) other)
+
+hold-fours-requires-2 : tie.Need-hold-fours-requires-2
+hold-fours-requires-2 c κs =
+    let start = c .before .before .before .before .before .before .before .before .before .before .before in
+    let a = start .args in
+    let m = c .before .before .before .before .before .before .before .before .before .least in
+    let next = c .before .before .before .before .before .before .before .before .least2 in
+    let leaves = c .before .before .hold-leaves in (
+      (leaves .ensures .0 .0, leaves .ensures .0 .1),
+      (
+        omega arith,
+        omega arith,
+        omega arith,
+        omega arith,
+        omega arith,
+        λ lt.
+            let cut = cut-out (a .delta) (a .count) (m .result) (next .result) (m .ensures .0) (m .ensures .2) (next .ensures .0) (next .ensures .2) (omega arith) in
+            (cut .0, omega arith, after-fits (now (a .tree)) (a .w) (a .delta) (a .count) (start .pre .0 .5) (next .result + (a .count - next .result) / 4 * 4) (omega arith) (omega arith)),
+      ),
+    )
+
+hold-leaves-requires-2 : tie.Need-hold-leaves-requires-2
+hold-leaves-requires-2 c κs =
+    let start = c .before .before .before .before .before .before .before .before .before .before .before .before .before .before in
+    let fours = c .before .before .hold-fours2 in
+    let within = c .before .before .before .before .before .before .before .before .before .before .before .least2 .ensures .1 in
+    (fours .ensures .0 .0, fours .ensures .0 .1, omega arith, omega arith, omega arith, omega arith, start .pre .0 .5)
+
+returns : tie.Need-returns
+returns c =
+    let start = c .before .before .before .before .before .before .before .before .before .before .before .before .before .before .before in
+    let a = start .args in
+    let tree = now (a .tree) in
+    let f : ℕ → ℕ → ℕ = λ i b. leafByte tree (a .w) (a .delta) i (a .at + b) in
+    let m = c .before .before .before .before .before .before .before .before .before .before .before .before .before .least in
+    let next = c .before .before .before .before .before .before .before .before .before .before .before .before .least2 in
+    let leaves = c .hold-leaves2 in
+    let run0 =
+    running-none f (a .r) 16 (byteAt (now (a .sum))) (heldPlane (now (a .held)) (a .r)) (start .pre .1 .0)
+    (λ p b hp hb. sum-same (a .r + 1 - p) _ (λ k. 0) (λ k h. start .pre .1 .1 (k * 16 + b) (omega arith)) ∙ sum-none (a .r + 1 - p)) in
+    let run1 = c .before .before .before .before .before .before .before .before .before .hold-fours .ensures .1 f (λ i b low high hb. below-byte tree (a .w) (a .delta) i (a .at + b) (omega arith) (omega arith)) run0 in
+    let run2 = c .before .before .before .before .before .before .hold-leaves .ensures .1 run1 in
+    let run3 =
+    c .before .before .before .hold-fours2 .ensures .1 f
+    (λ i b low high hb.
+    let cut = cut-out (a .delta) (a .count) (m .result) (next .result) (m .ensures .0) (m .ensures .2) (next .ensures .0) (next .ensures .2) (omega arith) in
+    above-byte tree (a .w) (a .delta) i (a .at + b) (omega arith) (omega arith)) run2 in
+    let run = leaves .ensures .1 run3 in
+    (leaves .ensures .0, (run .0, running-all f (a .r) 16 (byteAt (leaves .last .0)) (heldPlane (leaves .last .1 .0) (a .r)) (a .count) run (start .pre .1 .2)))
 
 pub hold-spec : {M : Type 1} → statement M
 hold-spec =
     tie.close
     (tie.spec
-    Inv-loop
-    μ-loop
-    loop-holds
-    add-part-requires
-    held-row-requires
-    add-held-requires
-    add-j
-    loop-less
-    loop-again
+    least-requires
+    mul-cut
+    add-least
+    least-requires-2
+    sub-end
+    mul-end
+    add-end
+    hold-fours-requires
+    hold-leaves-requires
+    hold-fours-requires-2
+    hold-leaves-requires-2
     returns)
