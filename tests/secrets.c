@@ -3,15 +3,20 @@
  *
  * mq_verify is not called: nothing that it takes is secret.
  *
- *   secrets mark            Every bit of the leaves but the spare ones is marked undefined, and every call that
- *                           takes leaves is made. Memcheck reports each branch and each address that depends on one.
- *   secrets mark-all        The witness too. A call must tell whether it solves, so this is for programs that mark
- *                           their answer as published (MARK_SECRETS).
+ *   secrets mark WORDS...   Makes the calls, at every shape, with strings marked undefined: memcheck reports each branch
+ *                           and each address that depends on one. The words:
+ *                               leaves    marks every bit of every leaf, but the spare ones, which answer 8 tells
+ *                               witness   marks every bit of the witness, but the spare ones, which answer 9 tells
+ *                               y         marks every bit of the key's section y, but the spare ones
+ *                               fails     once more, with an equation that fails at the witness
+ *                               test, commit, hash, batch, prove     makes this call alone
+ *                               branch    a control: a branch on a secret
+ *                               index     a control: an address by a secret
  *   secrets make 0|1 FILE   Writes one of two cases: they have the same key and challenges, and each has its own
  *                           witness, which solves, and its own leaves.
  *   secrets trace FILE      Makes all calls on that case. The traces of the two cases, all instructions and all
  *                           addresses, must be the same.
- *   secrets mark-leak, trace-leak FILE     Controls: a branch, and an address, on a secret. They must be seen.
+ *   secrets trace-leak FILE A control: an address by the witness. It must be seen.
  */
 #include <stdio.h>
 #include <valgrind/memcheck.h>
@@ -31,12 +36,17 @@ static uint8_t *section_b(const struct made *c)
     return c->key.at + MQ_HEADER_SIZE + 2 * MQ_COUNT_SIZE + c->sizes.m * c->sizes.n * row;
 }
 
+static uint8_t *section_y(const struct made *c)
+{
+    return section_b(c) + c->sizes.m * MQ_STRING_SIZE(c->sizes.n) + MQ_COUNT_SIZE;
+}
+
 /* Changes b and y so that both witnesses solve every equation. They differ at some coordinate: a bit of b there
  * changes the left side at one of them alone. */
 static void let_both_solve(const struct made *c, const uint8_t *one, const uint8_t *other)
 {
     const size_t n = c->sizes.n, m = c->sizes.m, row = MQ_STRING_SIZE(n);
-    uint8_t *a = c->key.at + MQ_HEADER_SIZE + MQ_COUNT_SIZE, *b = section_b(c), *y = b + m * row + MQ_COUNT_SIZE;
+    uint8_t *a = c->key.at + MQ_HEADER_SIZE + MQ_COUNT_SIZE, *b = section_b(c), *y = section_y(c);
     size_t at = 0;
     while (bit(one, at) == bit(other, at))
         at++;
@@ -82,20 +92,41 @@ static void mark(uint8_t *at, size_t count, size_t bits)
 
 /* ---- Calls -------------------------------------------------------------------------------- */
 
-/* Makes every call. Answers the words together: 0 where all accepted. */
+/* A word is told to the caller: whatever it was made from, it may be looked at from here on. */
+static uint32_t told(uint32_t word)
+{
+    (void)VALGRIND_MAKE_MEM_DEFINED(&word, sizeof word);
+    return word;
+}
+
+/* The call to be made alone, where one is named. */
+static const char *only;
+
+static int wanted(const char *call)
+{
+    return !only || strcmp(only, call) == 0;
+}
+
+/* Makes the calls. Answers the words together: 0 where all accepted. */
 static uint32_t call_all(const struct made *c, uint8_t *out)
 {
     const struct sizes s = c->sizes;
-    uint32_t words = mq_test(c->key.at, c->key.len, c->witness.at, c->witness.len);
-    words |= mq_commit(c->key.at, c->key.len, c->leaves.at, c->leaves.len, c->witness.at, c->witness.len, out,
-                       MQ_COMMIT_SIZE(s.n, s.m, s.tau, s.t));
-    words |= mq_hash(c->key.at, c->key.len, c->leaves.at, c->leaves.len, c->hash_matrix.at, c->hash_matrix.len, out,
-                     MQ_HASH_SIZE(s.n, s.m, s.tau, s.t));
-    words |= mq_batch(c->key.at, c->key.len, c->leaves.at, c->leaves.len, c->witness.at, c->witness.len,
-                      c->batching.at, c->batching.len, out, MQ_BATCH_SIZE(s.n, s.m, s.tau, s.t));
-    words |= mq_prove(c->key.at, c->key.len, c->leaves.at, c->leaves.len, c->witness.at, c->witness.len,
-                      c->hash_matrix.at, c->hash_matrix.len, c->batching.at, c->batching.len, out,
-                      MQ_PROOF_SIZE(s.n, s.m, s.tau, s.t));
+    uint32_t words = 0;
+    if (wanted("test"))
+        words |= told(mq_test(c->key.at, c->key.len, c->witness.at, c->witness.len));
+    if (wanted("commit"))
+        words |= told(mq_commit(c->key.at, c->key.len, c->leaves.at, c->leaves.len, c->witness.at, c->witness.len, out,
+                                MQ_COMMIT_SIZE(s.n, s.m, s.tau, s.t)));
+    if (wanted("hash"))
+        words |= told(mq_hash(c->key.at, c->key.len, c->leaves.at, c->leaves.len, c->hash_matrix.at, c->hash_matrix.len,
+                              out, MQ_HASH_SIZE(s.n, s.m, s.tau, s.t)));
+    if (wanted("batch"))
+        words |= told(mq_batch(c->key.at, c->key.len, c->leaves.at, c->leaves.len, c->witness.at, c->witness.len,
+                               c->batching.at, c->batching.len, out, MQ_BATCH_SIZE(s.n, s.m, s.tau, s.t)));
+    if (wanted("prove"))
+        words |= told(mq_prove(c->key.at, c->key.len, c->leaves.at, c->leaves.len, c->witness.at, c->witness.len,
+                               c->hash_matrix.at, c->hash_matrix.len, c->batching.at, c->batching.len, out,
+                               MQ_PROOF_SIZE(s.n, s.m, s.tau, s.t)));
     return words;
 }
 
@@ -103,36 +134,80 @@ static uint32_t call_all(const struct made *c, uint8_t *out)
 
 static volatile uint8_t table[256];
 
-static void leak_by_branch(const uint8_t *secret)
+__attribute__((noinline)) static void leak_by_branch(const uint8_t *secret)
 {
     if (secret[0] & 1)
         table[0]++;
 }
 
-static void leak_by_address(const uint8_t *secret)
+__attribute__((noinline)) static void leak_by_address(const uint8_t *secret)
 {
     (void)table[secret[0]];
 }
 
 /* ---- Modes -------------------------------------------------------------------------------- */
 
-static int mark_and_call(const char *mode)
+struct words {
+    int leaves, witness, y, fails, branch, index;
+};
+
+static struct words read_words(char **words)
 {
-    uint32_t answers = 0;
-    for (size_t i = 0; i < SHAPES; i++) {
-        const struct sizes s = shapes[i];
-        struct made c = make_variant(s, 0);
-        struct lent out = lend(MQ_PROOF_SIZE(s.n, s.m, s.tau, s.t));
-        mark(c.leaves.at, MQ_FIELD_SIZE * s.tau, s.n + MQ_FIELD_DEGREE + s.t);
-        if (strcmp(mode, "mark-all") == 0)
-            mark(c.witness.at, 1, s.n);
-        if (strcmp(mode, "mark-leak") == 0)
-            leak_by_branch(c.leaves.at);
-        answers |= call_all(&c, out.at);
-        free(out.at);
-        drop_case(&c);
+    struct words read = { 0, 0, 0, 0, 0, 0 };
+    const struct {
+        const char *word;
+        int *flag;
+    } flags[] = {
+        { "leaves", &read.leaves }, { "witness", &read.witness }, { "y", &read.y },
+        { "fails", &read.fails },   { "branch", &read.branch },   { "index", &read.index },
+    };
+    for (; *words; words++) {
+        int *flag = NULL;
+        for (size_t i = 0; i < sizeof flags / sizeof flags[0]; i++)
+            if (strcmp(*words, flags[i].word) == 0)
+                flag = flags[i].flag;
+        if (flag)
+            *flag = 1;
+        else
+            only = *words;
     }
-    return answers != 0;
+    return read;
+}
+
+/* Marks, and makes the calls. Answers whether the words were right. The last equation is the one that fails, where one
+ * is to fail: to name it, all of them are looked at. hash does not look at the witness. */
+static int mark_and_call(struct sizes s, struct words words, int fails)
+{
+    struct made c = make_variant(s, 0);
+    struct lent out = lend(MQ_PROOF_SIZE(s.n, s.m, s.tau, s.t));
+    const uint8_t *secret = words.witness ? c.witness.at : c.leaves.at;
+    const uint32_t refused = MQ_REFUSED_EQUATION_FAILS * 65536 + (uint32_t)s.m - 1;
+    uint32_t answer;
+    if (fails)
+        section_y(&c)[(s.m - 1) / 8] ^= (uint8_t)(1 << (s.m - 1) % 8);
+    if (words.leaves)
+        mark(c.leaves.at, MQ_FIELD_SIZE * s.tau, s.n + MQ_FIELD_DEGREE + s.t);
+    if (words.witness)
+        mark(c.witness.at, 1, s.n);
+    if (words.y)
+        mark(section_y(&c), 1, s.m);
+    if (words.branch)
+        leak_by_branch(secret);
+    if (words.index)
+        leak_by_address(secret);
+    answer = call_all(&c, out.at);
+    free(out.at);
+    drop_case(&c);
+    return answer == (fails && !(only && strcmp(only, "hash") == 0) ? refused : 0);
+}
+
+static int mark_all_shapes(struct words words)
+{
+    int right = 1;
+    for (size_t i = 0; i < SHAPES; i++)
+        for (int fails = 0; fails <= words.fails; fails++)
+            right &= mark_and_call(shapes[i], words, fails);
+    return !right;
 }
 
 /* Writes or reads the five strings of a case. */
@@ -178,8 +253,8 @@ static int read_and_call(int leak, FILE *file)
 
 int main(int count, char **words)
 {
-    if (count == 2 && strncmp(words[1], "mark", 4) == 0)
-        return mark_and_call(words[1]);
+    if (count > 2 && strcmp(words[1], "mark") == 0)
+        return mark_all_shapes(read_words(words + 2));
     FILE *file = count > 2 ? fopen(words[count - 1], count == 4 ? "wb" : "rb") : NULL;
     if (file && count == 4)
         return make_file(words[2][0] & 1u, file);
