@@ -1,0 +1,98 @@
+#!/bin/sh
+# Fuzzes the six calls of the built library, each against the Rust rendering (tests/fuzz). The library is that of
+# SOLFADRUS_LIB_DIR, or else the one that rt proves and builds.
+#
+#   fuzz.sh            the gate's run: always the same cases, a few seconds for each call
+#   fuzz.sh SECONDS    other cases, so many seconds for each call; what was learnt is kept for the next such run
+#
+# First faults are planted in the library's place, and each must be found. What differs is left in target/fuzz, as a
+# file crash-...: the target of that call, given its name, does it again.
+set -eu
+cd "$(dirname "$0")/.."
+. tests/need.sh
+need clang clang
+[ -f "$(clang -print-runtime-dir)/libclang_rt.fuzzer-x86_64.a" ] || need libFuzzer libclang-rt-14-dev
+lib=$(library)
+seconds=${1:-}
+work=target/fuzz
+calls="test commit hash batch prove verify"
+mkdir -p "$work"
+
+# The rendering with libFuzzer's counters in it.
+RUSTFLAGS="-Cpasses=sancov-module -Cllvm-args=-sanitizer-coverage-level=3 \
+-Cllvm-args=-sanitizer-coverage-inline-8bit-counters -Cllvm-args=-sanitizer-coverage-pc-table \
+-Cllvm-args=-sanitizer-coverage-trace-compares" \
+    cargo build --quiet --release --offline -j1 --manifest-path tests/fuzz/Cargo.toml --target-dir "$work/cargo"
+# case.h has functions that not every file uses.
+compile="clang -std=c11 -O1 -g -Wall -Wextra -Werror -Wno-unused-function -Iinclude -Itests
+    -fsanitize=fuzzer,address,undefined -fno-sanitize-recover=undefined"
+for part in target edits lend; do
+    $compile -c tests/fuzz/$part.c -o "$work/$part.o"
+done
+for call in $calls; do
+    $compile "tests/fuzz/$call.c" "$work/target.o" "$work/edits.o" "$work/lend.o" "$lib/libsolfadrus.a" \
+        "$work/cargo/release/librendering.a" -lpthread -ldl -lm -o "$work/$call"
+done
+
+# A file for each seed. The fuzzer puts what it finds into the first directory that it is given, so that is another.
+seeds=$work/seeds
+rm -rf "$seeds" "$work/new"
+mkdir "$seeds" "$work/new"
+grep -v '^#' tests/fuzz/seeds.txt | while read -r name bytes; do
+    for byte in $bytes; do
+        # shellcheck disable=SC2059 # the byte is the format
+        printf "\\$(printf %03o "0x$byte")"
+    done >"$seeds/$name"
+done
+
+# fuzz CALL WORDS...: Leaks are not looked for: only the rendering allocates. Faults are told without names, which take
+# minutes to find: run the file that is left, without these options, to have them.
+fuzz() {
+    target=$1
+    shift
+    ASAN_OPTIONS=detect_leaks=0:symbolize=0 "$work/$target" -max_len=256 -timeout=20 -artifact_prefix="$work/" "$@" \
+        >"$work/$target.log" 2>&1
+}
+
+# planted FAULT CALL PATTERN: the run must fail, and say so in these words.
+planted() {
+    if FUZZ_PLANT=$1 fuzz "$2" -seed=1 -runs=2000 -exact_artifact_path=/dev/null "$work/new" "$seeds" ||
+        ! grep -q "$3" "$work/$2.log"; then
+        echo "FAILED: a planted fault was not found: $1 in mq_$2"
+        exit 1
+    fi
+    found=$((found + 1))
+}
+
+found=0
+for call in $calls; do
+    planted word "$call" 'DIFFERS: .* another word'
+    planted read-after "$call" 'SEGV on unknown address'
+    planted read-before "$call" 'SEGV on unknown address'
+    planted write-input "$call" 'SEGV on unknown address'
+done
+for call in test commit batch prove; do
+    planted place "$call" 'DIFFERS: .* another word'
+done
+for call in commit hash batch prove; do
+    planted output "$call" 'DIFFERS: .* not the rendering'
+    planted refused-output "$call" 'DIFFERS: .* a refused call wrote'
+done
+echo "planted faults: $found, each found"
+
+for call in $calls; do
+    if [ -n "$seconds" ]; then
+        mkdir -p "$work/corpus/$call"
+        set -- -max_total_time="$seconds" "$work/corpus/$call" "$seeds"
+    else
+        rm -rf "$work/new" && mkdir "$work/new"
+        set -- -seed=1 -runs=2500 "$work/new" "$seeds"
+    fi
+    if ! fuzz "$call" "$@"; then
+        grep -E 'DIFFERS|FAILED|ERROR|SUMMARY|Test unit' "$work/$call.log" || tail -n 20 "$work/$call.log"
+        echo "FAILED: mq_$call; see $work/$call.log"
+        exit 1
+    fi
+    grep "^mq_$call: " "$work/$call.log"
+done
+echo "fuzz: no word and no byte differs from the rendering's, no fault"

@@ -1,0 +1,40 @@
+/* What a fuzz target says of its call, and the rendering's side of the six calls (src/lib.rs). */
+#ifndef CALL_H
+#define CALL_H
+
+#include <stdbool.h>
+
+#include "case.h"
+
+enum input { KEY, LEAVES, WITNESS, HASH_MATRIX, BATCHING, DELTA, OPENED, PROOF, INPUTS };
+
+/* Asks the library or the rendering. Inputs go by their names above, whether or not the call takes them. */
+typedef uint32_t asked(const struct lent *in, struct lent out);
+
+struct call {
+    const char *name;
+    enum input takes[6];
+    size_t count; /* how many it takes */
+    size_t (*writes)(struct sizes sizes);
+    int answers[16]; /* the numbers that it can answer, 0 for accepted; -1 ends them */
+    asked *library, *rendering;
+};
+
+/* Each target has one. */
+extern const struct call the_call;
+
+/* A string as two arguments of the library. */
+#define LENT(string) (string).at, (string).len
+
+uint32_t rendering_test(struct lent key, struct lent witness);
+uint32_t rendering_commit(struct lent key, struct lent leaves, struct lent witness, struct lent out);
+uint32_t rendering_hash(struct lent key, struct lent leaves, struct lent hash_matrix, struct lent out);
+uint32_t rendering_batch(struct lent key, struct lent leaves, struct lent witness, struct lent batching,
+                         struct lent out);
+uint32_t rendering_prove(struct lent key, struct lent leaves, struct lent witness, struct lent hash_matrix,
+                         struct lent batching, struct lent out);
+uint32_t rendering_verify(struct lent key, struct lent delta, struct lent hash_matrix, struct lent batching,
+                          struct lent opened, struct lent proof);
+bool rendering_fails(struct lent key, struct lent witness, size_t equation);
+
+#endif

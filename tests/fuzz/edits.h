@@ -1,0 +1,40 @@
+/*
+ * From the fuzzer's bytes to the inputs of a call.
+ *
+ * Random bytes would be refused for the key's form, nearly always. So the first byte names a case to start from, honest
+ * but for the last, in which all strings are empty. Edits follow, each of four bytes and the bytes that it takes:
+ *
+ *     what    low three bits: the edit; the others: the string (enum input, then the output)
+ *     where   two bytes, lowest first: a place in the string; FFFF is its last byte, FFFE the one before
+ *     value   what to put there, or how much
+ *
+ * So few bytes reach the last question, and a string can still be any bytes at all (EDIT_ALL).
+ */
+#ifndef EDITS_H
+#define EDITS_H
+
+#include "call.h"
+
+enum edit {
+    EDIT_SET,   /* the byte there becomes the value */
+    EDIT_FLIP,  /* one bit of the byte there, by the value */
+    EDIT_CUT,   /* the string ends there */
+    EDIT_GROW,  /* so many bytes of 0 more */
+    EDIT_PUT,   /* so many bytes, which follow, from there on */
+    EDIT_ALL,   /* the string becomes so many bytes, which follow */
+    EDIT_OTHER, /* the string becomes that of another name, by the value */
+    EDIT_OPEN   /* delta of a repetition, by the place, becomes the value, and leaves are opened there; inputs of
+                   mq_verify only */
+};
+
+/* Makes the cases to start from. Their proofs are the rendering's. */
+void make_cases(void);
+
+/* The inputs that the bytes mean, valid until the next call, and the output's length. */
+struct edited {
+    struct lent in[INPUTS];
+    size_t out_len;
+};
+struct edited edited(const uint8_t *bytes, size_t len);
+
+#endif

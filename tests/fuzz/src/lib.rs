@@ -1,0 +1,116 @@
+//! The Rust rendering for callers in C. Each function takes what the library's call of that name takes, and answers
+//! the rendering's word; nothing here is the library's.
+//!
+//! Safety, of all of them: each string is valid for its length, its pointer is not null, and the output overlaps no
+//! input. The caller is tests/fuzz/target.c.
+#![allow(clippy::missing_safety_doc)]
+
+use reference::word;
+
+/// A byte string as C lends it. The fields are those of `struct lent` in tests/case.h.
+#[repr(C)]
+pub struct Lent {
+    at: *mut u8,
+    len: usize,
+}
+
+impl Lent {
+    unsafe fn input<'a>(&self) -> &'a [u8] {
+        std::slice::from_raw_parts(self.at, self.len)
+    }
+
+    unsafe fn output<'a>(&self) -> &'a mut [u8] {
+        std::slice::from_raw_parts_mut(self.at, self.len)
+    }
+}
+
+#[no_mangle]
+pub unsafe extern "C" fn rendering_test(key: Lent, witness: Lent) -> u32 {
+    word(reference::test(key.input(), witness.input()))
+}
+
+#[no_mangle]
+pub unsafe extern "C" fn rendering_commit(
+    key: Lent,
+    leaves: Lent,
+    witness: Lent,
+    out: Lent,
+) -> u32 {
+    word(reference::commit(
+        key.input(),
+        leaves.input(),
+        witness.input(),
+        out.output(),
+    ))
+}
+
+#[no_mangle]
+pub unsafe extern "C" fn rendering_hash(key: Lent, leaves: Lent, h: Lent, out: Lent) -> u32 {
+    word(reference::hash(
+        key.input(),
+        leaves.input(),
+        h.input(),
+        out.output(),
+    ))
+}
+
+#[no_mangle]
+pub unsafe extern "C" fn rendering_batch(
+    key: Lent,
+    leaves: Lent,
+    witness: Lent,
+    chi: Lent,
+    out: Lent,
+) -> u32 {
+    word(reference::batch(
+        key.input(),
+        leaves.input(),
+        witness.input(),
+        chi.input(),
+        out.output(),
+    ))
+}
+
+#[no_mangle]
+pub unsafe extern "C" fn rendering_prove(
+    key: Lent,
+    leaves: Lent,
+    witness: Lent,
+    h: Lent,
+    chi: Lent,
+    out: Lent,
+) -> u32 {
+    word(reference::prove(
+        key.input(),
+        leaves.input(),
+        witness.input(),
+        h.input(),
+        chi.input(),
+        out.output(),
+    ))
+}
+
+#[no_mangle]
+pub unsafe extern "C" fn rendering_verify(
+    key: Lent,
+    delta: Lent,
+    h: Lent,
+    chi: Lent,
+    opened: Lent,
+    proof: Lent,
+) -> u32 {
+    word(reference::verify(
+        key.input(),
+        delta.input(),
+        h.input(),
+        chi.input(),
+        opened.input(),
+        proof.input(),
+    ))
+}
+
+/// Whether this is an equation of the key that fails at the witness: refusal 11 may name any such.
+#[no_mangle]
+pub unsafe extern "C" fn rendering_fails(key: Lent, witness: Lent, equation: usize) -> bool {
+    reference::failing(key.input(), witness.input()).contains(&equation)
+}

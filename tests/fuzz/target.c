@@ -1,0 +1,180 @@
+/*
+ * A fuzz target: puts what the fuzzer's bytes mean (edits.h) to one call of the library, twice (lend.h), and holds word
+ * and output against the Rust rendering's. Which call is said by the file that it is linked with.
+ *
+ * The rendering is compiled with counters, and so leads the fuzzer from question to question; and every word that is new
+ * counts as something new (words_met).
+ *
+ * FUZZ_PLANT, for the self-test of tests/fuzz.sh, names a fault that is done in the library's place, once.
+ */
+#include <stdio.h>
+#include <unistd.h>
+
+#include "edits.h"
+#include "lend.h"
+
+enum { NUMBERS = 16, PLACES = 256, WATCHED = 64 /* bytes beside the output, which must stay */ };
+
+/* libFuzzer looks at these as at its own counters. */
+__attribute__((section("__libfuzzer_extra_counters"))) static uint8_t words_met[NUMBERS * PLACES];
+
+static unsigned long cases_tried, with_number[NUMBERS], words[NUMBERS * PLACES];
+static struct arena inputs[INPUTS], output;
+static const char *planted;
+
+/* ---- What is planted ---------------------------------------------------------------------- */
+
+static int plant(const char *fault)
+{
+    if (!planted || strcmp(planted, fault) != 0)
+        return 0;
+    planted = NULL;
+    return 1;
+}
+
+/* The library, or what a faulty one would do. */
+static uint32_t ask_library(const struct lent *in, struct lent out, int upper)
+{
+    const struct lent key = in[KEY];
+    uint32_t word = the_call.library(in, out);
+    if (upper && plant("read-after"))
+        word += ((volatile uint8_t *)key.at)[key.len] & 1;
+    if (!upper && key.len && plant("read-before"))
+        word += ((volatile uint8_t *)key.at)[-1] & 1;
+    if (key.len && plant("write-input"))
+        ((volatile uint8_t *)key.at)[0] = key.at[0];
+    if (plant("word"))
+        word ^= 1u << 16;
+    if (word >> 16 == 11 && plant("place"))
+        word |= 0xFFFF; /* no key has such an equation */
+    if (word == 0 && out.len && plant("output"))
+        out.at[out.len - 1] ^= 0x10;
+    if (word != 0 && out.len && plant("refused-output"))
+        out.at[0] ^= 0x10;
+    return word;
+}
+
+/* ---- Judging ------------------------------------------------------------------------------ */
+
+static void differs(const char *what, uint32_t word, uint32_t expected)
+{
+    printf("DIFFERS: %s: %s; the library answers %u place %u, the rendering %u place %u\n", the_call.name, what,
+           (unsigned)MQ_NUMBER(word), (unsigned)MQ_PLACE(word), (unsigned)MQ_NUMBER(expected),
+           (unsigned)MQ_PLACE(expected));
+    fflush(stdout);
+    abort();
+}
+
+/* The word must be the rendering's, but that 11 may name any equation that fails. */
+static int right_word(const struct lent *in, uint32_t word, uint32_t expected)
+{
+    if (MQ_NUMBER(expected) != MQ_REFUSED_EQUATION_FAILS)
+        return word == expected;
+    return MQ_NUMBER(word) == MQ_REFUSED_EQUATION_FAILS && rendering_fails(in[KEY], in[WITNESS], MQ_PLACE(word));
+}
+
+static uint8_t filling(size_t i)
+{
+    return (uint8_t)(i * 151 + (i >> 8) + 89);
+}
+
+/* Fills an output of so many bytes, and those beside it. */
+static void fill(size_t len, int upper)
+{
+    const size_t place = place_in(len, upper), from = upper ? place - WATCHED : 0;
+    for (size_t i = from; i < from + len + WATCHED; i++)
+        output.written[i] = filling(i - place);
+}
+
+static void judge_output(size_t len, int upper, const uint8_t *expected, uint32_t word, uint32_t right)
+{
+    const size_t place = place_in(len, upper), from = upper ? place - WATCHED : 0;
+    for (size_t i = from; i < from + len + WATCHED; i++)
+        if (i < place || i >= place + len) {
+            if (output.written[i] != filling(i - place))
+                differs("bytes beside the output were written", word, right);
+        } else if (word != 0 && output.written[i] != filling(i - place))
+            differs("a refused call wrote", word, right);
+        else if (output.written[i] != expected[i - place])
+            differs("an output that is not the rendering's", word, right);
+}
+
+static void try_lent(const struct edited *now, int upper, const uint8_t *expected, uint32_t right)
+{
+    struct lent lent[INPUTS] = { { NULL, 0 } }, out = { NULL, now->out_len };
+    uint32_t word;
+    for (size_t i = 0; i < the_call.count; i++) {
+        const enum input name = the_call.takes[i];
+        lent[name] = lend_from(inputs[name], now->in[name], upper);
+    }
+    fill(out.len, upper);
+    if (out.len || upper)
+        out.at = output.lent + place_in(out.len, upper);
+    word = ask_library(lent, out, upper);
+    if (!right_word(now->in, word, right))
+        differs("another word", word, right);
+    judge_output(out.len, upper, expected, word, right);
+}
+
+static void count(uint32_t word)
+{
+    const size_t at = MQ_NUMBER(word) % NUMBERS * PLACES + MQ_PLACE(word) % PLACES;
+    cases_tried++;
+    with_number[MQ_NUMBER(word) % NUMBERS]++;
+    words[at]++;
+    words_met[at] = 1;
+}
+
+/* ---- What libFuzzer calls ----------------------------------------------------------------- */
+
+/* Cases, words, and how often each number came up. A number that the call can answer and did not is a failure: the
+ * fuzzer would have missed that question. (Not where it runs a few files again.) */
+static void tell(void)
+{
+    size_t different = 0;
+    int missed = 0;
+    for (size_t i = 0; i < NUMBERS * PLACES; i++)
+        different += words[i] > 0;
+    printf("%s: %lu cases, each lent in two ways, %zu different words; by number", the_call.name, cases_tried, different);
+    for (const int *number = the_call.answers; *number >= 0; number++) {
+        printf(" %d: %lu", *number, with_number[*number]);
+        missed |= with_number[*number] == 0;
+    }
+    printf("\n");
+    if (missed && cases_tried >= 100)
+        printf("FAILED: a number never came up\n");
+    fflush(stdout);
+    if (missed && cases_tried >= 100)
+        _exit(1);
+}
+
+int LLVMFuzzerInitialize(int *count, char ***words_given);
+int LLVMFuzzerTestOneInput(const uint8_t *bytes, size_t len);
+
+int LLVMFuzzerInitialize(int *count, char ***words_given)
+{
+    (void)count;
+    (void)words_given;
+    planted = getenv("FUZZ_PLANT");
+    make_cases();
+    for (size_t i = 0; i < INPUTS; i++)
+        inputs[i] = open_input();
+    output = open_output();
+    atexit(tell);
+    return 0;
+}
+
+int LLVMFuzzerTestOneInput(const uint8_t *bytes, size_t len)
+{
+    static uint8_t expected[ROOM];
+    const struct edited now = edited(bytes, len);
+    const struct lent out = { expected, now.out_len };
+    uint32_t right;
+    for (size_t i = 0; i < out.len; i++)
+        expected[i] = filling(i);
+    right = the_call.rendering(now.in, out);
+    try_lent(&now, 1, expected, right);
+    try_lent(&now, 0, expected, right);
+    count(right);
+    return 0;
+}
