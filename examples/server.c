@@ -1,21 +1,23 @@
 /*
- * A small server: verifies the proofs that it is sent, two at once.
+ * A small server: makes the calls that it is sent, two at once.
  *
  * It reads requests from standard input until that ends, and writes one answer for each to standard
- * output, in the order of the requests.
+ * output, in the order of the requests. Numbers are four bytes, lowest first.
  *
- *     request   the six inputs of mq_verify, in its order: key, delta, hash_matrix, batching, opened,
- *               proof, each after its count (four bytes, lowest first)
- *     answer    mq_verify's word (four bytes, lowest first): 0 accepted, else number * 65536 + place
+ *     request   one byte that names the call: 0 mq_test, 1 mq_commit, 2 mq_hash, 3 mq_batch, 4 mq_prove,
+ *               5 mq_verify; then its inputs, in the order of its parameters, each after its count; then,
+ *               where the call writes, the length of its output
+ *     answer    the call's word: 0 accepted, else number * 65536 + place; where an accepted call writes,
+ *               its output follows
  *
- * Two threads take turns at reading and at answering; between the two each verifies what it has read, so
- * that two proofs are verified at once. Whatever bytes are sent, every whole request is answered. Where
- * the input ends between two requests the server leaves with status 0; where it ends in the middle of
- * one, those before it are answered, and the status is 1.
+ * Two threads take turns at reading and at answering; between the two each makes the call that it has
+ * read, so that two are made at once. Whatever bytes are sent, every whole request is answered. Where
+ * the input ends between two requests the server leaves with status 0. Where it ends in the middle of
+ * one, or a byte names no call, those before it are answered, and the status is 1.
  *
  * Memory is fixed: each thread has room for one request of the largest sizes. Of an input that is
- * longer than any key allows, one byte more than the longest is kept, and the rest is read and dropped.
- * That changes no word: the questions on lengths get the same no.
+ * longer than any key allows, one byte more than the longest is kept, and the rest is read and dropped;
+ * an output's length is taken likewise. That changes no word: the questions on lengths get the same no.
  */
 #define _POSIX_C_SOURCE 200809L
 #include <pthread.h>
@@ -27,26 +29,40 @@
 
 /* ---- Requests ----------------------------------------------------------------------------- */
 
-enum { KEY, DELTA, HASH_MATRIX, BATCHING, OPENED, PROOF, INPUTS };
+enum input { KEY, LEAVES, WITNESS, HASH_MATRIX, BATCHING, DELTA, OPENED, PROOF, INPUTS };
+enum call { TEST, COMMIT, HASH, BATCH, PROVE, VERIFY, CALLS };
 
-/* The longest of each input, and one byte more. */
+/* What each call takes, in the order of its parameters, and whether it writes. */
+static const struct {
+    int count;
+    enum input takes[6];
+    int writes;
+} forms[CALLS] = {
+    { 2, { KEY, WITNESS }, 0 },
+    { 3, { KEY, LEAVES, WITNESS }, 1 },
+    { 3, { KEY, LEAVES, HASH_MATRIX }, 1 },
+    { 4, { KEY, LEAVES, WITNESS, BATCHING }, 1 },
+    { 5, { KEY, LEAVES, WITNESS, HASH_MATRIX, BATCHING }, 1 },
+    { 6, { KEY, DELTA, HASH_MATRIX, BATCHING, OPENED, PROOF }, 0 },
+};
+
+/* The longest of each input, and one byte more. The longest output is a proof. */
 #define ROOM(NAME) \
     (MQ_##NAME##_SIZE(MQ_MAX_VARIABLES, MQ_MAX_EQUATIONS, MQ_MAX_REPETITIONS, MQ_MAX_HASH_ROWS) + 1)
+static const size_t rooms[INPUTS] = { ROOM(KEY),      ROOM(LEAVES), ROOM(WITNESS), ROOM(HASH_MATRIX),
+                                      ROOM(BATCHING), ROOM(DELTA),  ROOM(OPENED),  ROOM(PROOF) };
 enum {
-    KEY_ROOM = ROOM(KEY),
-    DELTA_ROOM = ROOM(DELTA),
-    HASH_MATRIX_ROOM = ROOM(HASH_MATRIX),
-    BATCHING_ROOM = ROOM(BATCHING),
-    OPENED_ROOM = ROOM(OPENED),
-    PROOF_ROOM = ROOM(PROOF),
-    ALL_ROOM = KEY_ROOM + DELTA_ROOM + HASH_MATRIX_ROOM + BATCHING_ROOM + OPENED_ROOM + PROOF_ROOM
+    ALL_ROOM = ROOM(KEY) + ROOM(LEAVES) + ROOM(WITNESS) + ROOM(HASH_MATRIX) + ROOM(BATCHING) + ROOM(DELTA)
+        + ROOM(OPENED) + ROOM(PROOF)
 };
-static const size_t rooms[INPUTS] = { KEY_ROOM, DELTA_ROOM, HASH_MATRIX_ROOM, BATCHING_ROOM, OPENED_ROOM, PROOF_ROOM };
 
 struct request {
+    enum call call;
     uint8_t bytes[ALL_ROOM];
-    const uint8_t *at[INPUTS];
+    uint8_t *at[INPUTS];
     size_t len[INPUTS];
+    uint8_t out[ROOM(PROOF)];
+    size_t out_len;
 };
 
 /* Reads so many bytes, and keeps those for which there is room. Answers whether all were there. */
@@ -61,28 +77,78 @@ static int take(uint8_t *at, size_t room, size_t count)
     return 1;
 }
 
+/* Reads a number. Answers whether it was there. */
+static int take_number(size_t *number)
+{
+    uint8_t bytes[MQ_COUNT_SIZE];
+    if (fread(bytes, 1, sizeof bytes, stdin) != sizeof bytes)
+        return 0;
+    *number = bytes[0] | (size_t)bytes[1] << 8 | (size_t)bytes[2] << 16 | (size_t)bytes[3] << 24;
+    return 1;
+}
+
+static size_t least(size_t a, size_t b)
+{
+    return a < b ? a : b;
+}
+
 enum taken { WHOLE, NOTHING, CUT };
 
 static enum taken take_request(struct request *request)
 {
     uint8_t *at = request->bytes;
+    const int call = getc(stdin);
+    size_t number;
     int i;
-    for (i = 0; i < INPUTS; i++) {
-        uint8_t count[MQ_COUNT_SIZE];
-        const size_t got = fread(count, 1, sizeof count, stdin);
-        size_t len;
-        if (got == 0 && i == 0)
-            return NOTHING;
-        if (got != sizeof count)
+    if (call == EOF)
+        return NOTHING;
+    if (call >= CALLS)
+        return CUT;
+    request->call = (enum call)call;
+    for (i = 0; i < forms[call].count; i++) {
+        const enum input input = forms[call].takes[i];
+        if (!take_number(&number) || !take(at, rooms[input], number))
             return CUT;
-        len = count[0] | (size_t)count[1] << 8 | (size_t)count[2] << 16 | (size_t)count[3] << 24;
-        if (!take(at, rooms[i], len))
+        request->at[input] = at;
+        request->len[input] = least(number, rooms[input]);
+        at += rooms[input];
+    }
+    if (forms[call].writes) {
+        if (!take_number(&number))
             return CUT;
-        request->at[i] = at;
-        request->len[i] = len < rooms[i] ? len : rooms[i];
-        at += rooms[i];
+        request->out_len = least(number, sizeof request->out);
     }
     return WHOLE;
+}
+
+/* ---- Calls -------------------------------------------------------------------------------- */
+
+#define LENT(NAME) r->at[NAME], r->len[NAME]
+
+static uint32_t make_call(struct request *r)
+{
+    switch (r->call) {
+    case TEST: return mq_test(LENT(KEY), LENT(WITNESS));
+    case COMMIT: return mq_commit(LENT(KEY), LENT(LEAVES), LENT(WITNESS), r->out, r->out_len);
+    case HASH: return mq_hash(LENT(KEY), LENT(LEAVES), LENT(HASH_MATRIX), r->out, r->out_len);
+    case BATCH: return mq_batch(LENT(KEY), LENT(LEAVES), LENT(WITNESS), LENT(BATCHING), r->out, r->out_len);
+    case PROVE:
+        return mq_prove(LENT(KEY), LENT(LEAVES), LENT(WITNESS), LENT(HASH_MATRIX), LENT(BATCHING), r->out,
+                        r->out_len);
+    default:
+        return mq_verify(LENT(KEY), LENT(DELTA), LENT(HASH_MATRIX), LENT(BATCHING), LENT(OPENED), LENT(PROOF));
+    }
+}
+
+/* Leaves and witness do not stay. (What the call left on the stack does: see the header.) */
+static void wipe(struct request *r)
+{
+    int i;
+    for (i = 0; i < forms[r->call].count; i++) {
+        const enum input input = forms[r->call].takes[i];
+        if (input == LEAVES || input == WITNESS)
+            memset(r->at[input], 0, r->len[input]);
+    }
 }
 
 /* ---- Turns -------------------------------------------------------------------------------- */
@@ -119,16 +185,12 @@ static struct turns answering = { PTHREAD_MUTEX_INITIALIZER, PTHREAD_COND_INITIA
 static enum taken end = WHOLE; /* how the input ended; looked at when it is one's turn to read */
 static int failures;           /* of writing; likewise */
 
-static uint32_t verify(const struct request *r)
-{
-    return mq_verify(r->at[KEY], r->len[KEY], r->at[DELTA], r->len[DELTA], r->at[HASH_MATRIX], r->len[HASH_MATRIX],
-                     r->at[BATCHING], r->len[BATCHING], r->at[OPENED], r->len[OPENED], r->at[PROOF], r->len[PROOF]);
-}
-
-static void answer(uint32_t word)
+static void answer(const struct request *r, uint32_t word)
 {
     const uint8_t bytes[4] = { (uint8_t)word, (uint8_t)(word >> 8), (uint8_t)(word >> 16), (uint8_t)(word >> 24) };
-    if (fwrite(bytes, 1, sizeof bytes, stdout) != sizeof bytes || fflush(stdout) != 0)
+    const size_t written = word == MQ_ACCEPTED && forms[r->call].writes ? r->out_len : 0;
+    if (fwrite(bytes, 1, sizeof bytes, stdout) != sizeof bytes || fwrite(r->out, 1, written, stdout) != written
+        || fflush(stdout) != 0)
         failures = 1;
 }
 
@@ -147,9 +209,10 @@ static void *serve(void *room)
         pass_turn(&reading);
         if (taken != WHOLE)
             return NULL;
-        word = verify(request);
+        word = make_call(request);
+        wipe(request);
         take_turn(&answering, number);
-        answer(word);
+        answer(request, word);
         pass_turn(&answering);
     }
 }

@@ -2,12 +2,15 @@
 //!
 //! server PROGRAM [SEED] [--requests R]
 //!
-//! All expected words are the rendering's, made before the server is started; this program does not link the library.
-//! While it runs, the server's memory is looked at: once it has met a quarter of the requests, it must not grow.
+//! Requests are for all six calls. All expected words and outputs are the rendering's, made before the server is started;
+//! this program does not link the library. While it runs, the server's memory is looked at: once it has met a quarter of
+//! the requests, it must not grow.
 
+mod calls;
 mod pool;
 mod process;
 
+use calls::CALLS;
 use pool::{pool, Request};
 use process::{Memory, Server};
 use reference::cases::Random;
@@ -28,7 +31,7 @@ fn arguments() -> Option<Arguments> {
             .duration_since(UNIX_EPOCH)
             .ok()?
             .as_micros() as u64,
-        requests: 60_000,
+        requests: 100_000,
     };
     while let Some(word) = words.next() {
         match word.as_str() {
@@ -65,28 +68,35 @@ fn run(arguments: &Arguments) -> Result<(), String> {
     let start = Instant::now();
     let memory = whole_requests(&arguments.program, &pool, &order)?;
     let taken = start.elapsed();
-    cut_requests(&arguments.program, &pool, &mut random)?;
+    unread_requests(&arguments.program, &pool, &mut random)?;
+    for (number, call) in CALLS.iter().enumerate() {
+        let of_call = order.iter().filter(|index| pool[**index].call == number);
+        print!("{}: {}  ", call.name, of_call.count());
+    }
+    println!();
     println!(
-        "server: {} requests of {} kinds, every word the rendering's, in {:.1} s; memory {memory}",
+        "server: {} calls by two threads, from {} requests, every word and every output the rendering's, in {:.1} s",
         order.len(),
         pool.len(),
         taken.as_secs_f64()
     );
+    println!("memory: {memory}");
     Ok(())
 }
 
-/// How many requests of the pool get each number.
+/// How many requests of the pool get each number, for each call.
 fn table(pool: &[Request]) {
-    for number in 0..16 {
-        let count = pool
-            .iter()
-            .filter(|request| request.word >> 16 == number)
-            .count();
-        if count > 0 {
-            print!("{number}: {count}  ");
-        }
-    }
+    print!("{:8}", "number");
+    (0..16).for_each(|number| print!("{number:>5}"));
     println!();
+    for (call, named) in CALLS.iter().enumerate() {
+        print!("{:8}", named.name);
+        for number in 0..16 {
+            let is = |request: &&Request| request.call == call && request.word >> 16 == number;
+            print!("{:>5}", pool.iter().filter(is).count());
+        }
+        println!();
+    }
 }
 
 /// Sends the requests, one after another without waiting, and compares the answers. Gives the memory.
@@ -110,64 +120,96 @@ fn whole_requests(program: &str, pool: &[Request], order: &[usize]) -> Result<St
         drop(sender.join());
         compared
     })?;
-    if server.answer().is_some() {
+    if server.word().is_some() {
         return Err("an answer too many".to_string());
     }
-    if memory.threads != 3 {
-        return Err(format!("{} threads, not two and the first", memory.threads));
+    let [start, quarter, end] = memory;
+    if end.threads != 3 {
+        return Err(format!("{} threads, not two and the first", end.threads));
     }
     match server.status()? {
-        0 => Ok(format!("{} kB throughout", memory.own)),
+        0 => Ok(format!(
+            "resident set {} kB after the first answer, {} kB after a quarter, {} kB at the end; \
+             of these its own {}, {} and {} kB",
+            start.resident, quarter.resident, end.resident, start.own, quarter.own, end.own
+        )),
         status => Err(format!("the server left with {status}")),
     }
 }
 
-/// Compares the answers, and looks at the memory from the first quarter on.
-fn answers(server: &mut Server, pool: &[Request], order: &[usize]) -> Result<Memory, String> {
-    let mut memory = None;
+/// Compares the answers, and looks at the memory: after the first answer, after a quarter of them, and then often, to
+/// the end.
+fn answers(server: &mut Server, pool: &[Request], order: &[usize]) -> Result<[Memory; 3], String> {
+    let mut memory = Vec::new();
     for (number, index) in order.iter().enumerate() {
-        let word = server.answer().ok_or(format!("no answer to {number}"))?;
         let request = &pool[*index];
-        if word != request.word {
-            return Err(format!(
-                "request {number} ({}): {} place {}, the rendering answers {} place {}",
-                request.what,
-                word >> 16,
-                word & 0xFFFF,
-                request.word >> 16,
-                request.word & 0xFFFF
-            ));
-        }
-        if number >= order.len() / 4 && number % 128 == 0 {
-            let now = server.memory()?;
-            let first = *memory.get_or_insert(now);
-            if now.own > first.own {
+        compare(server, request)
+            .map_err(|what| format!("request {number} ({}): {what}", request.what))?;
+        let quarter = order.len() / 4;
+        if number == 0
+            || number >= quarter && (number - quarter) % 128 == 0
+            || number + 1 == order.len()
+        {
+            memory.push(server.memory()?);
+            let now = memory[memory.len() - 1];
+            if memory.len() > 2 && now.own > memory[1].own {
                 return Err(format!(
-                    "after {number} requests memory was {first:?}, and is {now:?}"
+                    "after {number} requests memory is {now:?}, and was {:?}",
+                    memory[1]
                 ));
             }
         }
     }
-    memory.ok_or("too few requests to see the memory".to_string())
+    match memory[..] {
+        [start, quarter, .., end] => Ok([start, quarter, end]),
+        _ => Err("too few requests to see the memory".to_string()),
+    }
 }
 
-/// A request that is cut anywhere, after a whole one: the whole one is answered, and the server leaves with 1.
-fn cut_requests(program: &str, pool: &[Request], random: &mut Random) -> Result<(), String> {
-    for _ in 0..20 {
+/// Reads an answer, and compares it with the request's.
+fn compare(server: &mut Server, request: &Request) -> Result<(), String> {
+    let word = server.word().ok_or("no answer")?;
+    if !request.is_answer(word) {
+        return Err(format!(
+            "{} place {}, the rendering answers {} place {}",
+            word >> 16,
+            word & 0xFFFF,
+            request.word >> 16,
+            request.word & 0xFFFF
+        ));
+    }
+    match server.output(request.output.len()) {
+        Some(output) if output == request.output => Ok(()),
+        Some(_) => Err("another output".to_string()),
+        None => Err("the output is cut".to_string()),
+    }
+}
+
+/// A request that is cut anywhere, or that names no call, after a whole one: the whole one is answered, and the server
+/// leaves with 1.
+fn unread_requests(program: &str, pool: &[Request], random: &mut Random) -> Result<(), String> {
+    for round in 0..20 {
         let whole = &pool[pool::LARGE + random.below(pool.len() - pool::LARGE)];
-        let cut = &pool[pool::LARGE + random.below(pool.len() - pool::LARGE)].bytes;
-        let len = 1 + random.below(cut.len() - 1);
+        let other = &pool[pool::LARGE + random.below(pool.len() - pool::LARGE)].bytes;
+        let mut unread = other[..1 + random.below(other.len() - 1)].to_vec();
+        if round < 2 {
+            unread[0] = [CALLS.len() as u8, 0xFF][round];
+        }
         let mut server = Server::start(program)?;
         let mut input = server.input();
-        if !process::send(&mut input, &whole.bytes) || !process::send(&mut input, &cut[..len]) {
+        if !process::send(&mut input, &whole.bytes) {
             return Err("the server does not read".to_string());
         }
+        // It may have left before it has taken all of these.
+        process::send(&mut input, &unread);
         drop(input);
-        if server.answer() != Some(whole.word) || server.answer().is_some() {
-            return Err(format!("cut after {len} bytes: not the one answer"));
+        let cut = |what: &str| format!("after {} bytes that are no request: {what}", unread.len());
+        compare(&mut server, whole).map_err(|what| cut(&what))?;
+        if server.word().is_some() {
+            return Err(cut("an answer too many"));
         }
         if server.status()? != 1 {
-            return Err(format!("cut after {len} bytes: status is not 1"));
+            return Err(cut("status is not 1"));
         }
     }
     Ok(())

@@ -1,23 +1,38 @@
-//! The requests that are sent, and the words that the rendering gives them.
+//! The requests that are sent, and the answers that the rendering gives them.
 
-use reference::cases::{case, Random};
-use reference::{verify, word};
+use crate::calls::{honest, Call, Inputs, Sizes, CALLS};
+use crate::calls::{CHI, DELTA, H, KEY, LEAVES, OPENED, PROOF, WITNESS};
+use reference::cases::Random;
+use reference::{failing, word};
 
-/// A request as it is sent, and its word.
+/// A request as it is sent, and its answer.
 pub struct Request {
     pub what: String,
+    /// The place of its call in `CALLS`.
+    pub call: usize,
     pub bytes: Vec<u8>,
     pub word: u32,
+    /// The equations that 11 may name.
+    failing: Vec<usize>,
+    /// What an accepted call writes.
+    pub output: Vec<u8>,
 }
 
-/// Key, Δ, H′, χ, opened leaves, proof.
-type Inputs = [Vec<u8>; 6];
+impl Request {
+    /// The rendering's word, but that 11 may name any equation that fails.
+    pub fn is_answer(&self, word: u32) -> bool {
+        if self.word >> 16 == 11 {
+            return word >> 16 == 11 && self.failing.contains(&(word as usize & 0xFFFF));
+        }
+        word == self.word
+    }
+}
 
 /// The first so many of the pool are large.
-pub const LARGE: usize = 8;
+pub const LARGE: usize = 14;
 
 /// n, m, τ, t of the small requests.
-const SHAPES: [(usize, usize, usize, usize); 8] = [
+const SHAPES: [Sizes; 8] = [
     (1, 1, 1, 1),
     (2, 1, 1, 1),
     (9, 3, 2, 5),
@@ -31,27 +46,30 @@ const SHAPES: [(usize, usize, usize, usize); 8] = [
 pub fn pool(random: &mut Random) -> Vec<Request> {
     let mut pool = large(random);
     assert_eq!(pool.len(), LARGE);
-    for shape in SHAPES {
-        for _ in 0..4 {
-            let inputs = honest(random, shape);
-            pool.push(request(format!("{shape:?} honest"), &inputs));
-            for _ in 0..20 {
-                let mut damaged = inputs.clone();
-                let mut what = format!("{shape:?}");
-                for _ in 0..1 + random.below(2) {
-                    what += &damage(&mut damaged, random);
+    for call in 0..CALLS.len() {
+        for shape in SHAPES {
+            for _ in 0..2 {
+                let inputs = honest(random, shape, &CALLS[call]);
+                pool.push(request(format!("{shape:?} honest"), call, &inputs));
+                for _ in 0..12 {
+                    let mut damaged = inputs.clone();
+                    let mut what = format!("{shape:?}");
+                    for _ in 0..1 + random.below(2) {
+                        what += &damage(&mut damaged, &CALLS[call], random);
+                    }
+                    pool.push(request(what, call, &damaged));
                 }
-                pool.push(request(what, &damaged));
             }
         }
-    }
-    pool.extend(one_of_each(random));
-    for _ in 0..40 {
-        let mut inputs = Inputs::default();
-        for input in &mut inputs {
-            *input = bytes(random, 300);
+        pool.extend(one_of_each(random, call));
+        for _ in 0..20 {
+            let mut inputs = Inputs::default();
+            for string in &mut inputs.strings {
+                *string = bytes(random, 300);
+            }
+            inputs.output = random.below(300);
+            pool.push(request("random bytes".to_string(), call, &inputs));
         }
-        pool.push(request("random bytes".to_string(), &inputs));
     }
     pool
 }
@@ -59,76 +77,100 @@ pub fn pool(random: &mut Random) -> Vec<Request> {
 /// Inputs of the size of real ones, some damaged, and some longer than any key allows.
 fn large(random: &mut Random) -> Vec<Request> {
     let mut pool = Vec::new();
-    let real = honest(random, (120, 40, 19, 112));
-    pool.push(request("large, honest".to_string(), &real));
-    for input in [0, 4, 5] {
-        let mut damaged = real.clone();
-        let at = damaged[input].len() - 1;
-        damaged[input][at] ^= 1;
-        pool.push(request(format!("large, input {input} changed"), &damaged));
+    let verify = CALLS.len() - 1;
+    for call in 0..CALLS.len() {
+        let real = honest(random, (120, 40, 19, 112), &CALLS[call]);
+        pool.push(request("large, honest".to_string(), call, &real));
+        for input in [KEY, OPENED, PROOF] {
+            if call == verify {
+                let mut damaged = real.clone();
+                *damaged.strings[input].last_mut().unwrap() ^= 1;
+                let what = format!("large, input {input} changed");
+                pool.push(request(what, call, &damaged));
+            }
+        }
     }
-    for (input, len) in [(0, 600_000), (1, 49), (4, 600_000), (5, 9_768)] {
-        let mut long = honest(random, (2, 1, 1, 1));
-        long[input].resize(len, 0);
-        pool.push(request(format!("input {input} of {len} bytes"), &long));
+    for (call, input, len) in [
+        (verify, KEY, 600_000),
+        (verify, DELTA, 49),
+        (verify, OPENED, 600_000),
+        (verify, PROOF, 9_768),
+        (verify - 1, LEAVES, 600_000),
+    ] {
+        let mut long = honest(random, (2, 1, 1, 1), &CALLS[call]);
+        long.strings[input].resize(len, 0);
+        pool.push(request(
+            format!("input {input} of {len} bytes"),
+            call,
+            &long,
+        ));
     }
     pool
 }
 
-/// An honest proof by the rendering, and the leaves opened at a random Δ.
-fn honest(random: &mut Random, shape: (usize, usize, usize, usize)) -> Inputs {
-    let (n, m, tau, t) = shape;
-    let made = case(random.number(), n, m, tau, t);
-    let mut proof = vec![0; made.proof_length()];
-    let answer = reference::prove(
-        &made.key,
-        &made.leaves,
-        &made.witness,
-        &made.h,
-        &made.chi,
-        &mut proof,
-    );
-    assert_eq!(word(answer), 0, "the rendering proves");
-    let opened = made.opened();
-    [made.key, made.delta, made.h, made.chi, opened, proof]
-}
-
-/// A request for each number that the verifier can answer. With n=9, m=3, τ=2, t=5 every section has spare bits.
-fn one_of_each(random: &mut Random) -> Vec<Request> {
+/// A request for each number that the call can answer. With n=9, m=3, τ=2, t=5 every section has spare bits.
+fn one_of_each(random: &mut Random, call: usize) -> Vec<Request> {
     type Change = fn(&mut Inputs);
-    let changes: [(u32, Change); 13] = [
+    fn spare(string: &mut [u8]) {
+        *string.last_mut().unwrap() |= 0x80;
+    }
+    let changes: [(u32, Change); 16] = [
         (0, |_| {}),
-        (1, |inputs| inputs[0].truncate(7)),
-        (2, |inputs| inputs[0][4] = 49),
-        (3, |inputs| inputs[0].push(0)),
-        (4, |inputs| *inputs[0].last_mut().unwrap() |= 0x80),
-        (5, |inputs| inputs[1].push(0)),
-        (6, |inputs| *inputs[2].last_mut().unwrap() |= 0x80),
-        (7, |inputs| inputs[4].push(0)),
-        (8, |inputs| *inputs[4].last_mut().unwrap() |= 0x80),
-        (12, |inputs| inputs[5].push(0)),
-        (13, |inputs| inputs[5][12] |= 0x80), // the last byte of d
+        (1, |inputs| inputs.strings[KEY].truncate(7)),
+        (2, |inputs| inputs.strings[KEY][4] = 49),
+        (3, |inputs| inputs.strings[KEY].push(0)),
+        (4, |inputs| spare(&mut inputs.strings[KEY])),
+        (5, |inputs| {
+            for name in [DELTA, H, CHI] {
+                inputs.strings[name].push(0);
+            }
+        }),
+        (6, |inputs| spare(&mut inputs.strings[H])),
+        (7, |inputs| {
+            for name in [LEAVES, OPENED] {
+                inputs.strings[name].push(0);
+            }
+        }),
+        (8, |inputs| {
+            for name in [LEAVES, OPENED] {
+                spare(&mut inputs.strings[name]);
+            }
+        }),
+        (9, |inputs| spare(&mut inputs.strings[WITNESS])),
+        (10, |inputs| inputs.output += 1),
+        (11, |inputs| *inputs.strings[KEY].last_mut().unwrap() ^= 1), // y
+        (12, |inputs| inputs.strings[PROOF].push(0)),
+        (13, |inputs| inputs.strings[PROOF][12] |= 0x80), // the last byte of d
         (14, |inputs| {
-            *inputs[5].iter_mut().nth_back(12).unwrap() ^= 1
-        }), // that of Ṽ
-        (15, |inputs| *inputs[5].iter_mut().nth_back(6).unwrap() ^= 1), // that of QS0
+            *inputs.strings[PROOF].iter_mut().nth_back(12).unwrap() ^= 1 // that of Ṽ
+        }),
+        (15, |inputs| {
+            *inputs.strings[PROOF].iter_mut().nth_back(6).unwrap() ^= 1 // that of QS0
+        }),
     ];
-    let inputs = honest(random, (9, 3, 2, 5));
+    let inputs = honest(random, (9, 3, 2, 5), &CALLS[call]);
     let mut requests = Vec::new();
     for (number, change) in changes {
-        let mut changed = inputs.clone();
-        change(&mut changed);
-        let made = request(format!("made for {number}"), &changed);
-        assert_eq!(made.word >> 16, number, "{}", made.what);
-        requests.push(made);
+        if CALLS[call].answers.contains(&number) {
+            let mut changed = inputs.clone();
+            change(&mut changed);
+            let made = request(format!("made for {number}"), call, &changed);
+            assert_eq!(made.word >> 16, number, "{}", made.what);
+            requests.push(made);
+        }
     }
     requests
 }
 
-/// Damages one input, the proof more often than others; says how.
-fn damage(inputs: &mut Inputs, random: &mut Random) -> String {
-    let which = [0, 0, 1, 2, 3, 4, 5, 5, 5, 5][random.below(10)];
-    let input = &mut inputs[which];
+/// Damages one input of the call, the last more often than others, or the output's length; says how.
+fn damage(inputs: &mut Inputs, call: &Call, random: &mut Random) -> String {
+    if call.has_output() && random.below(10) == 0 {
+        inputs.output = random.below(inputs.output + 20);
+        return ", output of another length".to_string();
+    }
+    let last = call.takes.len() - 1;
+    let which = call.takes[random.below(2 * call.takes.len()).min(last)];
+    let input = &mut inputs.strings[which];
     let how = random.below(8);
     match how {
         0 => input.truncate(random.below(input.len() + 1)),
@@ -153,16 +195,31 @@ fn bytes(random: &mut Random, limit: usize) -> Vec<u8> {
     (0..len).map(|_| random.number() as u8).collect()
 }
 
-fn request(what: String, inputs: &Inputs) -> Request {
-    let [key, delta, h, chi, opened, proof] = inputs;
-    let mut bytes = Vec::new();
-    for input in inputs {
-        bytes.extend_from_slice(&(input.len() as u32).to_le_bytes());
-        bytes.extend_from_slice(input);
+fn request(what: String, number: usize, inputs: &Inputs) -> Request {
+    let call = &CALLS[number];
+    let mut bytes = vec![number as u8];
+    for name in call.takes {
+        bytes.extend_from_slice(&(inputs.strings[*name].len() as u32).to_le_bytes());
+        bytes.extend_from_slice(&inputs.strings[*name]);
+    }
+    if call.has_output() {
+        bytes.extend_from_slice(&(inputs.output as u32).to_le_bytes());
+    }
+    let mut output = vec![0; inputs.output];
+    let word = word((call.rendering)(&inputs.strings, &mut output));
+    if word != 0 || !call.has_output() {
+        output.clear();
     }
     Request {
-        what,
+        what: format!("{}, {what}", call.name),
+        call: number,
         bytes,
-        word: word(verify(key, delta, h, chi, opened, proof)),
+        word,
+        failing: if word >> 16 == 11 {
+            failing(&inputs.strings[KEY], &inputs.strings[WITNESS])
+        } else {
+            Vec::new()
+        },
+        output,
     }
 }

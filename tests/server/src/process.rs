@@ -8,10 +8,12 @@ pub struct Server {
     answers: ChildStdout,
 }
 
-/// Memory of its own that the process has (heap, stacks and variables), in kB, and its threads.
+/// Memory of the process in kB, and its threads. `own` is what is resident of its heap, stacks and variables;
+/// `resident` has pages of files too, which the system brings in and takes away as it likes.
 #[derive(Clone, Copy, Debug, PartialEq, Eq)]
 pub struct Memory {
     pub own: u64,
+    pub resident: u64,
     pub threads: u64,
 }
 
@@ -31,17 +33,25 @@ impl Server {
         self.child.stdin.take().expect("the input is taken once")
     }
 
-    /// The next answer, where there is one.
-    pub fn answer(&mut self) -> Option<u32> {
+    /// The next word, where there is one.
+    pub fn word(&mut self) -> Option<u32> {
         let mut word = [0; 4];
         self.answers.read_exact(&mut word).ok()?;
         Some(u32::from_le_bytes(word))
+    }
+
+    /// So many bytes of output.
+    pub fn output(&mut self, len: usize) -> Option<Vec<u8>> {
+        let mut output = vec![0; len];
+        self.answers.read_exact(&mut output).ok()?;
+        Some(output)
     }
 
     /// Counted page by page: the sums that /proc/PID/statm has are not exact.
     pub fn memory(&self) -> Result<Memory, String> {
         Ok(Memory {
             own: self.number("smaps_rollup", "Anonymous:")?,
+            resident: self.number("smaps_rollup", "Rss:")?,
             threads: self.number("status", "Threads:")?,
         })
     }
