@@ -44,3 +44,6 @@ SOLFADRUS_LIB_DIR=$lib sh tests/server.sh
 
 echo "secrets in branches and addresses"
 sh tests/secrets.sh "$lib"
+
+echo "fuzzing"
+SOLFADRUS_LIB_DIR=$lib sh tests/fuzz.sh

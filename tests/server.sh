@@ -15,7 +15,8 @@ cargo build --quiet --release --offline -j1 --manifest-path tests/server/Cargo.t
 control() {
     $compile -DFAULT="$1" -c tests/server/faulty.c -o target/faulty.o
     $compile -Dmq_hash=faulty_hash examples/server.c target/faulty.o "$lib/libsolfadrus.a" -o target/faulty-server
-    if target/requests/release/server target/faulty-server --requests 40000 >target/faulty.log 2>&1 || ! grep "$2" target/faulty.log; then
+    if target/requests/release/server target/faulty-server --requests 40000 >target/faulty.log 2>&1 ||
+        ! grep "$2" target/faulty.log; then
         cat target/faulty.log
         echo "a server with a fault was not found out: $1"
         exit 1
