@@ -11,7 +11,9 @@ set -eu
 cd "$(dirname "$0")/.."
 . tests/need.sh
 need clang clang
-[ -f "$(clang -print-runtime-dir)/libclang_rt.fuzzer-x86_64.a" ] || need libFuzzer libclang-rt-14-dev
+# libFuzzer is no program, so that it is asked for by its file.
+ls "$(clang -print-runtime-dir)"/libclang_rt.fuzzer*.a >/dev/null 2>&1 ||
+    need libFuzzer "libclang-rt-$(clang -dumpversion | cut -d. -f1)-dev"
 lib=$(library)
 seconds=${1:-}
 work=target/fuzz
@@ -77,6 +79,8 @@ done
 for call in commit hash batch prove; do
     planted output "$call" 'DIFFERS: .* not the rendering'
     planted refused-output "$call" 'DIFFERS: .* a refused call wrote'
+    planted beside-output "$call" 'DIFFERS: .* beside the output'
+    planted after-output "$call" 'SEGV on unknown address'
 done
 echo "planted faults: $found, each found"
 

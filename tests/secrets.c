@@ -3,8 +3,8 @@
  *
  * mq_verify is not called: nothing that it takes is secret.
  *
- *   secrets mark WORDS...   Makes the calls, at every shape, with strings marked undefined: memcheck reports each branch
- *                           and each address that depends on one. The words:
+ *   secrets mark WORDS...   Makes the calls, at every shape, with strings marked undefined: memcheck reports each
+ *                           branch and each address that depends on one. The words:
  *                               leaves    marks every bit of every leaf, but the spare ones, which answer 8 tells
  *                               witness   marks every bit of the witness, but the spare ones, which answer 9 tells
  *                               y         marks every bit of the key's section y, but the spare ones
@@ -107,6 +107,17 @@ static int wanted(const char *call)
     return !only || strcmp(only, call) == 0;
 }
 
+/* A word that is misspelt must not make a test of nothing. */
+static const char *call_named(const char *word)
+{
+    static const char *const calls[] = { "test", "commit", "hash", "batch", "prove" };
+    for (size_t i = 0; i < sizeof calls / sizeof calls[0]; i++)
+        if (strcmp(word, calls[i]) == 0)
+            return calls[i];
+    fprintf(stderr, "%s: no such word\n", word);
+    exit(2);
+}
+
 /* Makes the calls. Answers the words together: 0 where all accepted. */
 static uint32_t call_all(const struct made *c, uint8_t *out)
 {
@@ -169,7 +180,7 @@ static struct words read_words(char **words)
         if (flag)
             *flag = 1;
         else
-            only = *words;
+            only = call_named(*words);
     }
     return read;
 }

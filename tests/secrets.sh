@@ -12,11 +12,11 @@
 #    8   The spare bits of the leaves, by leaving them unmarked. Memcheck follows single bits: a branch on a byte that
 #        has others in it is still reported.
 #    9   The spare bits of the witness, likewise. Its length is no secret.
-#   11   Whether an equation fails, and which: the instructions that branch on it. They are not listed here, where a list
-#        would age with the compiler, but found on the same program: y is public, and in these calls it enters nothing
-#        but the errors of the equations (left side plus y_i), so that with y alone marked memcheck reports the branches
-#        on the errors and nothing else. With leaves and witness marked no other instruction may be reported. The calls
-#        are made with a witness that solves, and again with one at which the last equation fails.
+#   11   Whether an equation fails, and which: the instructions that branch on it. They are not listed here, where a
+#        list would age with the compiler, but found on the same program: y is public, and in these calls it enters
+#        nothing but the errors of the equations (left side plus y_i), so that with y alone marked memcheck reports the
+#        branches on the errors and nothing else. With leaves and witness marked no other instruction may be reported.
+#        The calls are made with a witness that solves, and again with one at which the last equation fails.
 #
 # Shapes, in secrets.c: n a multiple of 8 and not, repetitions to 48, n to 150.
 set -eu

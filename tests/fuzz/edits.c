@@ -2,10 +2,9 @@
 
 #include <stdio.h>
 
-/* Small, so that many are tried: sizes that are and are not multiples of 8, and each at its limit. The last is for
- * the case of empty strings. */
+/* Small, so that many are tried: sizes that are and are not multiples of 8, and each at its limit. */
 static const struct sizes shapes[] = {
-    { 9, 3, 2, 5 },   { 1, 1, 1, 1 },  { 2, 1, 1, 1 },   { 8, 8, 3, 8 },  { 17, 2, 1, 9 },  { 5, 9, 6, 3 },
+    { 9, 3, 2, 5 },   { 1, 1, 1, 1 },   { 2, 1, 1, 1 },   { 8, 8, 3, 8 },   { 17, 2, 1, 9 }, { 5, 9, 6, 3 },
     { 33, 2, 2, 40 }, { 3, 17, 17, 1 }, { 160, 1, 1, 1 }, { 1, 160, 1, 1 }, { 1, 1, 48, 1 }, { 1, 1, 1, 160 },
 };
 enum { CASES = sizeof shapes / sizeof shapes[0], LONGEST = 1 << 16 };

@@ -23,18 +23,18 @@ enum edit {
     EDIT_PUT,   /* so many bytes, which follow, from there on */
     EDIT_ALL,   /* the string becomes so many bytes, which follow */
     EDIT_OTHER, /* the string becomes that of another name, by the value */
-    EDIT_OPEN   /* delta of a repetition, by the place, becomes the value, and leaves are opened there; inputs of
-                   mq_verify only */
+    EDIT_OPEN   /* the challenge of a repetition, by the place, becomes the value, and the leaves are opened there */
 };
 
 /* Makes the cases to start from. Their proofs are the rendering's. */
 void make_cases(void);
 
-/* The inputs that the bytes mean, valid until the next call, and the output's length. */
 struct edited {
     struct lent in[INPUTS];
-    size_t out_len;
+    size_t out_len; /* the output's length */
 };
+
+/* What the bytes mean. The strings are valid until the next such call. */
 struct edited edited(const uint8_t *bytes, size_t len);
 
 #endif

@@ -2,8 +2,8 @@
  * A fuzz target: puts what the fuzzer's bytes mean (edits.h) to one call of the library, twice (lend.h), and holds word
  * and output against the Rust rendering's. Which call is said by the file that it is linked with.
  *
- * The rendering is compiled with counters, and so leads the fuzzer from question to question; and every word that is new
- * counts as something new (words_met).
+ * The rendering is compiled with the fuzzer's counters, and so leads it from question to question; a word that was not
+ * met before counts as something new too (words_met).
  *
  * FUZZ_PLANT, for the self-test of tests/fuzz.sh, names a fault that is done in the library's place, once.
  */
@@ -51,6 +51,10 @@ static uint32_t ask_library(const struct lent *in, struct lent out, int upper)
         out.at[out.len - 1] ^= 0x10;
     if (word != 0 && out.len && plant("refused-output"))
         out.at[0] ^= 0x10;
+    if (upper && out.len && plant("beside-output"))
+        out.at[-1] ^= 0x10;
+    if (upper && plant("after-output"))
+        ((volatile uint8_t *)out.at)[out.len] = 0;
     return word;
 }
 
@@ -135,7 +139,8 @@ static void tell(void)
     int missed = 0;
     for (size_t i = 0; i < NUMBERS * PLACES; i++)
         different += words[i] > 0;
-    printf("%s: %lu cases, each lent in two ways, %zu different words; by number", the_call.name, cases_tried, different);
+    printf("%s: %lu cases, each lent in two ways, %zu different words; by number", the_call.name, cases_tried,
+           different);
     for (const int *number = the_call.answers; *number >= 0; number++) {
         printf(" %d: %lu", *number, with_number[*number]);
         missed |= with_number[*number] == 0;
@@ -148,13 +153,13 @@ static void tell(void)
         _exit(1);
 }
 
-int LLVMFuzzerInitialize(int *count, char ***words_given);
+int LLVMFuzzerInitialize(int *argc, char ***argv);
 int LLVMFuzzerTestOneInput(const uint8_t *bytes, size_t len);
 
-int LLVMFuzzerInitialize(int *count, char ***words_given)
+int LLVMFuzzerInitialize(int *argc, char ***argv)
 {
-    (void)count;
-    (void)words_given;
+    (void)argc;
+    (void)argv;
     planted = getenv("FUZZ_PLANT");
     make_cases();
     for (size_t i = 0; i < INPUTS; i++)
