@@ -2,7 +2,7 @@
 # Fuzzes the six calls of the built library, each against the Rust rendering (tests/fuzz). The library is that of
 # SOLFADRUS_LIB_DIR, or else the one that rt proves and builds.
 #
-#   fuzz.sh            the gate's run: always the same cases, a few seconds for each call
+#   fuzz.sh            the gate's run: from the seeds alone, so many cases for each call
 #   fuzz.sh SECONDS    other cases, so many seconds for each call; what was learnt is kept for the next such run
 #
 # First faults are planted in the library's place, and each must be found. What differs is left in target/fuzz, as a
@@ -47,18 +47,17 @@ grep -v '^#' tests/fuzz/seeds.txt | while read -r name bytes; do
     done >"$seeds/$name"
 done
 
-# fuzz CALL WORDS...: Leaks are not looked for: only the rendering allocates. Faults are told without names, which take
-# minutes to find: run the file that is left, without these options, to have them.
+# fuzz CALL WORDS...: what it says goes into a file. Leaks are not looked for: only the rendering allocates.
 fuzz() {
     target=$1
     shift
-    ASAN_OPTIONS=detect_leaks=0:symbolize=0 "$work/$target" -max_len=256 -timeout=20 -artifact_prefix="$work/" "$@" \
+    ASAN_OPTIONS=detect_leaks=0 "$work/$target" -max_len=256 -timeout=20 -artifact_prefix="$work/" "$@" \
         >"$work/$target.log" 2>&1
 }
 
 # planted FAULT CALL PATTERN: the run must fail, and say so in these words.
 planted() {
-    if FUZZ_PLANT=$1 fuzz "$2" -seed=1 -runs=2000 -exact_artifact_path=/dev/null "$work/new" "$seeds" ||
+    if (export FUZZ_PLANT="$1" && fuzz "$2" -seed=1 -runs=2000 -exact_artifact_path=/dev/null "$work/new" "$seeds") ||
         ! grep -q "$3" "$work/$2.log"; then
         echo "FAILED: a planted fault was not found: $1 in mq_$2"
         exit 1
@@ -90,7 +89,7 @@ for call in $calls; do
         set -- -max_total_time="$seconds" "$work/corpus/$call" "$seeds"
     else
         rm -rf "$work/new" && mkdir "$work/new"
-        set -- -seed=1 -runs=2500 "$work/new" "$seeds"
+        set -- -seed=1 -runs=3000 "$work/new" "$seeds"
     fi
     if ! fuzz "$call" "$@"; then
         grep -E 'DIFFERS|FAILED|ERROR|SUMMARY|Test unit' "$work/$call.log" || tail -n 20 "$work/$call.log"
