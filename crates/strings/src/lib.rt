@@ -61,7 +61,7 @@ pub fn copy_into(dst: &mut [u8], src: &[u8])
     ensures { λ _. ⌜ now (dst .exit) ≡ now (src .entry) ⌝ }
 {
     let mut i = 0;
-    while i < dst.len() {
+    while i < src.len() {
         dst[i] = src[i];
         i += 1;
     }
