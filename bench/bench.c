@@ -234,6 +234,55 @@ static void print_all_times(struct times times[PROGRAMS][CALLS])
     printf("\n");
 }
 
+/* ---- Reading, and the history ------------------------------------------------------------- */
+
+/* All that the verifier is lent, read once, eight bytes at a time. */
+static double time_reading(const struct made *c)
+{
+    static volatile uint64_t sink;
+    const struct lent lent[] = { c->key, c->delta, c->hash_matrix, c->batching, c->opened, c->proof };
+    uint64_t sum[4] = { 0 };
+    const double start = now();
+    for (size_t i = 0; i < sizeof lent / sizeof *lent; i++)
+        for (size_t at = 0; at + 32 <= lent[i].len; at += 32) {
+            uint64_t word[4];
+            memcpy(word, lent[i].at + at, 32);
+            for (int k = 0; k < 4; k++)
+                sum[k] += word[k];
+        }
+    const double taken = now() - start;
+    sink = sum[0] + sum[1] + sum[2] + sum[3];
+    (void)sink;
+    return taken;
+}
+
+static void print_reading(const struct made *c, int repetitions, struct times times[PROGRAMS][CALLS])
+{
+    struct times t = { calloc((size_t)repetitions, sizeof(double)), 0 };
+    if (!t.taken)
+        abort();
+    time_reading(c);
+    while (t.count < repetitions)
+        t.taken[t.count++] = time_reading(c);
+    qsort(t.taken, (size_t)t.count, sizeof(double), by_size);
+    const double verify = median(&times[LIBRARY][VERIFY]), read = median(&t);
+    printf("verify takes %.1f times as long as reading what it is lent once (%.4f ms)\n", verify / read, read);
+    free(t.taken);
+}
+
+/* Date and commit, the shape, and for each call that takes a witness or a proof whole the median's ratio to C and the rendering's to it. */
+static void keep(FILE *history, const char *stamp, struct sizes s, struct times times[PROGRAMS][CALLS])
+{
+    const int calls[] = { TEST, PROVE, VERIFY };
+    for (int i = 0; i < 3; i++) {
+        double m[PROGRAMS];
+        for (int p = 0; p < PROGRAMS; p++)
+            m[p] = median(&times[p][calls[i]]);
+        fprintf(history, "%s\t%zu\t%zu\t%zu\t%zu\t%s\t%.2f\t%.0f\n", stamp, s.n, s.m, s.tau, s.t, call_names[calls[i]],
+                m[LIBRARY] / lesser(m[BASELINE_GCC], m[BASELINE_CLANG]), m[RENDERING] / m[LIBRARY]);
+    }
+}
+
 /* ---- Stack -------------------------------------------------------------------------------- */
 
 enum { STACK = 4 << 20 };
@@ -325,7 +374,7 @@ static void drop_times(struct times times[PROGRAMS][CALLS])
             free(times[p][call].taken);
 }
 
-static void bench(struct sizes sizes, int repetitions)
+static void bench(struct sizes sizes, int repetitions, FILE *history, const char *stamp)
 {
     struct made c = make_case(1, sizes);
     const size_t len = written(PROVE, sizes);
@@ -341,6 +390,8 @@ static void bench(struct sizes sizes, int repetitions)
     measure_rendering(&c, TEST, repetitions, times, out);
     sort_times(times);
     print_all_times(times);
+    print_reading(&c, repetitions, times);
+    keep(history, stamp, sizes, times);
     print_stack(&c, out);
     printf("\n");
     drop_times(times);
@@ -483,16 +534,25 @@ static void plot(const char *name, double taken[SHAPES][BY])
 
 int main(int count, char **words)
 {
-    const int repetitions = count > 2 ? atoi(words[2]) : 301;
+    const int repetitions = count > 4 ? atoi(words[4]) : 301;
     const struct sizes usual = { 150, 150, 19, 144 };
     const struct sizes largest = { MQ_MAX_VARIABLES, MQ_MAX_EQUATIONS, MQ_MAX_REPETITIONS, MQ_MAX_HASH_ROWS };
     double taken[SHAPES][BY];
-    if (count < 2 || repetitions < 1) {
-        printf("usage: bench PLOT.svg [REPETITIONS]\n");
+    if (count < 4 || repetitions < 1) {
+        printf("usage: bench PLOT.svg HISTORY.tsv STAMP [REPETITIONS]\n");
         return 2;
     }
-    bench(usual, repetitions);
-    bench(largest, repetitions);
+    FILE *history = fopen(words[2], "a");
+    if (!history) {
+        perror(words[2]);
+        return 1;
+    }
+    bench(usual, repetitions, history, words[3]);
+    bench(largest, repetitions, history, words[3]);
+    if (fclose(history)) {
+        perror(words[2]);
+        return 1;
+    }
     time_shapes(repetitions, taken);
     print_shapes(taken);
     plot(words[1], taken);

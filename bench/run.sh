@@ -1,7 +1,8 @@
 #!/bin/sh
 # Benchmark: builds the library (or takes that of SOLFADRUS_LIB_DIR), the C programs by gcc and by clang, and the
 # rendering; holds the C programs against the rendering; then times all in one run, and plots the verifier's times
-# to target/bench/verify.svg. A word is the number of repetitions. Nothing here passes or fails by a time.
+# to target/bench/verify.svg; the ratios, with date and commit, go to the end of bench/history.tsv. A word is the
+# number of repetitions. Nothing here passes or fails by a time.
 set -eu
 cd "$(dirname "$0")/.."
 . tests/need.sh
@@ -43,4 +44,6 @@ clang --version | head -n 1
 cargo --version
 grep -m 1 'model name' /proc/cpuinfo || true
 echo
-"$work/bench" "$work/verify.svg" "$@"
+stamp="$(date -u +%Y-%m-%d)	$(git describe --always --dirty 2>/dev/null || echo unknown)"
+"$work/bench" "$work/verify.svg" bench/history.tsv "$stamp" "$@"
+echo "ratios added to bench/history.tsv"

@@ -134,7 +134,9 @@
  *              not wipe it: where that matters, run them on a stack that you wipe.
  *
  * The mask coordinates n .. n+7 of a leaf serve every repetition in this version. With tau > 1 the
- * masks of QS1 cancel between two repetitions, so no claim is made that a proof hides the witness.
+ * masks of QS1 cancel between two repetitions, and a proof with its opened leaves gives 8 linear
+ * equations in the witness for each repetition after the first. Show none to anyone who must not
+ * learn the witness (SECURITY.md); a later version has a mask for each repetition.
  */
 
 #ifndef SOLFADRUS_H
