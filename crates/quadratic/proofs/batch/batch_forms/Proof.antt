@@ -28,6 +28,9 @@ offsets-fit tau m h k =
 add-groups : tie.Need-add-groups
 add-groups c = search needs
 
+mul-groups : tie.Need-mul-groups
+mul-groups c = search needs
+
 add-width : tie.Need-add-width
 add-width c = search needs
 
@@ -98,6 +101,7 @@ batch-forms-spec =
     tie.close
     (tie.spec
     add-groups
+    mul-groups
     add-width
     slice-aggregate-fill-offsets
     fill-offsets-requires
