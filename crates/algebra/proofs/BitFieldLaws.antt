@@ -15,6 +15,7 @@ use Rattle.algebra.proofs.BitsLaws.{add-assoc, add-comm, add-self, add-
 pub use Rattle.algebra.proofs.BitsLaws.{elements-once}
 use Rattle.algebra.proofs.LinearLaws.{on-basis, linear-ext, everywhere-at, mul-left, mul-right}
 use Rattle.algebra.proofs.ByteLaws.{elem-byte, byte-elem, byte-lt, byte-add, elem-xor, elem-zero, elem-one}
+use Rattle.algebra.proofs.TestLaws.{T-true}
 
 module _ (r : ℕ) (m : Bits r) where
   pub mul-comm : T (commutes r m) → (a b : Bits r) → mul r m a b ≡ mul r m b a
@@ -74,16 +75,12 @@ module _ (r : ℕ) (m : Bits r) where
 
 -- ---- the field
 
-true-of : (b : Bool) → T b → b ≡ true
-true-of true t = refl
-true-of false t = absurd t
-
 of-true : (b : Bool) → b ≡ true → T b
 of-true true e = tt
 of-true false e = absurd (false≢true e)
 
 pub eqb-refl : (r : ℕ) (x : Bits r) → same r x x ≡ true
-eqb-refl r x = true-of (same r x x) (same-refl r x)
+eqb-refl r x = T-true (same r x x) (same-refl r x)
 
 pub eqb-sound : (r : ℕ) (x y : Bits r) → same r x y ≡ true → x ≡ y
 eqb-sound r x y h = same-eq r x y (of-true (same r x y) h)

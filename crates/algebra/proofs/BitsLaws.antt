@@ -74,7 +74,7 @@ pub both : (a b : Bool) → T a → T b → T (a && b)
 both true b s t = t
 both false b s t = s
 
-bit-same : (a b : Bool) → T (not (plus a b)) → a ≡ b
+pub bit-same : (a b : Bool) → T (not (plus a b)) → a ≡ b
 bit-same true true t = refl
 bit-same true false t = absurd t
 bit-same false true t = absurd t

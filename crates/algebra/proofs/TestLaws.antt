@@ -1,11 +1,16 @@
--- A test that the checker computes at each number below n holds at each number below n.
+-- A test that passes is true; and one that the checker computes at each number below n holds at each number below n.
 --   everyBelow n p == p passes at 0, 1, .., n - 1
 -- Assumes nothing.
-use mathlib.Core.Bool.{Bool, true, _&&_}
+use mathlib.Core.Path.{_≡_, refl}
+use mathlib.Core.Bool.{Bool, true, false, _&&_}
 use Prim.Native.Nat.{ℕ, zero, suc, _<_}
 use native.Mathlib.Nat.{not-suc-le-zero, le-of-suc-le-suc}
 use lib.Dec.{T}
 use Rattle.algebra.proofs.BitsLaws.{both-left, both-right}
+
+pub T-true : (b : Bool) → T b → b ≡ true
+T-true true t = refl
+T-true false t = absurd t
 
 abbrev pub everyBelow : ℕ → (ℕ → Bool) → Bool
 everyBelow zero p = true

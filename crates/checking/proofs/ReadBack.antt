@@ -14,18 +14,12 @@ use Rattle.protocol.specs.Binary.{bits256}
 use Rattle.protocol.specs.Calls.{verifyAnswer}
 use Rattle.protocol.specs.Check.{answered, lengthsIn, checkOf}
 use Rattle.protocol.proofs.TestLaws.{leb-le}
-use Rattle.protocol.proofs.FrameLaws.{Short, count-back, frame-framed, frame-section, length-frame}
+use Rattle.protocol.proofs.FrameLaws.{Short, count-back, frame-skip, frame-framed, frame-section, length-frame}
 use Rattle.format.proofs.SectionLaws.{framed-length}
 use Rattle.checking.specs.ReadBack.{six, ReadBack, TooLong, LeftOver, CutShort}
 use Rattle.checking.proofs.OutcomeLaws.{too-long, not-framed, read-whole, same-answer}
 
 -- ---- the lengths that are read
-
-skip : (x : ℕ) (s t : List ℕ) → drop (4 + length s) (count4 x ++ (s ++ t)) ≡ t
-unfolding count4
-skip x s t =
-    let e : 4 + length s ≡ suc (suc (suc (suc (length s)))) = omega arith in
-    rw e (drop-at s t (length s) refl)
 
 lengths-read : (ss : List (List ℕ)) (over : List ℕ) → Short ss → lengthsIn (length ss) (frame ss ++ over) ≡ map length ss
 unfolding lengthsIn frame
@@ -34,7 +28,7 @@ lengths-read (s ∷ ss) over h =
     let f : List ℕ = count4 (length s) ++ (s ++ frame ss) ++ over in
     let g : f ≡ count4 (length s) ++ (s ++ (frame ss ++ over)) = append-assoc (count4 (length s)) (s ++ frame ss) over ∙ ap (λ t. count4 (length s) ++ t) (append-assoc s (frame ss) over) in
     let c : num4 f 0 ≡ length s = ap (λ t. num4 t 0) g ∙ count-back (length s) (s ++ (frame ss ++ over)) (h .0) in
-    let d : drop (4 + num4 f 0) f ≡ frame ss ++ over = ap₂ (λ n t. drop (4 + n) t) c g ∙ skip (length s) s (frame ss ++ over) in
+    let d : drop (4 + num4 f 0) f ≡ frame ss ++ over = ap₂ (λ n t. drop (4 + n) t) c g ∙ frame-skip (length s) s (frame ss ++ over) in
     ap₂ (λ x xs. x ∷ xs) c (ap (lengthsIn (length ss)) d ∙ lengths-read ss over (h .1))
 
 -- reading a string that has its sections whole does not look at what stands after it

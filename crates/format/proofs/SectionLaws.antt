@@ -26,7 +26,7 @@ pub section-whole : (s : List ℕ) (at : ℕ) → at + 4 + num4 s at ≤ length 
 unfolding sectionAt
 section-whole s at h = rw (sectionAt, here s at h)
 
-and-no : (a b : Bool) → b ≡ false → (a && b) ≡ false
+pub and-no : (a b : Bool) → b ≡ false → (a && b) ≡ false
 and-no true b h = h
 and-no false b h = refl
 

@@ -15,6 +15,7 @@ use Rattle.protocol.specs.Key.{keyLengths}
 use Rattle.protocol.specs.Sections.{lengths, commitLengths, hashLengths, batchLengths}
 use Rattle.protocol.specs.Shape.{Shape, within, limits, kOf, lOf, wOf}
 use Rattle.protocol.proofs.TestLaws.{leb-le, all-true}
+use Rattle.protocol.proofs.HonestLaws.{within-le}
 
 pub record InLimits (s : Shape) : Type 0 where
   pub n-least : 1 ≤ s .n
@@ -30,23 +31,19 @@ least : (most x : ℕ) → within most x ≡ true → 1 ≤ x
 unfolding within
 least most x h = leb-le 1 x (and-left (leb 1 x) (leb x most) h)
 
-most : (most x : ℕ) → within most x ≡ true → x ≤ most
-unfolding within
-most m x h = leb-le x m (and-right (leb 1 x) (leb x m) h)
-
 pub in-limits : (s : Shape) → limits s ≡ true → InLimits s
 unfolding limits
 in-limits s h =
     let a = all-true (within 160 (s .n) ∷ within 160 (s .m) ∷ within 48 (s .τ) ∷ within 160 (s .t) ∷ []) h in
     record {
       n-least = least 160 (s .n) (a .0);
-      n-most = most 160 (s .n) (a .0);
+      n-most = within-le 160 (s .n) (a .0);
       m-least = least 160 (s .m) (a .1 .0);
-      m-most = most 160 (s .m) (a .1 .0);
+      m-most = within-le 160 (s .m) (a .1 .0);
       τ-least = least 48 (s .τ) (a .1 .1 .0);
-      τ-most = most 48 (s .τ) (a .1 .1 .0);
+      τ-most = within-le 48 (s .τ) (a .1 .1 .0);
       t-least = least 160 (s .t) (a .1 .1 .1 .0);
-      t-most = most 160 (s .t) (a .1 .1 .1 .0);
+      t-most = within-le 160 (s .t) (a .1 .1 .1 .0);
     }
 
 pub bytes-most : (bits : ℕ) → bits ≤ 168 → bytesFor bits ≤ 21

@@ -31,9 +31,9 @@ abbrev pub Short : List (List ℕ) → Type 0
 Short [] = Unit {0}
 Short (s ∷ ss) = (length s < 4294967296) × Short ss
 
-skip : (x : ℕ) (s t : List ℕ) → drop (4 + length s) (count4 x ++ (s ++ t)) ≡ t
+pub frame-skip : (x : ℕ) (s t : List ℕ) → drop (4 + length s) (count4 x ++ (s ++ t)) ≡ t
 unfolding count4
-skip x s t =
+frame-skip x s t =
     let e : 4 + length s ≡ suc (suc (suc (suc (length s + 0)))) = omega arith in
     rw e (drop-append s t (length s) 0 refl)
 
@@ -52,13 +52,13 @@ frame-framed (s ∷ ss) h =
     let f = frame (s ∷ ss) in
     both-true (leb (4 + length s) (length f)) _ (leb-yes (4 + length s) (length f) (fits (length s) s (frame ss)))
     (both-true (eqb (num4 f 0) (length s)) _ (eqb-same (num4 f 0) (length s) (count-back (length s) (s ++ frame ss) (h .0)))
-    (ap (framed (map length ss)) (skip (length s) s (frame ss)) ∙ frame-framed ss (h .1)))
+    (ap (framed (map length ss)) (frame-skip (length s) s (frame ss)) ∙ frame-framed ss (h .1)))
 
 pub frame-section : (ss : List (List ℕ)) (i : ℕ) → i < length ss → sectionNo (map length ss) i (frame ss) ≡ getD ss i []
 unfolding sectionNo frame
 frame-section [] i h = absurd (omega arith)
 frame-section (s ∷ ss) zero h = take-front (length s) s (frame ss)
-frame-section (s ∷ ss) (suc i) h = ap (sectionNo (map length ss) i) (skip (length s) s (frame ss)) ∙ frame-section ss i (omega arith)
+frame-section (s ∷ ss) (suc i) h = ap (sectionNo (map length ss) i) (frame-skip (length s) s (frame ss)) ∙ frame-section ss i (omega arith)
 
 pub frame-append : (ss ts : List (List ℕ)) → frame ss ++ frame ts ≡ frame (ss ++ ts)
 unfolding frame

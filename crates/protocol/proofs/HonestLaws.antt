@@ -40,7 +40,7 @@ pub record Bounds (s : Shape) : Type 0 where
   pub τ≤ : s .τ ≤ 48
   pub t≤ : s .t ≤ 160
 
-within-le : (most x : ℕ) → within most x ≡ true → x ≤ most
+pub within-le : (most x : ℕ) → within most x ≡ true → x ≤ most
 unfolding within
 within-le most x h = leb-le x most (and-right (leb 1 x) (leb x most) h)
 

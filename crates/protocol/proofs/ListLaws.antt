@@ -132,3 +132,8 @@ cut-table w k zero P f h = rw (zero-mul k) (cut-none w P)
 cut-table w k (suc n) P f h =
     let e : suc n * k ≡ k + n * k = omega (arith, suc-mul n k) in
     rw e (cut-append w k (n * k) P (f 0) (concat (table n (λ i. f (suc i)))) (h 0 (omega arith)) (cut-table w k n P (λ i. f (suc i)) (λ i l. h (suc i) (omega arith))))
+
+pub table-congr : {X : Type 0} (n : ℕ) (f g : ℕ → X) → ((i : ℕ) → i < n → f i ≡ g i) → table n f ≡ table n g
+unfolding table
+table-congr zero f g h = refl
+table-congr (suc n) f g h = ap₂ _∷_ (h 0 (omega arith)) (table-congr n (λ i. f (suc i)) (λ i. g (suc i)) (λ i l. h (suc i) (omega arith)))

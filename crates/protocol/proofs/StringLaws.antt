@@ -15,7 +15,7 @@ use lib.Seq.{ext-getD}
 use Rattle.protocol.specs.Lists.{table, allBelow}
 use Rattle.protocol.specs.Strings.{bytesFor, bit, fromBits, pack, spareZero, bytes}
 use Rattle.protocol.proofs.TestLaws.{eqb-same, eqb-eq, ltb-yes, ltb-no, all-of, all-at}
-use Rattle.protocol.proofs.ListLaws.{length-table, table-at}
+use Rattle.protocol.proofs.ListLaws.{length-table, table-at, table-congr}
 
 pub bit-lt : (s : List ℕ) (c : ℕ) → bit s c < 2
 unfolding bit
@@ -119,3 +119,12 @@ string-is L s h b z =
   where
     n : length (table (bytesFor L) (λ b. fromBits 8 (λ i. cond (ltb (b * 8 + i) L) (bit s (b * 8 + i)) 0))) ≡ bytesFor L
     n = length-table (bytesFor L) _
+
+-- a packed string depends on its coordinates alone
+pub pack-congr : (L : ℕ) (f g : ℕ → ℕ) → ((c : ℕ) → c < L → f c ≡ g c) → pack L f ≡ pack L g
+unfolding pack
+pack-congr L f g h = table-congr (bytesFor L) _ _ (λ b l. bits-congr 8 _ _ (λ i k. go (b * 8 + i) (decLt (b * 8 + i) L)))
+  where
+    go : (c : ℕ) → Dec (c < L) → cond (ltb c L) (f c) 0 ≡ cond (ltb c L) (g c) 0
+    go c (yes l) = ap (λ x. cond (ltb c L) x 0) (h c l)
+    go c (no n) = ap (λ x. cond x (f c) 0) (ltb-no c L (omega arith)) ∙ ap (λ x. cond x (g c) 0) (sym (ltb-no c L (omega arith)))

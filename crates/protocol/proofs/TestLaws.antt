@@ -10,11 +10,8 @@ use lib.Dec.{T, eqb, eqb→eq, eqb-refl, ltb, lt→ltb, ltb→lt, leb, le→leb,
 use lib.ListN.{length, getD}
 use Rattle.algebra.specs.Count.{passes}
 use Rattle.algebra.proofs.CountLaws.{and-left, and-right}
+pub use Rattle.algebra.proofs.TestLaws.{T-true}
 use Rattle.protocol.specs.Lists.{allBelow, allTrue, firstNot}
-
-pub T-true : (b : Bool) → T b → b ≡ true
-T-true true t = refl
-T-true false t = absurd t
 
 pub T-false : (b : Bool) → (T b → ⊥) → b ≡ false
 T-false true f = absurd (f tt)

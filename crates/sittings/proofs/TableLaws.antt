@@ -23,22 +23,9 @@ use Rattle.protocol.specs.Forms.{quad, lin, yOf, middle, error, hash, maskOf, b
 use Rattle.protocol.specs.Prover.{u, v, correction, dOf, a₀, a₁, qs0, qs1, cSection, dSection, ũSection, ṼSection, qs0Section, qs1Section}
 use Rattle.protocol.specs.Verifier.{correctionAt, keyAt, consistent, productLeft, productHolds, candidate, batchedError}
 use Rattle.protocol.specs.Coefficients.{shift, conditions}
-use Rattle.protocol.proofs.ListLaws.{table-at}
+use Rattle.protocol.proofs.ListLaws.{table-at, table-congr}
+use Rattle.protocol.proofs.StringLaws.{pack-congr}
 use Rattle.protocol.proofs.FormLaws.{hash-congr, mask-congr, quad-congr, lin-congr}
-
-table-congr : {X : Type 0} (n : ℕ) (f g : ℕ → X) → ((i : ℕ) → i < n → f i ≡ g i) → table n f ≡ table n g
-unfolding table
-table-congr zero f g h = refl
-table-congr (suc n) f g h = ap₂ _∷_ (h 0 (omega arith)) (table-congr n (λ i. f (suc i)) (λ i. g (suc i)) (λ i l. h (suc i) (omega arith)))
-
-if-congr : (b : Bool) (x y z : ℕ) → (b ≡ true → x ≡ y) → cond b x z ≡ cond b y z
-if-congr true x y z h = h refl
-if-congr false x y z h = refl
-
-pack-congr : (L : ℕ) (f g : ℕ → ℕ) → ((c : ℕ) → c < L → f c ≡ g c) → pack L f ≡ pack L g
-unfolding pack
-pack-congr L f g h =
-    ap (table (bytesFor L)) (λ j b. fromBits 8 (λ i. if-congr (ltb (b * 8 + i) L) (f (b * 8 + i)) (g (b * 8 + i)) 0 (λ e. h (b * 8 + i) (ltb→lt (b * 8 + i) L (rw e tt))) j))
 
 module _ (K : Coded) (s : Shape) where
   open Coded K using (base, elem, byte)

@@ -13,22 +13,8 @@ use lib.Seq.{drop-drop}
 use Rattle.protocol.specs.Lists.{table, concat, part, blockAt}
 use Rattle.protocol.specs.Strings.{bytesFor, bit, spareZero, pack}
 use Rattle.protocol.proofs.TestLaws.{eqb-same, ltb-no, all-of}
-use Rattle.protocol.proofs.StringLaws.{bits-congr, string-is}
+use Rattle.protocol.proofs.StringLaws.{string-is, pack-congr}
 use Rattle.strings.specs.Sums.{byteAt}
-
-pub table-congr : (n : ℕ) (f g : ℕ → ℕ) → ((i : ℕ) → i < n → f i ≡ g i) → table n f ≡ table n g
-unfolding table
-table-congr zero f g h = refl
-table-congr (suc n) f g h = ap₂ _∷_ (h 0 (omega arith)) (table-congr n (λ i. f (suc i)) (λ i. g (suc i)) (λ i l. h (suc i) (omega arith)))
-
--- a packed string depends on its coordinates alone
-pub pack-congr : (L : ℕ) (f g : ℕ → ℕ) → ((c : ℕ) → c < L → f c ≡ g c) → pack L f ≡ pack L g
-unfolding pack
-pack-congr L f g h = table-congr (bytesFor L) _ _ (λ b l. bits-congr 8 _ _ (λ i k. go (b * 8 + i) (decLt (b * 8 + i) L)))
-  where
-    go : (c : ℕ) → Dec (c < L) → cond (ltb c L) (f c) 0 ≡ cond (ltb c L) (g c) 0
-    go c (yes l) = ap (λ x. cond (ltb c L) x 0) (h c l)
-    go c (no n) = ap (λ x. cond x (f c) 0) (ltb-no c L (omega arith)) ∙ ap (λ x. cond x (g c) 0) (sym (ltb-no c L (omega arith)))
 
 pub spare-of : (L : ℕ) (s : List ℕ) → ((c : ℕ) → L ≤ c → c < length s * 8 → bit s c ≡ 0) → spareZero s L ≡ true
 unfolding spareZero

@@ -45,11 +45,11 @@ sum-front n f =
     one-add : (i : ℕ) → 1 + i ≡ suc i
     one-add i = omega arith
 
-bit-next : (a i : ℕ) → bitOf a (suc i) ≡ bitOf (a / 2) i
+pub bit-next : (a i : ℕ) → bitOf a (suc i) ≡ bitOf (a / 2) i
 unfolding bitOf
 bit-next a i = let e : suc i ≡ 1 + i = omega arith in ap (λ k. a / 2 ^ k % 2) e ∙ ap (λ x. x % 2) (sym (shr-shr a 1 i))
 
-bit-first : (a : ℕ) → bitOf a 0 ≡ a % 2
+pub bit-first : (a : ℕ) → bitOf a 0 ≡ a % 2
 unfolding bitOf
 bit-first a = ap (λ x. x % 2) (div-one a)
 

@@ -12,10 +12,7 @@ use lib.Seq.{length-take-le, getD-take, getD-drop, getD-append-add}
 use borrow.Rule.Slice.PartMut.{putMid}
 use Rattle.strings.specs.Sums.{byteAt}
 use Rattle.protocol.specs.Lists.{part, blockAt}
-
--- row b of n rows of w elements ends within the table
-pub row-end : (b n w : ℕ) → b < n → b * w + w ≤ n * w
-row-end b n w h = rw (← suc-mul) (mul-le-mul-right w h)
+pub use Rattle.protocol.proofs.ListLaws.{row-end}
 
 pub row-byte : (table : List ℕ) (w i b : ℕ) → b < w → byteAt (blockAt table w i) b ≡ byteAt table (i * w + b)
 unfolding blockAt part

@@ -81,8 +81,8 @@ unfolding xorSum
 sum-scale q zero f h = sym (mul-zero q)
 sum-scale q (suc n) f h = ap (λ (x : ℕ). bitXor x (q * f n)) (sum-scale q n f h) ∙ sym (scale-xor q (xorSum n f) (f n) h)
 
-swap : (a b c : ℕ) → bitXor (bitXor a b) c ≡ bitXor (bitXor a c) b
-swap a b c = xor-assoc a b c ∙ ap (bitXor a) (xor-comm b c) ∙ sym (xor-assoc a c b)
+pub xor-swap : (a b c : ℕ) → bitXor (bitXor a b) c ≡ bitXor (bitXor a c) b
+xor-swap a b c = xor-assoc a b c ∙ ap (bitXor a) (xor-comm b c) ∙ sym (xor-assoc a c b)
 
 -- a sum after x was added to the term at k
 pub sum-put : (n k x : ℕ) (f g : ℕ → ℕ) → g k ≡ bitXor (f k) x → ((i : ℕ) → (i ≡ k → ⊥) → g i ≡ f i) → xorSum n g ≡ bitXor (xorSum n f) (cond (ltb k n) 1 0 * x)
@@ -94,7 +94,7 @@ sum-put (suc n) k x f g here there = go (decLt k n) (ℕ-discrete n k) (sum-put 
     go (yes lt) d ih =
         ap₂ bitXor ih (there n (λ e. omega arith))
         ∙ ap (λ b. bitXor (bitXor (xorSum n f) (cond b 1 0 * x)) (f n)) (ltb-yes k n lt)
-        ∙ swap (xorSum n f) (1 * x) (f n)
+        ∙ xor-swap (xorSum n f) (1 * x) (f n)
         ∙ ap (λ b. bitXor (bitXor (xorSum n f) (f n)) (cond b 1 0 * x)) (sym (ltb-yes k (suc n) (omega arith)))
     go (no ge) (yes e) ih =
         ap₂ bitXor ih (rw e here)
@@ -107,7 +107,7 @@ sum-put (suc n) k x f g here there = go (decLt k n) (ℕ-discrete n k) (sum-put 
     go (no ge) (no ne) ih =
         ap₂ bitXor ih (there n ne)
         ∙ ap (λ b. bitXor (bitXor (xorSum n f) (cond b 1 0 * x)) (f n)) (ltb-no k n (omega arith))
-        ∙ swap (xorSum n f) (0 * x) (f n)
+        ∙ xor-swap (xorSum n f) (0 * x) (f n)
         ∙ ap (λ b. bitXor (bitXor (xorSum n f) (f n)) (cond b 1 0 * x)) (sym (ltb-no k (suc n) (omega arith)))
 
 -- a sum in a running total, and one term more

@@ -6,6 +6,7 @@ use Prim.Native.Nat.{ℕ, _<_}
 use lib.Dec.{T, eqb}
 use Rattle.algebra.specs.Bits.{plus, everywhere}
 use Rattle.algebra.specs.Roots.{passing}
+use Rattle.algebra.proofs.BitsLaws.{bit-same}
 use Rattle.algebra.proofs.LinearLaws.{everywhere-at}
 use Rattle.protocol.specs.Answers.{isAccepted}
 use Rattle.protocol.specs.Calls.{wellFormed}
@@ -29,17 +30,11 @@ roots : T (everywhere 8 (λ δ. not (plus (passing K (conditionsWith 0x00 0x01 0
 unfolding computing
 roots = tt
 
-equal : (a b : Bool) → T (not (plus a b)) → a ≡ b
-equal true true t = refl
-equal true false t = absurd t
-equal false true t = absurd t
-equal false false t = refl
-
 at-element : (δ : F) → isAccepted (answerAt key₀ (A .K .byte δ) proofQS1) ≡ two δ
 at-element δ =
     accepted-if-passing 0x00 proofQS1 forged-well-formed δ
     ∙ ap (λ c. passing K c δ) coefficients-are
-    ∙ equal _ _ (everywhere-at 8 (λ δ. not (plus (passing K (conditionsWith 0x00 0x01 0x05) δ) (two δ))) roots δ)
+    ∙ bit-same _ _ (everywhere-at 8 (λ δ. not (plus (passing K (conditionsWith 0x00 0x01 0x05) δ) (two δ))) roots δ)
 
 pub forged-at-00-and-52 : (δ : ℕ) → δ < 256 → isAccepted (answerAt key₀ δ proofQS1) ≡ (eqb δ 0x00 || eqb δ 0x52)
 forged-at-00-and-52 δ l = subst (λ b. isAccepted (answerAt key₀ b proofQS1) ≡ (eqb b 0x00 || eqb b 0x52)) (A .K .byte-elem δ l) (at-element (A .K .elem δ))

@@ -22,27 +22,18 @@ use Rattle.strings.specs.Sums.{byteAt, bitOf, xorSum}
 use Rattle.strings.proofs.Rows.{row-end}
 use Rattle.strings.proofs.Meaning.{bitOf-zero}
 use Rattle.strings.proofs.SumLaws.{sum-put}
+use Rattle.strings.proofs.ProductLaws.{bit-first, bit-next}
 use Rattle.trees.specs.Trees.{Summed}
 use Rattle.trees.specs.Partial.{heldPlane}
 
 -- ---- bits that change
-
-low-bit : (x : ℕ) → bitOf x 0 ≡ x % 2
-unfolding bitOf
-low-bit x = ap (λ y. y % 2) (div-one x)
-
-next-bit : (x p : ℕ) → bitOf x (suc p) ≡ bitOf (x / 2) p
-unfolding bitOf
-next-bit x p =
-    let e : suc p ≡ 1 + p = omega arith in
-    ap (λ k. x / 2 ^ k % 2) e ∙ ap (λ y. y % 2) (sym (shr-shr x 1 p))
 
 -- the bits in which j and j + 1 differ
 abbrev pub differing : ℕ → ℕ → ℕ
 differing j p = bitOf (bitXor j (j + 1)) p
 
 pub first-differs : (j : ℕ) → differing j 0 ≡ 1
-first-differs j = low-bit (bitXor j (j + 1)) ∙ xor-mod j (j + 1) 1 ∙ two (j % 2) ((j + 1) % 2) (omega arith) (omega arith)
+first-differs j = bit-first (bitXor j (j + 1)) ∙ xor-mod j (j + 1) 1 ∙ two (j % 2) ((j + 1) % 2) (omega arith) (omega arith)
   where
     two : (a b : ℕ) → a < 2 → b ≡ 1 - a → bitXor a b ≡ 1
     two zero b h e = e
@@ -52,12 +43,12 @@ first-differs j = low-bit (bitXor j (j + 1)) ∙ xor-mod j (j + 1) 1 ∙ two (j 
 pub even-rest : (j p : ℕ) → j % 2 ≡ 0 → differing j (suc p) ≡ 0
 even-rest j p even =
     let same : (j + 1) / 2 ≡ j / 2 = omega arith in
-    next-bit (bitXor j (j + 1)) p ∙ ap (λ y. bitOf y p) (xor-shr j (j + 1) 1 ∙ ap (bitXor (j / 2)) same ∙ xor-self (j / 2)) ∙ bitOf-zero p
+    bit-next (bitXor j (j + 1)) p ∙ ap (λ y. bitOf y p) (xor-shr j (j + 1) 1 ∙ ap (bitXor (j / 2)) same ∙ xor-self (j / 2)) ∙ bitOf-zero p
 
 pub odd-rest : (j p : ℕ) → j % 2 ≡ 1 → differing j (suc p) ≡ differing (j / 2) p
 odd-rest j p odd =
     let next : (j + 1) / 2 ≡ j / 2 + 1 = omega arith in
-    next-bit (bitXor j (j + 1)) p ∙ ap (λ y. bitOf y p) (xor-shr j (j + 1) 1 ∙ ap (bitXor (j / 2)) next)
+    bit-next (bitXor j (j + 1)) p ∙ ap (λ y. bitOf y p) (xor-shr j (j + 1) 1 ∙ ap (bitXor (j / 2)) next)
 
 zeros-even : (n j : ℕ) → j % 2 ≡ 0 → trailingZeros (suc n) (j + 1) ≡ 0
 unfolding trailingZeros

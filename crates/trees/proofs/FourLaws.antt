@@ -17,7 +17,7 @@ use Rattle.protocol.proofs.LeafLaws.{place-below, place-above}
 use Rattle.strings.specs.Sums.{byteAt, bitOf}
 use Rattle.strings.proofs.Rows.{row-byte}
 use Rattle.strings.proofs.Meaning.{bitOf-lt}
-use Rattle.strings.proofs.SumLaws.{scale-xor}
+use Rattle.strings.proofs.SumLaws.{scale-xor, xor-swap}
 use Rattle.strings.proofs.XorLaws.{xor-assoc}
 use Rattle.trees.specs.Trees.{leafByte, TreeFits}
 use Rattle.trees.specs.Partial.{Running, withLow, Stands, Placed}
@@ -36,9 +36,6 @@ odd-changes j (suc p) odd = odd-rest j p (omega arith) ∙ even-changes (j / 2) 
 
 -- ---- a sum added to one of those that make up a plane
 
-last : (a t c : ℕ) → bitXor (bitXor a t) c ≡ bitXor (bitXor a c) t
-last a t c = xor-assoc a t c ∙ ap (bitXor a) (xor-comm t c) ∙ sym (xor-assoc a c t)
-
 -- what is made of m is so of m and t, and t is added
 scaled : (q x s v : ℕ) (g : ℕ → ℕ) → q < 2 → v ≡ bitXor x s → ((m t : ℕ) → g (bitXor m t) ≡ bitXor (g m) t) → g (q * v) ≡ bitXor (g (q * x)) (q * s)
 scaled q x s v g h is linear = ap (λ y. g (q * y)) is ∙ ap g (scale-xor q x s h) ∙ linear (q * x) (q * s)
@@ -49,7 +46,7 @@ module _ (f a : ℕ → ℕ → ℕ) (r j : ℕ) (u x y u′ : ℕ → ℕ) (run
       running-more f r 16 u (withLow a x y) j u′ (withLow a x′ y) run leaf
       (λ p b hp hb.
       scaled (bitOf 1 p) (x b) (u′ b) (x′ b) (λ m. bitXor (bitXor (a p b) m) (bitOf 3 p * y b)) (bitOf-lt 1 p) (more b hb)
-      (λ m t. ap (λ z. bitXor z (bitOf 3 p * y b)) (sym (xor-assoc (a p b) m t)) ∙ last (bitXor (a p b) m) t (bitOf 3 p * y b))
+      (λ m t. ap (λ z. bitXor z (bitOf 3 p * y b)) (sym (xor-assoc (a p b) m t)) ∙ xor-swap (bitXor (a p b) m) t (bitOf 3 p * y b))
       ∙ ap (λ q. bitXor (withLow a x y p b) (q * u′ b)) (sym (even-changes j p even)))
 
   pub second-more : (y′ : ℕ → ℕ) → j % 4 ≡ 1 → ((b : ℕ) → b < 16 → y′ b ≡ bitXor (y b) (u′ b)) → Running f r 16 u′ (withLow a x y′) (j + 1)
@@ -65,8 +62,8 @@ module _ (f a : ℕ → ℕ → ℕ) (r j : ℕ) (u x y u′ : ℕ → ℕ) (run
       running-more f r 16 u (withLow a x y) j u′ (withLow a′ x y) run leaf
       (λ p b hp hb.
       ap (λ z. bitXor (bitXor z (bitOf 1 p * x b)) (bitOf 3 p * y b)) (more p b hp hb)
-      ∙ ap (λ z. bitXor z (bitOf 3 p * y b)) (last (a p b) (differing j p * u′ b) (bitOf 1 p * x b))
-      ∙ last (bitXor (a p b) (bitOf 1 p * x b)) (differing j p * u′ b) (bitOf 3 p * y b))
+      ∙ ap (λ z. bitXor z (bitOf 3 p * y b)) (xor-swap (a p b) (differing j p * u′ b) (bitOf 1 p * x b))
+      ∙ xor-swap (bitXor (a p b) (bitOf 1 p * x b)) (differing j p * u′ b) (bitOf 3 p * y b))
 
 -- a sum added from its front on
 pub from-front : (l l′ s : List ℕ) → ((i : ℕ) → i < 16 → byteAt l′ i ≡ bitXor (byteAt l i) (byteAt s (0 + i))) → (i : ℕ) → i < 16 → byteAt l′ i ≡ bitXor (byteAt l i) (byteAt s i)

@@ -19,7 +19,8 @@ use Rattle.protocol.specs.Questions.{hExact, hSpare, leavesExact, leavesSpare}
 use Rattle.protocol.specs.Key.{rowsSpare}
 use Rattle.protocol.specs.Prover.{u, correction, dOf, cSection, dSection, ũSection}
 use Rattle.protocol.proofs.ListLaws.{length-block}
-use Rattle.protocol.proofs.StringLaws.{bit-lt, spare-at}
+use Rattle.protocol.proofs.StringLaws.{bit-lt, spare-at, pack-congr}
+use Rattle.protocol.proofs.HashLaws.{hash-split}
 use Rattle.protocol.proofs.TestLaws.{eqb-eq, all-at}
 use Rattle.strings.specs.Sums.{byteAt, bitOf}
 use Rattle.strings.specs.Products.{product}
@@ -27,10 +28,9 @@ use Rattle.strings.proofs.Rows.{row-end, row-byte, row-lt}
 use Rattle.strings.proofs.Meaning.{bitOf-xor, bit-is, byte-sum, byte-bit, byte-scale}
 use Rattle.strings.proofs.SumLaws.{sum-same, sum-short}
 use Rattle.strings.proofs.ProductLaws.{product-lt}
-use Rattle.strings.proofs.Packed.{packed, pack-congr, rows-are}
+use Rattle.strings.proofs.Packed.{packed, rows-are}
 use Rattle.vole.specs.Hash.{hashBit}
 use Rattle.tables.specs.Sums.{SumsAre, CorrectionsAre}
-use Rattle.vole.proofs.HashLaws.{hash-split}
 use Rattle.tables.proofs.SumsMeaning.{byteOf, u-lt, u-spare, sums-u}
 
 abbrev Element : Type 0
