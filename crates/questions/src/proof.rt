@@ -15,13 +15,14 @@ ghost use Rattle.format.specs.Verdict.{answerOf, andThen};
 use format::Reason;
 use format::Verdict;
 use format::also;
-use format::sections::section_no;
+use format::sections::framed_length;
 use format::sections::sections_form;
 use format::sizes::Sizes;
 use format::sizes::leaf_bits;
 use format::sizes::proof_lengths;
 use format::spare::row_spare;
 use format::spare::rows_spare;
+use reader::read_section;
 
 // The places of the sections C, d, ũ, Ṽ, QS0, QS1.
 pub const C: usize = 0;
@@ -36,13 +37,13 @@ pub const QS0: usize = 4;
 
 pub const QS1: usize = 5;
 
-// Section i of a proof whose sections are exact, as part of the lent bytes.
+// Section i of a proof whose sections are exact, as part of the lent bytes: the reader takes it from where the lengths say that it stands.
 pub fn proof_section<'a>(proof: &'a [u8], s: Sizes, i: usize) -> &'a [u8]
     requires { ⌜ (limits (shapeFor s) ≡ true) × (framed (lengths bits256 (shapeFor s)) (now proof) ≡ true) × (i < 6) ⌝ }
     ensures { λ r. ⌜ (now r ≡ sectionNo (lengths bits256 (shapeFor s)) i (now (proof .entry))) × (length (now r) ≡ getD (lengths bits256 (shapeFor s)) i 0) ⌝ }
 {
     let expected = proof_lengths(s);
-    section_no(proof, &expected, i)
+    read_section(proof, framed_length(&expected[..i]))
 }
 
 // Question 13: are the spare bits of C, d, ũ 0?
