@@ -1,6 +1,6 @@
--- In a string of sections of given lengths, the reader finds each where the lengths say that it stands.
+-- In a string of sections of given lengths, the reader finds each where the lengths say that it stands; and what reads back as sections, the reader takes one after the other.
 -- Assumes nothing.
-use mathlib.Core.Path.{_≡_, sym, ap, _∙_}
+use mathlib.Core.Path.{_≡_, sym, ap, _∙_, subst}
 use mathlib.Core.Bool.{true, _&&_}
 use mathlib.Core.List.{List, [], _∷_}
 use Prim.Native.Nat.{ℕ, zero, suc, _+_, _<_}
@@ -12,8 +12,10 @@ use lib.Seq.{drop-drop, drop-cons}
 use Rattle.algebra.proofs.CountLaws.{and-right}
 use Rattle.protocol.specs.Lists.{part}
 use Rattle.protocol.specs.Frames.{num4, framed, sectionNo, framedLength}
+use Rattle.protocol.specs.Answers.{accepted}
+use Rattle.format.specs.Reading.{Reads}
 use Rattle.format.proofs.SectionLaws.{whole, section-end, section-part, length-part, framed-length}
-use Rattle.reader.specs.Taking.{bytesOn, bytesAt}
+use Rattle.reader.specs.Taking.{answerOn, nextOn, bytesOn, answerAt, nextAt, bytesAt}
 
 -- what is left after i sections is the sections after them
 framed-from : (ls s : List ℕ) (i : ℕ) → framed ls s ≡ true → framed (drop i ls) (drop (framedLength (take i ls)) s) ≡ true
@@ -40,3 +42,8 @@ module _ (ls s : List ℕ) (i : ℕ) (h : i < length ls) (f : framed ls s ≡ tr
 
   pub section-length : length (sectionNo ls i s) ≡ getD ls i 0
   section-length = ap length (section-part ls s i h) ∙ length-part s (framedLength (take i ls) + 4) (getD ls i 0) (omega (arith, section-end ls i h, framed-length ls s f))
+
+-- of a string that reads as sections from index at on: the reader takes the first, and what is left reads as the others
+pub reader-takes : (s : List ℕ) (at l : ℕ) (ls x : List ℕ) (xs : List (List ℕ)) → Reads s at (l ∷ ls) (x ∷ xs) → (answerAt s at ≡ accepted) × (bytesAt s at ≡ x) × Reads s (nextAt s at) ls xs
+unfolding answerAt bytesAt nextAt
+reader-takes s at l ls x xs (a, e, f, n, x-is, rest) = (ap answerOn f, ap (bytesOn s) f ∙ sym x-is, subst (λ k. Reads s k ls xs) (sym (ap (nextOn at) f)) rest)
