@@ -11,8 +11,9 @@ use Rattle.algebra.proofs.RingLaws.{ring}
 use Rattle.field.specs.Gf256.{gf256}
 use Rattle.strings.specs.Sums.{xorSum}
 use Rattle.strings.proofs.SumLaws.{sum-same, sum-lt}
-use Rattle.batching.specs.Stacks.{product}
-use Rattle.batching.proofs.StackLaws.{sum-swap, product-sum, product-bits, product-comm, product-bit}
+use Rattle.chunks.proofs.BitSumLaws.{sum-swap}
+use Rattle.columns.specs.Stacks.{product}
+use Rattle.columns.proofs.ProductLaws.{product-sum, product-bits, product-comm, product-bit}
 
 module _ (C : Coded) where
   open Coded C using (base, elem, byte)

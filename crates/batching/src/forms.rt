@@ -6,9 +6,11 @@ ghost use lib.ListN.{length};
 ghost use lib.Bits.{bitXor};
 ghost use Rattle.strings.specs.Sums.{byteAt, xorSum};
 ghost use Rattle.lanes.specs.Lanes.{lanes, laneAt};
-ghost use Rattle.batching.specs.Chunks.{chunk};
-ghost use Rattle.batching.specs.Stacks.{product, Chosen, columnByte};
-use super::stacks::STACK;
+ghost use Rattle.chunks.specs.Chunks.{chunk};
+ghost use Rattle.choices.specs.Entries.{Chosen};
+ghost use Rattle.columns.specs.Stacks.{product};
+ghost use Rattle.batching.specs.Batched.{columnByte};
+use columns::STACK;
 use lanes::LANES;
 
 // With h the vector that the rows of the batched matrix make, each times its coordinate in the table `left`, of so many: adds to quad
@@ -34,5 +36,5 @@ pub fn add_forms(
 {
     let mut stacks = [0u8; LANES * STACK];
     super::stacks::collect(&mut stacks, a, count, width, m, tau, offsets, groups, left);
-    super::columns::finish(quad, right, &stacks, width, tau, n, table, xs);
+    columns::finish(quad, right, &stacks, width, tau, n, table, xs);
 }

@@ -4,16 +4,16 @@ ghost use mathlib.Core.Path.{_≡_};
 ghost use mathlib.Core.List.{List};
 ghost use Prim.Native.Nat.{ℕ, _+_, _*_, _/_, _%_, _<_, _≤_};
 ghost use lib.ListN.{length};
-ghost use lib.Bits.{bitXor, bitAnd};
+ghost use lib.Bits.{bitXor};
 ghost use Rattle.strings.specs.Sums.{byteAt, bitOf, xorSum};
 ghost use Rattle.lanes.specs.Lanes.{lanes, laneAt};
-ghost use Rattle.batching.specs.Chunks.{chunk, cellAt, Tabled};
-ghost use Rattle.batching.specs.Stacks.{stack, alpha, product, stackAt, stackOf, Masks, Chosen, Weighed, batchedByte};
-use super::CHUNK;
+ghost use Rattle.chunks.specs.Chunks.{chunk, cellAt, Masks};
+ghost use Rattle.choices.specs.Entries.{Chosen, Weighed};
+ghost use Rattle.columns.specs.Stacks.{stack, alpha, product, stackAt, stackOf};
+ghost use Rattle.batching.specs.Batched.{batchedByte};
+use chunks::CHUNK;
+use columns::STACK;
 use lanes::LANES;
-
-// The bytes of a stack of 15 planes.
-pub const STACK: usize = 15 * CHUNK;
 
 // The bytes of eight masks.
 const MASKS: usize = 8 * CHUNK;
@@ -26,25 +26,6 @@ fn lane_byte(table: &[u8], c: usize, n: usize, e: usize) -> u8
     if c < n { table[c * LANES + e] } else { 0 }
 }
 
-fn fill(dst: &mut [u8], x: u8)
-    ensures { λ _. ⌜ ((f : ℕ) → f < length (now (dst .entry)) → byteAt (now (dst .exit)) f ≡ x) ⌝ }
-{
-    let mut f = 0;
-    while f < dst.len() {
-        dst[f] = x;
-        f += 1;
-    }
-}
-
-pub fn fill_part(dst: &mut [u8], g: usize, w: usize, x: u8)
-    requires { ⌜ g * w + w ≤ length (now dst) ⌝ }
-    ensures { λ _. ⌜ ((j : ℕ) → j < w → byteAt (now (dst .exit)) (g * w + j) ≡ x) ⌝ }
-    ensures { λ _. ⌜ ((q j : ℕ) → (q ≡ g → ⊥) → j < w → byteAt (now (dst .exit)) (q * w + j) ≡ byteAt (now (dst .entry)) (q * w + j)) ⌝ }
-{
-    let at = g * w;
-    fill(&mut dst[at..at + w], x);
-}
-
 // Four coordinates of the vector of repetition e, from `first` on, each in as many bytes as a row has.
 fn spread(v: &mut [u8], table: &[u8], first: usize, n: usize, e: usize, w: usize)
     requires { ⌜ (4 * w ≤ length (now v)) × (length (now table) ≡ n * lanes) × (e < lanes) × (first < n) ⌝ }
@@ -52,63 +33,9 @@ fn spread(v: &mut [u8], table: &[u8], first: usize, n: usize, e: usize, w: usize
 {
     let mut g = 0;
     while g < 4 {
-        fill_part(v, g, w, lane_byte(table, first + g, n, e));
+        chunks::masks::fill_part(v, g, w, lane_byte(table, first + g, n, e));
         g += 1;
     }
-}
-
-// out[f] is 255 where bit b of v[f] is set, and 0 elsewhere.
-fn fill_mask(out: &mut [u8], v: &[u8], b: usize)
-    requires { ⌜ (length (now out) ≡ chunk) × (length (now v) ≡ chunk) × (b < 8) ⌝ }
-    ensures { λ _. ⌜ ((f : ℕ) → f < chunk → byteAt (now (out .exit)) f ≡ bitOf (byteAt (now (v .entry)) f) b * 255) ⌝ }
-{
-    let mut f = 0;
-    while f < CHUNK {
-        out[f] = (v[f] >> b) % 2 * 255;
-        f += 1;
-    }
-}
-
-fn fill_mask_at(masks: &mut [u8], v: &[u8], b: usize)
-    requires { ⌜ (length (now masks) ≡ 8 * chunk) × (length (now v) ≡ chunk) × (b < 8) ⌝ }
-    ensures { λ _. ⌜ ((f : ℕ) → f < chunk → byteAt (now (masks .exit)) (b * chunk + f) ≡ bitOf (byteAt (now (v .entry)) f) b * 255) ⌝ }
-    ensures { λ _. ⌜ ((q f : ℕ) → (q ≡ b → ⊥) → f < chunk → byteAt (now (masks .exit)) (q * chunk + f) ≡ byteAt (now (masks .entry)) (q * chunk + f)) ⌝ }
-{
-    let at = b * CHUNK;
-    fill_mask(&mut masks[at..at + CHUNK], v, b);
-}
-
-fn fill_masks(masks: &mut [u8], v: &[u8])
-    requires { ⌜ (length (now masks) ≡ 8 * chunk) × (length (now v) ≡ chunk) ⌝ }
-    ensures { λ _. ⌜ Masks (now (v .entry)) (now (masks .exit)) ⌝ }
-{
-    let mut b = 0;
-    while b < 8 {
-        fill_mask_at(masks, v, b);
-        b += 1;
-    }
-}
-
-// dst[f] ^= m[f] & mask[f], for each byte of a chunk.
-pub fn xor_and(dst: &mut [u8], m: &[u8], mask: &[u8])
-    requires { ⌜ (length (now dst) ≡ chunk) × (length (now m) ≡ chunk) × (length (now mask) ≡ chunk) ⌝ }
-    ensures { λ _. ⌜ ((f : ℕ) → f < chunk → byteAt (now (dst .exit)) f ≡ bitXor (byteAt (now (dst .entry)) f) (bitAnd (byteAt (now (m .entry)) f) (byteAt (now (mask .entry)) f))) ⌝ }
-{
-    let mut f = 0;
-    while f < CHUNK {
-        dst[f] ^= m[f] & mask[f];
-        f += 1;
-    }
-}
-
-// The same for row s of a table.
-pub fn xor_and_row(t: &mut [u8], s: usize, m: &[u8], mask: &[u8])
-    requires { ⌜ (s * chunk + chunk ≤ length (now t)) × (length (now m) ≡ chunk) × (length (now mask) ≡ chunk) ⌝ }
-    ensures { λ _. ⌜ ((f : ℕ) → f < chunk → cellAt (now (t .exit)) s f ≡ bitXor (cellAt (now (t .entry)) s f) (bitAnd (byteAt (now (m .entry)) f) (byteAt (now (mask .entry)) f))) ⌝ }
-    ensures { λ _. ⌜ ((q f : ℕ) → (q ≡ s → ⊥) → f < chunk → cellAt (now (t .exit)) q f ≡ cellAt (now (t .entry)) q f) ⌝ }
-{
-    let at = s * CHUNK;
-    xor_and(&mut t[at..at + CHUNK], m, mask);
 }
 
 // Adds m, a plane whose weight is α^p, times v, whose masks are lent: mask b is that of α^b.
@@ -118,7 +45,7 @@ fn absorb_plane(t: &mut [u8], p: usize, m: &[u8], masks: &[u8])
 {
     let mut b = 0;
     while b < 8 {
-        xor_and_row(t, p + b, m, strings::row_at(masks, CHUNK, b));
+        chunks::masks::xor_and_row(t, p + b, m, strings::row_at(masks, CHUNK, b));
         b += 1;
     }
 }
@@ -131,9 +58,9 @@ fn absorb(t: &mut [u8], offsets: &[u16], base: usize, groups: usize, sums: &[u8]
     let mut p = 0;
     while p < 8 {
         let mut sum = [0u8; CHUNK];
-        super::sums::look_up(
+        choices::sums::look_up(
             &mut sum,
-            super::offsets::row_at(offsets, groups, base + p),
+            choices::offsets::row_at(offsets, groups, base + p),
             sums,
         );
         absorb_plane(t, p, &sum, masks);
@@ -160,7 +87,7 @@ fn absorb_lane(
     let mut v = [0u8; CHUNK];
     let mut masks = [0u8; MASKS];
     spread(&mut v, table, first, n, e, width);
-    fill_masks(&mut masks, &v);
+    chunks::masks::fill_masks(&mut masks, &v);
     let at = e * STACK;
     absorb(
         &mut stacks[at..at + STACK],
@@ -214,9 +141,9 @@ pub fn collect(
     let mut sums = [0u8; 640 * CHUNK];
     let mut k = 0;
     while k * 4 < n {
-        super::cells::load(&mut cells, a, n * width, k * 4 * width, 4 * width, m);
-        super::sums::fill_sums(&mut sums, groups, m, &cells[..m * CHUNK]);
-        super::sums::add_first(stacks, &sums);
+        chunks::cells::load(&mut cells, a, n * width, k * 4 * width, 4 * width, m);
+        choices::sums::fill_sums(&mut sums, groups, m, &cells[..m * CHUNK]);
+        choices::sums::add_first(stacks, &sums);
         absorb_lanes(stacks, tau, offsets, groups, &sums, table, k * 4, n, width);
         k += 1;
     }

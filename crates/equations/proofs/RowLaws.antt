@@ -15,7 +15,7 @@ use Rattle.strings.specs.Sums.{byteAt, bitOf, xorSum}
 use Rattle.strings.proofs.SumLaws.{sum-same}
 use Rattle.strings.proofs.Rows.{row-byte, row-end}
 use Rattle.strings.proofs.Meaning.{bit-is, bitOf-xor, bitOf-sum, bit-times}
-use Rattle.batching.proofs.StackLaws.{sum-xor, sum-swap, times-xor, times-sum, bit-sum, bits-lt, bits-times}
+use Rattle.chunks.proofs.BitSumLaws.{sum-xor, sum-swap, times-xor, times-sum, bit-sum, bits-lt, bits-times}
 use Rattle.equations.specs.Equations.{rowProduct, errorBit}
 use Rattle.equations.proofs.BlockLaws.{bit-past}
 

@@ -6,8 +6,8 @@ ghost use Prim.Native.Nat.{ℕ, _+_, _*_, _/_, _<_, _≤_};
 ghost use lib.ListN.{length};
 ghost use Rattle.protocol.specs.Strings.{bytesFor, bit};
 ghost use Rattle.strings.specs.Sums.{byteAt};
-ghost use Rattle.batching.specs.Chunks.{chunk};
-ghost use Rattle.batching.specs.Stacks.{Spread};
+ghost use Rattle.chunks.specs.Chunks.{chunk};
+ghost use Rattle.masked.specs.Spread.{Spread};
 ghost use Rattle.equations.specs.Equations.{errorBit, errorOf, FirstIn};
 
 // As many as a key may have variables (01: 1..160).
@@ -16,7 +16,7 @@ pub const VARIABLES: usize = 160;
 // The bytes of a row of as many bits, and of the masks of as many, four to a chunk.
 pub const WIDTH: usize = VARIABLES / 8;
 
-pub const MASKS: usize = VARIABLES / 4 * batching::CHUNK;
+pub const MASKS: usize = VARIABLES / 4 * chunks::CHUNK;
 
 // The first equation that fails, or that none does.
 pub enum Found {
@@ -51,7 +51,7 @@ fn equation_error(
     requires { ⌜ (length (now x) ≡ bytesFor n) × (length (now space) ≡ length (now x)) × (length (now row) ≡ length (now x)) × (length (now matrix) ≡ n * length (now x)) × (n ≤ 160) × ((n + 3) / 4 * chunk ≤ length (now masks)) ⌝ }
     ensures { λ r. ⌜ ((xs : List ℕ) → ((c : ℕ) → byteAt xs c ≡ bit (now (x .entry)) c) → ((k : ℕ) → k < (n + 3) / 4 → Spread xs (bytesFor n) (now (masks .entry)) k) → r ≡ errorBit n (now (matrix .entry)) (now (row .entry)) y (now (x .entry))) ⌝ }
 {
-    batching::witness::witness_row(space, matrix, row, masks, n);
+    masked::witness_row(space, matrix, row, masks, n);
     strings::row_product(space, x) ^ y
 }
 
@@ -88,7 +88,7 @@ pub fn prepare(xs: &mut [u8], masks: &mut [u8], x: &[u8], n: usize)
 {
     let width = x.len();
     unpack(xs, x, width * 8);
-    batching::witness::spread_rows(masks, (n + 3) / 4, xs, width);
+    masked::spread_rows(masks, (n + 3) / 4, xs, width);
 }
 
 // The error of each equation of the sections A, b, y of a key at the witness x, 0 or 1 (question 11).

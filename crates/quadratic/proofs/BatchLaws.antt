@@ -21,8 +21,10 @@ use Rattle.strings.proofs.Rows.{row-end}
 use Rattle.strings.proofs.Meaning.{bit-is, bitOf-lt}
 use Rattle.strings.proofs.ProductLaws.{product-lt}
 use Rattle.lanes.specs.Lanes.{lanes, laneAt}
-use Rattle.batching.specs.Stacks.{product, batchedByte, columnByte}
-use Rattle.batching.proofs.StackLaws.{sum-xor, product-comm}
+use Rattle.chunks.proofs.BitSumLaws.{sum-xor}
+use Rattle.columns.specs.Stacks.{product}
+use Rattle.columns.proofs.ProductLaws.{product-comm}
+use Rattle.batching.specs.Batched.{batchedByte, columnByte}
 use Rattle.batching.proofs.FormLaws.{batch-first, product-scale, product-one, product-lt as factor-lt}
 use Rattle.equations.specs.Equations.{rowProduct, rowOf, matrixOf}
 use Rattle.equations.proofs.RowLaws.{row-bit, block-length, row-sum}

@@ -9,8 +9,8 @@ ghost use Rattle.field.specs.Gf256.{gf256};
 ghost use Rattle.protocol.specs.Strings.{bytesFor, bit};
 ghost use Rattle.strings.specs.Sums.{byteAt, xorSum, selected};
 ghost use Rattle.lanes.specs.Lanes.{lanes, laneAt, maskLane, maskBits};
-ghost use Rattle.batching.specs.Chunks.{chunk};
-ghost use Rattle.batching.specs.Stacks.{Spread};
+ghost use Rattle.chunks.specs.Chunks.{chunk};
+ghost use Rattle.masked.specs.Spread.{Spread};
 ghost use Rattle.equations.specs.Equations.{rowProduct, rowOf, matrixOf};
 ghost use Rattle.quadratic.specs.Forms.{formByte};
 ghost use Rattle.quadratic.specs.Batch.{batchByte, qs0Byte, qs1Byte};
@@ -51,7 +51,7 @@ pub fn batch_forms(
     let mut offsets = [0u16; OFFSETS];
     let mut rest = [0u8; LANES];
     let ones = [1u8; LANES];
-    batching::offsets::fill_offsets(&mut offsets, chi, m, groups, tau);
+    choices::offsets::fill_offsets(&mut offsets, chi, m, groups, tau);
     batching::forms::add_forms(
         quad,
         right,
@@ -94,7 +94,7 @@ fn fill_row(rows: &mut [u8], i: usize, a: &[u8], b: &[u8], masks: &[u8], n: usiz
     let size = n * width;
     let matrix = strings::row_at(a, size, i);
     let row = strings::row_at(b, width, i);
-    batching::witness::witness_row(&mut rows[at..at + width], matrix, row, masks, n);
+    masked::witness_row(&mut rows[at..at + width], matrix, row, masks, n);
 }
 
 // Row i becomes b + xᵀ·A of equation i, for each of the m equations.

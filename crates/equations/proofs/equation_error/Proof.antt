@@ -11,7 +11,7 @@ use lib.Bits.{bitXor}
 use Rattle.protocol.specs.Strings.{bytesFor, bit}
 use Rattle.protocol.proofs.StringLaws.{bit-lt}
 use Rattle.strings.specs.Sums.{byteAt, xorSum}
-use Rattle.batching.specs.Stacks.{Spread}
+use Rattle.masked.specs.Spread.{Spread}
 use Rattle.equations.proofs.RowLaws.{error-by-row}
 use Rattle.equations.proofs.equation_error.Statement.{statement}
 use Rattle.equations.proofs.equation_error.Tie as tie

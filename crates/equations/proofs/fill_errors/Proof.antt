@@ -13,7 +13,7 @@ use Rattle.protocol.specs.Strings.{bytesFor, bit}
 use Rattle.strings.specs.Sums.{byteAt}
 use Rattle.strings.proofs.Elementwise.{changed, changed-more, changed-all}
 use Rattle.strings.proofs.Rows.{row-end}
-use Rattle.batching.specs.Stacks.{Spread}
+use Rattle.masked.specs.Spread.{Spread}
 use Rattle.equations.specs.Equations.{errorBit, errorOf}
 use Rattle.equations.proofs.fill_errors.Statement.{statement}
 use Rattle.equations.proofs.fill_errors.Tie as tie

@@ -11,8 +11,10 @@ use lib.Bits.{bitXor, xor-zero-l}
 use Rattle.strings.specs.Sums.{byteAt, xorSum}
 use Rattle.strings.proofs.SumLaws.{sum-same}
 use Rattle.lanes.specs.Lanes.{laneAt}
-use Rattle.batching.specs.Stacks.{product, stackOf, Chosen, foldOf, batchedByte, columnByte}
-use Rattle.batching.proofs.ColumnLaws.{stack-none, column-is}
+use Rattle.choices.specs.Entries.{Chosen}
+use Rattle.columns.specs.Stacks.{product, stackOf, foldOf}
+use Rattle.batching.specs.Batched.{batchedByte, columnByte}
+use Rattle.batching.proofs.StackLaws.{stack-none, column-is}
 use Rattle.batching.proofs.forms.add_forms.Statement.{statement}
 use Rattle.batching.proofs.forms.add_forms.Tie as tie
 

@@ -13,10 +13,11 @@ use Rattle.strings.specs.Sums.{byteAt, bitOf, xorSum}
 use Rattle.strings.proofs.Rows.{row-end, row-byte}
 use Rattle.strings.proofs.SumLaws.{sum-same, sum-step}
 use Rattle.strings.proofs.Meaning.{bitOf-lt, bitOf-sum, bit-times}
-use Rattle.batching.specs.Chunks.{chunk, cellAt}
-use Rattle.batching.specs.Stacks.{stack, alpha, product, stackAt, Masks, Weighed}
+use Rattle.chunks.specs.Chunks.{chunk, cellAt, Masks}
+use Rattle.choices.specs.Entries.{Weighed}
+use Rattle.choices.proofs.ChoiceLaws.{chosen-sum}
+use Rattle.columns.specs.Stacks.{stack, alpha, product, stackAt}
 use Rattle.batching.proofs.StackLaws.{planes-added}
-use Rattle.batching.proofs.ChoiceLaws.{chosen-sum}
 use Rattle.batching.proofs.stacks.absorb.Statement.{statement}
 use Rattle.batching.proofs.stacks.absorb.Tie as tie
 

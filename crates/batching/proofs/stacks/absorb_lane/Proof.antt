@@ -14,9 +14,10 @@ use Rattle.protocol.specs.Lists.{part, blockAt}
 use Rattle.strings.specs.Sums.{byteAt, bitOf, xorSum}
 use Rattle.strings.proofs.Rows.{row-byte, row-end, put-in, put-other}
 use Rattle.lanes.specs.Lanes.{lanes, laneAt}
-use Rattle.batching.specs.Chunks.{chunk, cellAt}
-use Rattle.batching.specs.Stacks.{stack, product, stackAt, stackOf, Masks, Weighed}
-use Rattle.batching.proofs.ColumnLaws.{stack-is}
+use Rattle.chunks.specs.Chunks.{chunk, cellAt, Masks}
+use Rattle.choices.specs.Entries.{Weighed}
+use Rattle.columns.specs.Stacks.{stack, product, stackAt, stackOf}
+use Rattle.batching.proofs.StackLaws.{stack-is}
 use Rattle.batching.proofs.stacks.absorb_lane.Statement.{statement}
 use Rattle.batching.proofs.stacks.absorb_lane.Tie as tie
 

@@ -14,9 +14,10 @@ use lib.Bits.{bitXor}
 use Rattle.strings.specs.Sums.{byteAt, bitOf, xorSum}
 use Rattle.strings.proofs.Rows.{row-end}
 use Rattle.lanes.specs.Lanes.{laneAt}
-use Rattle.batching.specs.Chunks.{chunk, cellAt}
-use Rattle.batching.specs.Stacks.{stack, product, stackOf, Weighed}
-use Rattle.batching.proofs.ColumnLaws.{stack-same}
+use Rattle.chunks.specs.Chunks.{chunk, cellAt}
+use Rattle.choices.specs.Entries.{Weighed}
+use Rattle.columns.specs.Stacks.{stack, product, stackOf}
+use Rattle.batching.proofs.StackLaws.{stack-same}
 use Rattle.batching.proofs.stacks.absorb_lanes.Statement.{statement}
 use Rattle.batching.proofs.stacks.absorb_lanes.Tie as tie
 

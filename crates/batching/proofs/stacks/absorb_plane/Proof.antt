@@ -15,8 +15,8 @@ use Rattle.field.proofs.ProductLaws.{mask-times}
 use Rattle.strings.specs.Sums.{byteAt, bitOf}
 use Rattle.strings.proofs.Rows.{row-byte}
 use Rattle.strings.proofs.Meaning.{bitOf-lt, bitOf-xor, times-bit}
-use Rattle.batching.specs.Chunks.{chunk, cellAt}
-use Rattle.batching.specs.Stacks.{stack, Masks}
+use Rattle.chunks.specs.Chunks.{chunk, cellAt, Masks}
+use Rattle.columns.specs.Stacks.{stack}
 use Rattle.batching.proofs.StackLaws.{plane-added}
 use Rattle.batching.proofs.stacks.absorb_plane.Statement.{statement}
 use Rattle.batching.proofs.stacks.absorb_plane.Tie as tie

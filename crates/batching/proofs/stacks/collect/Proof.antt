@@ -19,9 +19,11 @@ use Rattle.strings.proofs.Rows.{row-end, row-byte, row-lt}
 use Rattle.strings.proofs.SumLaws.{sum-same, sum-none, sum-step}
 use Rattle.strings.proofs.Meaning.{bitOf-zero}
 use Rattle.lanes.specs.Lanes.{laneAt}
-use Rattle.batching.specs.Chunks.{chunk, cellAt, Tabled}
-use Rattle.batching.specs.Stacks.{stack, product, stackOf, choice, Chosen, Weighed, batchedByte}
-use Rattle.batching.proofs.ColumnLaws.{stack-same}
+use Rattle.chunks.specs.Chunks.{chunk, cellAt}
+use Rattle.choices.specs.Entries.{Tabled, choice, Chosen, Weighed}
+use Rattle.columns.specs.Stacks.{stack, product, stackOf}
+use Rattle.batching.specs.Batched.{batchedByte}
+use Rattle.batching.proofs.StackLaws.{stack-same}
 use Rattle.batching.proofs.stacks.collect.Statement.{statement}
 use Rattle.batching.proofs.stacks.collect.Tie as tie
 

@@ -13,7 +13,7 @@ use Rattle.protocol.specs.Lists.{part, blockAt}
 use Rattle.protocol.specs.Strings.{bytesFor}
 use Rattle.strings.specs.Sums.{byteAt, xorSum}
 use Rattle.strings.proofs.Rows.{row-byte, put-in, put-other}
-use Rattle.batching.specs.Stacks.{Spread}
+use Rattle.masked.specs.Spread.{Spread}
 use Rattle.equations.specs.Equations.{matrixOf}
 use Rattle.quadratic.proofs.batch.fill_row.Statement.{statement}
 use Rattle.quadratic.proofs.batch.fill_row.Tie as tie

@@ -13,7 +13,7 @@ use lib.ListN.{length}
 use lib.Bits.{bitXor}
 use Rattle.strings.specs.Sums.{byteAt, xorSum}
 use Rattle.strings.proofs.Rows.{row-end}
-use Rattle.batching.specs.Stacks.{Spread}
+use Rattle.masked.specs.Spread.{Spread}
 use Rattle.equations.specs.Equations.{matrixOf}
 use Rattle.quadratic.proofs.batch.fill_rows.Statement.{statement}
 use Rattle.quadratic.proofs.batch.fill_rows.Tie as tie

@@ -1,0 +1,109 @@
+-- `choices::offsets::choose` meets its contract, by what its words mean.
+-- Assumes nothing.
+use borrow.Author.Needs.{needs}
+use Rattle.strings.specs.Sums.{bitOf}
+use Rattle.choices.specs.Entries.{choice}
+use Rattle.choices.proofs.offsets.choose.Statement.{statement}
+use Rattle.choices.proofs.offsets.choose.Tie as tie
+
+mul-at : tie.Need-mul-at
+mul-at c = search needs
+
+shared-slice-read-low : tie.Need-shared-slice-read-low
+shared-slice-read-low c = search needs
+
+cast-low : tie.Need-cast-low
+cast-low c = search needs
+
+shr-low : tie.Need-shr-low
+shr-low c = search needs
+
+add-low : tie.Need-add-low
+add-low c = search needs
+
+shared-slice-read-low-2 : tie.Need-shared-slice-read-low-2
+shared-slice-read-low-2 c = search needs
+
+cast-low-2 : tie.Need-cast-low-2
+cast-low-2 c = search needs
+
+shr-low-2 : tie.Need-shr-low-2
+shr-low-2 c = search needs
+
+mul-low : tie.Need-mul-low
+mul-low c = search needs
+
+add-low-2 : tie.Need-add-low-2
+add-low-2 c = search needs
+
+add-high : tie.Need-add-high
+add-high c = search needs
+
+shared-slice-read-high : tie.Need-shared-slice-read-high
+shared-slice-read-high c = search needs
+
+cast-high : tie.Need-cast-high
+cast-high c = search needs
+
+shr-high : tie.Need-shr-high
+shr-high c = search needs
+
+mul-high : tie.Need-mul-high
+mul-high c = search needs
+
+add-high-2 : tie.Need-add-high-2
+add-high-2 c = search needs
+
+shared-slice-read-high-2 : tie.Need-shared-slice-read-high-2
+shared-slice-read-high-2 c = search needs
+
+cast-high-2 : tie.Need-cast-high-2
+cast-high-2 c = search needs
+
+shr-high-2 : tie.Need-shr-high-2
+shr-high-2 c = search needs
+
+mul-high-2 : tie.Need-mul-high-2
+mul-high-2 c = search needs
+
+add-high-3 : tie.Need-add-high-3
+add-high-3 c = search needs
+
+add-result : tie.Need-add-result
+add-result c = search needs
+
+cast-result : tie.Need-cast-result
+cast-result c = search needs
+
+returns : tie.Need-returns
+unfolding choice bitOf
+returns c = search needs
+
+pub choose-spec : {M : Type 1} → statement M
+choose-spec =
+    tie.close
+    (tie.spec
+    mul-at
+    shared-slice-read-low
+    cast-low
+    shr-low
+    add-low
+    shared-slice-read-low-2
+    cast-low-2
+    shr-low-2
+    mul-low
+    add-low-2
+    add-high
+    shared-slice-read-high
+    cast-high
+    shr-high
+    mul-high
+    add-high-2
+    shared-slice-read-high-2
+    cast-high-2
+    shr-high-2
+    mul-high-2
+    add-high-3
+    add-result
+    cast-result
+    returns)

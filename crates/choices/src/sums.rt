@@ -1,0 +1,151 @@
+// Sums of the rows that public bits select. Four rows at a time, the sixteen sums of them are in a table, so that one addition serves four rows.
+ghost use mathlib.Core.Path.{_≡_};
+ghost use mathlib.Core.List.{List};
+ghost use Prim.Native.Nat.{ℕ, _+_, _*_, _/_, _%_, _^_, _<_, _≤_};
+ghost use lib.ListN.{length};
+ghost use lib.Bits.{bitXor};
+ghost use Rattle.strings.specs.Sums.{byteAt, xorSum};
+ghost use Rattle.chunks.specs.Chunks.{chunk, cellAt};
+ghost use Rattle.choices.specs.Entries.{entryByte, Tabled};
+use chunks::CHUNK;
+
+// The entries of the table of sums for four rows, one for each value of half a byte.
+const HALF: usize = 16;
+
+// The bytes that offsets count.
+pub const UNIT: usize = 16;
+
+fn wide(x: u16) -> usize
+    ensures { λ r. ⌜ r ≡ x ⌝ }
+{
+    x as usize
+}
+
+// dst[f] ^= s[at + f], for a chunk. The count is a constant, so that a caller's local array stays in registers.
+fn add_at(dst: &mut [u8; CHUNK], s: &[u8], at: usize)
+    requires { ⌜ (at + chunk ≤ length (now s)) × (length (now dst) ≡ chunk) ⌝ }
+    ensures { λ _. ⌜ length (now (dst .exit)) ≡ chunk ⌝ }
+    ensures { λ _. ⌜ ((f : ℕ) → f < chunk → byteAt (now (dst .exit)) f ≡ bitXor (byteAt (now (dst .entry)) f) (byteAt (now (s .entry)) (at + f))) ⌝ }
+{
+    let mut f = 0;
+    while f < CHUNK {
+        dst[f] ^= s[at + f];
+        f += 1;
+    }
+}
+
+// Adds row c of the table. Rows from n on are 0.
+fn add_row(dst: &mut [u8; CHUNK], c: usize, n: usize, table: &[u8])
+    requires { ⌜ (length (now dst) ≡ chunk) × (length (now table) ≡ n * chunk) ⌝ }
+    ensures { λ _. ⌜ length (now (dst .exit)) ≡ chunk ⌝ }
+    ensures { λ _. ⌜ ((f : ℕ) → f < chunk → byteAt (now (dst .exit)) f ≡ bitXor (byteAt (now (dst .entry)) f) (cellAt (now (table .entry)) c f)) ⌝ }
+{
+    if c < n {
+        add_at(dst, table, c * CHUNK);
+    }
+}
+
+fn store(sums: &mut [u8], k: usize, src: &[u8; CHUNK])
+    requires { ⌜ (k * chunk + chunk ≤ length (now sums)) × (length (now src) ≡ chunk) ⌝ }
+    ensures { λ _. ⌜ ((f : ℕ) → f < chunk → cellAt (now (sums .exit)) k f ≡ byteAt (now (src .entry)) f) ⌝ }
+    ensures { λ _. ⌜ ((q f : ℕ) → (q ≡ k → ⊥) → f < chunk → cellAt (now (sums .exit)) q f ≡ cellAt (now (sums .entry)) q f) ⌝ }
+{
+    let at = k * CHUNK;
+    copy_chunk(&mut sums[at..at + CHUNK], src);
+}
+
+// Entry `to` becomes entry `from` plus a row.
+fn fill_entry(sums: &mut [u8], from: usize, to: usize, row: &[u8; CHUNK])
+    requires { ⌜ (from * chunk + chunk ≤ length (now sums)) × (to * chunk + chunk ≤ length (now sums)) × (length (now row) ≡ chunk) ⌝ }
+    ensures { λ _. ⌜ ((f : ℕ) → f < chunk → cellAt (now (sums .exit)) to f ≡ bitXor (cellAt (now (sums .entry)) from f) (byteAt (now (row .entry)) f)) ⌝ }
+    ensures { λ _. ⌜ ((q f : ℕ) → (q ≡ to → ⊥) → f < chunk → cellAt (now (sums .exit)) q f ≡ cellAt (now (sums .entry)) q f) ⌝ }
+{
+    let mut sum = [0u8; CHUNK];
+    add_at(&mut sum, sums, from * CHUNK);
+    add_at(&mut sum, row, 0);
+    store(sums, to, &sum);
+}
+
+// The `count` entries from base on, each plus a row, become the next as many.
+fn fill_next(sums: &mut [u8], base: usize, count: usize, row: &[u8; CHUNK])
+    requires { ⌜ ((base + count + count) * chunk ≤ length (now sums)) × (length (now row) ≡ chunk) ⌝ }
+    ensures { λ _. ⌜ ((v f : ℕ) → v < count → f < chunk → cellAt (now (sums .exit)) (base + count + v) f ≡ bitXor (cellAt (now (sums .entry)) (base + v) f) (byteAt (now (row .entry)) f)) ⌝ }
+    ensures { λ _. ⌜ ((q f : ℕ) → q < base + count → f < chunk → cellAt (now (sums .exit)) q f ≡ cellAt (now (sums .entry)) q f) ⌝ }
+{
+    let mut v = 0;
+    while v < count {
+        fill_entry(sums, base + v, base + count + v, row);
+        v += 1;
+    }
+}
+
+// The sixteen sums of four rows: with each row the sums so far are doubled.
+fn fill_group(sums: &mut [u8], g: usize, n: usize, table: &[u8])
+    requires { ⌜ ((g * 16 + 16) * chunk ≤ length (now sums)) × (length (now table) ≡ n * chunk) ⌝ }
+    ensures { λ _. ⌜ ((v f : ℕ) → v < 16 → f < chunk → cellAt (now (sums .exit)) (g * 16 + v) f ≡ entryByte (now (table .entry)) (g * 16 + v) f) ⌝ }
+    ensures { λ _. ⌜ ((q f : ℕ) → q < g * 16 → f < chunk → cellAt (now (sums .exit)) q f ≡ cellAt (now (sums .entry)) q f) ⌝ }
+{
+    let zero = [0u8; CHUNK];
+    store(sums, g * HALF, &zero);
+    let mut count = 1;
+    let mut s = 0;
+    while s < 4 {
+        let mut row = [0u8; CHUNK];
+        add_row(&mut row, g * 4 + s, n, table);
+        fill_next(sums, g * HALF, count, &row);
+        count *= 2;
+        s += 1;
+    }
+}
+
+// The table of sums of the n rows, sixteen entries for each four of them. Made once, it serves every plane of every repetition.
+pub fn fill_sums(sums: &mut [u8], groups: usize, n: usize, table: &[u8])
+    requires { ⌜ (groups * 16 * chunk ≤ length (now sums)) × (length (now table) ≡ n * chunk) ⌝ }
+    ensures { λ _. ⌜ Tabled (now (table .entry)) (now (sums .exit)) (groups * 16) ⌝ }
+{
+    let mut g = 0;
+    while g < groups {
+        fill_group(sums, g, n, table);
+        g += 1;
+    }
+}
+
+fn copy_chunk(out: &mut [u8], src: &[u8; CHUNK])
+    requires { ⌜ length (now out) ≡ chunk ⌝ }
+    ensures { λ _. ⌜ ((e : ℕ) → e < chunk → byteAt (now (out .exit)) e ≡ byteAt (now (src .entry)) e) ⌝ }
+{
+    let mut e = 0;
+    while e < CHUNK {
+        out[e] = src[e];
+        e += 1;
+    }
+}
+
+// out[f] = the sum of byte f of the entries that stand at the offsets, two at a time.
+pub fn look_up(out: &mut [u8], offsets: &[u16], sums: &[u8])
+    requires { ⌜ (length (now out) ≡ chunk) × (length (now offsets) % 2 ≡ 0) × ((g : ℕ) → g < length (now offsets) → byteAt (now offsets) g * 16 + chunk ≤ length (now sums)) ⌝ }
+    ensures { λ _. ⌜ ((f : ℕ) → f < chunk → byteAt (now (out .exit)) f ≡ xorSum (length (now (offsets .entry))) (λ g. byteAt (now (sums .entry)) (byteAt (now (offsets .entry)) g * 16 + f))) ⌝ }
+{
+    let mut sum = [0u8; CHUNK];
+    let mut g = 0;
+    while g < offsets.len() {
+        add_at(&mut sum, sums, wide(offsets[g]) * UNIT);
+        add_at(&mut sum, sums, wide(offsets[g + 1]) * UNIT);
+        g += 2;
+    }
+    copy_chunk(out, &sum);
+}
+
+// dst[f] ^= sums[f] for a chunk. As the first entry is 0 this changes nothing; but it is an access to the start of two arrays, from which the
+// compiler learns that it may align them, and so add from memory at once.
+pub fn add_first(dst: &mut [u8], sums: &[u8])
+    requires { ⌜ (chunk ≤ length (now dst)) × (chunk ≤ length (now sums)) ⌝ }
+    ensures { λ _. ⌜ ((f : ℕ) → f < chunk → byteAt (now (dst .exit)) f ≡ bitXor (byteAt (now (dst .entry)) f) (byteAt (now (sums .entry)) f)) ⌝ }
+    ensures { λ _. ⌜ ((f : ℕ) → chunk ≤ f → byteAt (now (dst .exit)) f ≡ byteAt (now (dst .entry)) f) ⌝ }
+{
+    let mut f = 0;
+    while f < CHUNK {
+        dst[f] ^= sums[f];
+        f += 1;
+    }
+}

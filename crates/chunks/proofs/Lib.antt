@@ -1,0 +1,2 @@
+pub mod BitSumLaws
+pub mod BlockLaws

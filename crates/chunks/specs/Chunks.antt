@@ -1,0 +1,17 @@
+-- Rows of one length, the chunk, side by side in a table.
+--   chunk == the bytes of a chunk: four rows of a matrix of at most 160 variables;  cellAt S i f == byte f of row i
+--   Masks v masks == masks holds eight masks: byte f of mask b is 255 where bit b of byte f of v is set, and 0 elsewhere
+-- Assumes nothing.
+use mathlib.Core.Path.{_≡_}
+use mathlib.Core.List.{List}
+use Prim.Native.Nat.{ℕ, _+_, _*_, _<_}
+use Rattle.strings.specs.Sums.{byteAt, bitOf}
+
+abbrev pub chunk : ℕ
+chunk = 80
+
+abbrev pub cellAt : List ℕ → ℕ → ℕ → ℕ
+cellAt S i f = byteAt S (i * chunk + f)
+
+abbrev pub Masks : List ℕ → List ℕ → Type 0
+Masks v masks = (b f : ℕ) → b < 8 → f < chunk → byteAt masks (b * chunk + f) ≡ bitOf (byteAt v f) b * 255

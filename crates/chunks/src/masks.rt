@@ -1,0 +1,81 @@
+// Chunks under masks, whose bytes are 255 or 0. What the masks are made of may be secret: no branch and no index goes by it.
+ghost use mathlib.Core.Path.{_≡_};
+ghost use Prim.Native.Nat.{ℕ, _+_, _*_, _<_, _≤_};
+ghost use lib.ListN.{length};
+ghost use lib.Bits.{bitXor, bitAnd};
+ghost use Rattle.strings.specs.Sums.{byteAt, bitOf};
+ghost use Rattle.chunks.specs.Chunks.{chunk, cellAt, Masks};
+use super::CHUNK;
+
+fn fill(dst: &mut [u8], x: u8)
+    ensures { λ _. ⌜ ((f : ℕ) → f < length (now (dst .entry)) → byteAt (now (dst .exit)) f ≡ x) ⌝ }
+{
+    let mut f = 0;
+    while f < dst.len() {
+        dst[f] = x;
+        f += 1;
+    }
+}
+
+pub fn fill_part(dst: &mut [u8], g: usize, w: usize, x: u8)
+    requires { ⌜ g * w + w ≤ length (now dst) ⌝ }
+    ensures { λ _. ⌜ ((j : ℕ) → j < w → byteAt (now (dst .exit)) (g * w + j) ≡ x) ⌝ }
+    ensures { λ _. ⌜ ((q j : ℕ) → (q ≡ g → ⊥) → j < w → byteAt (now (dst .exit)) (q * w + j) ≡ byteAt (now (dst .entry)) (q * w + j)) ⌝ }
+{
+    let at = g * w;
+    fill(&mut dst[at..at + w], x);
+}
+
+// out[f] is 255 where bit b of v[f] is set, and 0 elsewhere.
+fn fill_mask(out: &mut [u8], v: &[u8], b: usize)
+    requires { ⌜ (length (now out) ≡ chunk) × (length (now v) ≡ chunk) × (b < 8) ⌝ }
+    ensures { λ _. ⌜ ((f : ℕ) → f < chunk → byteAt (now (out .exit)) f ≡ bitOf (byteAt (now (v .entry)) f) b * 255) ⌝ }
+{
+    let mut f = 0;
+    while f < CHUNK {
+        out[f] = (v[f] >> b) % 2 * 255;
+        f += 1;
+    }
+}
+
+fn fill_mask_at(masks: &mut [u8], v: &[u8], b: usize)
+    requires { ⌜ (length (now masks) ≡ 8 * chunk) × (length (now v) ≡ chunk) × (b < 8) ⌝ }
+    ensures { λ _. ⌜ ((f : ℕ) → f < chunk → byteAt (now (masks .exit)) (b * chunk + f) ≡ bitOf (byteAt (now (v .entry)) f) b * 255) ⌝ }
+    ensures { λ _. ⌜ ((q f : ℕ) → (q ≡ b → ⊥) → f < chunk → byteAt (now (masks .exit)) (q * chunk + f) ≡ byteAt (now (masks .entry)) (q * chunk + f)) ⌝ }
+{
+    let at = b * CHUNK;
+    fill_mask(&mut masks[at..at + CHUNK], v, b);
+}
+
+pub fn fill_masks(masks: &mut [u8], v: &[u8])
+    requires { ⌜ (length (now masks) ≡ 8 * chunk) × (length (now v) ≡ chunk) ⌝ }
+    ensures { λ _. ⌜ Masks (now (v .entry)) (now (masks .exit)) ⌝ }
+{
+    let mut b = 0;
+    while b < 8 {
+        fill_mask_at(masks, v, b);
+        b += 1;
+    }
+}
+
+// dst[f] ^= m[f] & mask[f], for each byte of a chunk.
+pub fn xor_and(dst: &mut [u8], m: &[u8], mask: &[u8])
+    requires { ⌜ (length (now dst) ≡ chunk) × (length (now m) ≡ chunk) × (length (now mask) ≡ chunk) ⌝ }
+    ensures { λ _. ⌜ ((f : ℕ) → f < chunk → byteAt (now (dst .exit)) f ≡ bitXor (byteAt (now (dst .entry)) f) (bitAnd (byteAt (now (m .entry)) f) (byteAt (now (mask .entry)) f))) ⌝ }
+{
+    let mut f = 0;
+    while f < CHUNK {
+        dst[f] ^= m[f] & mask[f];
+        f += 1;
+    }
+}
+
+// The same for row s of a table.
+pub fn xor_and_row(t: &mut [u8], s: usize, m: &[u8], mask: &[u8])
+    requires { ⌜ (s * chunk + chunk ≤ length (now t)) × (length (now m) ≡ chunk) × (length (now mask) ≡ chunk) ⌝ }
+    ensures { λ _. ⌜ ((f : ℕ) → f < chunk → cellAt (now (t .exit)) s f ≡ bitXor (cellAt (now (t .entry)) s f) (bitAnd (byteAt (now (m .entry)) f) (byteAt (now (mask .entry)) f))) ⌝ }
+    ensures { λ _. ⌜ ((q f : ℕ) → (q ≡ s → ⊥) → f < chunk → cellAt (now (t .exit)) q f ≡ cellAt (now (t .entry)) q f) ⌝ }
+{
+    let at = s * CHUNK;
+    xor_and(&mut t[at..at + CHUNK], m, mask);
+}
