@@ -10,11 +10,12 @@ use lib.ListN.{length, List·getD-eq-default}
 use lib.Bits.{bitXor, xor-comm}
 use Rattle.strings.specs.Sums.{byteAt, bitOf, xorSum}
 use Rattle.strings.proofs.XorLaws.{xor-assoc}
-use Rattle.strings.proofs.SumLaws.{sum-same, sum-parts, sum-none}
+use Rattle.strings.proofs.SumLaws.{sum-same, sum-parts, sum-none, sum-both, xor-scale}
 use Rattle.strings.proofs.Meaning.{bitOf-lt, bitOf-zero}
+use Rattle.strings.proofs.ProductLaws.{bit-times-lt}
 use Rattle.lanes.specs.Lanes.{lanes, laneAt}
 use Rattle.chunks.specs.Chunks.{chunk}
-use Rattle.chunks.proofs.BitSumLaws.{sum-xor, sum-swap, times-xor, times-sum, bit-sum, bits-times, rows-by-four}
+use Rattle.chunks.proofs.BitSumLaws.{sum-swap, times-sum, bit-sum, rows-by-four}
 use Rattle.columns.specs.Stacks.{stack, alpha, product, stackAt, stackOf, foldOf}
 use Rattle.columns.proofs.ProductLaws.{product-comm, product-zero, alpha-add, byte-bits, product-bits}
 use Rattle.batching.specs.Batched.{batchedByte, columnByte}
@@ -50,8 +51,8 @@ module _ (p v y : ℕ) (β β′ : ℕ → ℕ) (hp : p < 8) (hv : v < 256) (hy 
   middle : xorSum 8 (λ i. β′ (p + i) * alpha (p + i)) ≡ bitXor (xorSum 8 (λ i. β (p + i) * alpha (p + i))) (y * product (alpha p) v)
   middle =
       sum-same 8 _ (λ i. bitXor (β (p + i) * alpha (p + i)) (y * bitOf v i * alpha (p + i)))
-      (λ i l. ap (λ x. x * alpha (p + i)) (here i l) ∙ times-xor (β (p + i)) (y * bitOf v i) (alpha (p + i)) (bits (p + i)) (small i))
-      ∙ sum-xor 8 (λ i. β (p + i) * alpha (p + i)) (λ i. y * bitOf v i * alpha (p + i))
+      (λ i l. ap (λ x. x * alpha (p + i)) (here i l) ∙ xor-scale (β (p + i)) (y * bitOf v i) (alpha (p + i)) (bits (p + i)) (small i))
+      ∙ sum-both 8 (λ i. β (p + i) * alpha (p + i)) (λ i. y * bitOf v i * alpha (p + i))
       ∙ ap (bitXor (xorSum 8 (λ i. β (p + i) * alpha (p + i)))) added
 
   pub plane-added : xorSum 15 (λ s. β′ s * alpha s) ≡ bitXor (xorSum 15 (λ s. β s * alpha s)) (y * product (alpha p) v)
@@ -70,7 +71,7 @@ order a b x = ap (λ y. y * x) (mul-comm a b) ∙ mul-assoc b a x
 pub planes-added : (m v : ℕ) (χ y : ℕ → ℕ) → ((i : ℕ) → i < m → χ i < 256) → ((i : ℕ) → y i < 2)
     → xorSum 8 (λ p. xorSum m (λ i. bitOf (χ i) p * y i) * product (alpha p) v) ≡ product v (xorSum m (λ i. y i * χ i))
 planes-added m v χ y small bits =
-    sum-same 8 _ (λ p. xorSum m (λ i. bitOf (χ i) p * y i * product (alpha p) v)) (λ p l. times-sum m (λ i. bitOf (χ i) p * y i) (product (alpha p) v) (λ i. bits-times (bitOf (χ i) p) (y i) (bitOf-lt (χ i) p) (bits i)))
+    sum-same 8 _ (λ p. xorSum m (λ i. bitOf (χ i) p * y i * product (alpha p) v)) (λ p l. times-sum m (λ i. bitOf (χ i) p * y i) (product (alpha p) v) (λ i. bit-times-lt (bitOf (χ i) p) (y i) (bitOf-lt (χ i) p) (bits i)))
     ∙ sum-swap 8 m (λ p i. bitOf (χ i) p * y i * product (alpha p) v)
     ∙ sum-same m _ (λ i. y i * product v (χ i)) (λ i l.
     sum-same 8 _ (λ p. y i * (bitOf (χ i) p * product v (alpha p))) (λ p k. order (bitOf (χ i) p) (y i) (product (alpha p) v) ∙ ap (λ x. y i * (bitOf (χ i) p * x)) (product-comm (alpha p) v))

@@ -9,11 +9,10 @@ use native.Mathlib.Omega.{arith}
 use lib.Dec.{lit<}
 use lib.Bits.{bitXor, xor-shifted, xor-zero-r, xor-zero-l, xor-comm}
 use Rattle.strings.specs.Sums.{byteAt, bitOf, xorSum}
-use Rattle.strings.proofs.SumLaws.{sum-same, sum-none}
+use Rattle.strings.proofs.SumLaws.{sum-same, sum-none, sum-both, xor-scale}
 use Rattle.strings.proofs.BitLaws.{place-same, place-other}
 use Rattle.strings.proofs.Meaning.{bitOf-lt, bitOf-xor, bitOf-zero}
 use Rattle.chunks.specs.Chunks.{chunk, cellAt}
-use Rattle.chunks.proofs.BitSumLaws.{sum-xor, times-xor}
 use Rattle.choices.specs.Entries.{entryByte, Tabled}
 
 sum-only : (n d : ℕ) (f : ℕ → ℕ) → d < n → ((i : ℕ) → (i ≡ d → ⊥) → f i ≡ 0) → xorSum n f ≡ f d
@@ -31,8 +30,8 @@ module _ (x : ℕ → ℕ) (s u : ℕ) (hs : s < 4) (hu : u < 2 ^ s) where
 
   pub with-top : xorSum 4 (λ j. bitOf (2 ^ s + u) j * x j) ≡ bitXor (xorSum 4 (λ j. bitOf u j * x j)) (x s)
   with-top =
-      sum-same 4 _ (λ j. bitXor (bitOf (1 * 2 ^ s) j * x j) (bitOf u j * x j)) (λ j l. ap (λ b. b * x j) (one-bit j) ∙ times-xor (bitOf (1 * 2 ^ s) j) (bitOf u j) (x j) (bitOf-lt (1 * 2 ^ s) j) (bitOf-lt u j))
-      ∙ sum-xor 4 (λ j. bitOf (1 * 2 ^ s) j * x j) (λ j. bitOf u j * x j)
+      sum-same 4 _ (λ j. bitXor (bitOf (1 * 2 ^ s) j * x j) (bitOf u j * x j)) (λ j l. ap (λ b. b * x j) (one-bit j) ∙ xor-scale (bitOf (1 * 2 ^ s) j) (bitOf u j) (x j) (bitOf-lt (1 * 2 ^ s) j) (bitOf-lt u j))
+      ∙ sum-both 4 (λ j. bitOf (1 * 2 ^ s) j * x j) (λ j. bitOf u j * x j)
       ∙ xor-comm (xorSum 4 (λ j. bitOf (1 * 2 ^ s) j * x j)) (xorSum 4 (λ j. bitOf u j * x j))
       ∙ ap (bitXor (xorSum 4 (λ j. bitOf u j * x j)))
       (sum-only 4 s (λ j. bitOf (1 * 2 ^ s) j * x j) hs (λ j other. ap (λ b. b * x j) (place-other 1 s j (lit< tt) other) ∙ zero-mul (x j))

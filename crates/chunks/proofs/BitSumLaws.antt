@@ -8,25 +8,14 @@ use lib.Dec.{lit<}
 use lib.Bits.{bitXor, xor-zero-r, xor-self, xor-comm}
 use Rattle.strings.specs.Sums.{xorSum}
 use Rattle.strings.proofs.XorLaws.{xor-assoc}
-use Rattle.strings.proofs.SumLaws.{sum-same, sum-parts, sum-short, sum-none, sum-lt}
+use Rattle.strings.proofs.SumLaws.{sum-same, sum-both, sum-parts, sum-short, sum-none, sum-lt, xor-scale}
 
 -- ---- sums
-
-pub xor-four : (a b c d : ℕ) → bitXor (bitXor a b) (bitXor c d) ≡ bitXor (bitXor a c) (bitXor b d)
-xor-four a b c d =
-    xor-assoc a b (bitXor c d)
-    ∙ ap (bitXor a) (sym (xor-assoc b c d) ∙ ap (λ x. bitXor x d) (xor-comm b c) ∙ xor-assoc c b d)
-    ∙ sym (xor-assoc a c (bitXor b d))
-
-pub sum-xor : (n : ℕ) (f g : ℕ → ℕ) → xorSum n (λ i. bitXor (f i) (g i)) ≡ bitXor (xorSum n f) (xorSum n g)
-unfolding xorSum
-sum-xor zero f g = refl
-sum-xor (suc n) f g = ap (λ x. bitXor x (bitXor (f n) (g n))) (sum-xor n f g) ∙ xor-four (xorSum n f) (xorSum n g) (f n) (g n)
 
 pub sum-swap : (n m : ℕ) (f : ℕ → ℕ → ℕ) → xorSum n (λ i. xorSum m (λ j. f i j)) ≡ xorSum m (λ j. xorSum n (λ i. f i j))
 unfolding xorSum
 sum-swap zero m f = sym (sum-none m)
-sum-swap (suc n) m f = ap (λ x. bitXor x (xorSum m (λ j. f n j))) (sum-swap n m f) ∙ sym (sum-xor m (λ j. xorSum n (λ i. f i j)) (f n))
+sum-swap (suc n) m f = ap (λ x. bitXor x (xorSum m (λ j. f n j))) (sum-swap n m f) ∙ sym (sum-both m (λ j. xorSum n (λ i. f i j)) (f n))
 
 pub sum-blocks : (n w : ℕ) (f : ℕ → ℕ) → xorSum n (λ i. xorSum w (λ j. f (i * w + j))) ≡ xorSum (n * w) f
 unfolding xorSum
@@ -36,30 +25,18 @@ sum-blocks (suc n) w f =
 
 -- ---- products with a bit
 
-pub times-xor : (a b x : ℕ) → a < 2 → b < 2 → bitXor a b * x ≡ bitXor (a * x) (b * x)
-times-xor zero b x h k = ap (λ y. bitXor y (b * x)) (sym (zero-mul x))
-times-xor (suc zero) zero x h k = sym (ap (bitXor (1 * x)) (zero-mul x) ∙ xor-zero-r (1 * x))
-times-xor (suc zero) (suc zero) x h k = zero-mul x ∙ sym (xor-self (1 * x))
-times-xor (suc zero) (suc (suc b)) x h k = absurd (omega arith)
-times-xor (suc (suc a)) b x h k = absurd (omega arith)
-
 pub bits-lt : (n : ℕ) (q : ℕ → ℕ) → ((i : ℕ) → q i < 2) → xorSum n q < 2
 bits-lt n q h = sum-lt 1 n q (lit< tt) (λ i l. h i)
 
 pub times-sum : (n : ℕ) (q : ℕ → ℕ) (x : ℕ) → ((i : ℕ) → q i < 2) → xorSum n q * x ≡ xorSum n (λ i. q i * x)
 unfolding xorSum
 times-sum zero q x h = zero-mul x
-times-sum (suc n) q x h = times-xor (xorSum n q) (q n) x (bits-lt n q h) (h n) ∙ ap (λ y. bitXor y (q n * x)) (times-sum n q x h)
+times-sum (suc n) q x h = xor-scale (xorSum n q) (q n) x (bits-lt n q h) (h n) ∙ ap (λ y. bitXor y (q n * x)) (times-sum n q x h)
 
 pub bit-sum : (q n : ℕ) (f : ℕ → ℕ) → q < 2 → q * xorSum n f ≡ xorSum n (λ i. q * f i)
 bit-sum zero n f h = zero-mul _ ∙ sym (sum-same n _ (λ i. 0) (λ i l. zero-mul (f i)) ∙ sum-none n)
 bit-sum (suc zero) n f h = one-mul _ ∙ sum-same n _ _ (λ i l. sym (one-mul (f i)))
 bit-sum (suc (suc q)) n f h = absurd (omega arith)
-
-pub bits-times : (a b : ℕ) → a < 2 → b < 2 → a * b < 2
-bits-times zero b h k = rw (zero-mul b) (lit< tt)
-bits-times (suc zero) b h k = rw (one-mul b) k
-bits-times (suc (suc a)) b h k = absurd (omega arith)
 
 -- rows taken four at a time, and none past the last
 pub rows-by-four : (n : ℕ) (h : ℕ → ℕ) → ((ρ : ℕ) → n ≤ ρ → h ρ ≡ 0) → xorSum 4 (λ g. xorSum ((n + 3) / 4) (λ k. h (k * 4 + g))) ≡ xorSum n h

@@ -19,7 +19,7 @@ use Rattle.protocol.specs.Strings.{bit, spareZero}
 use Rattle.protocol.proofs.StringLaws.{bit-lt}
 use Rattle.strings.specs.Sums.{byteAt, xorSum, selected}
 use Rattle.strings.proofs.SumLaws.{sum-same, sum-past}
-use Rattle.strings.proofs.Meaning.{byte-sum}
+use Rattle.strings.proofs.Meaning.{byte-sum, byte-bit, byte-scale}
 use Rattle.lanes.specs.Lanes.{lanes, laneAt}
 use Rattle.equations.specs.Equations.{rowProduct}
 use Rattle.equations.proofs.BlockLaws.{bit-past, spare-past}
@@ -31,19 +31,8 @@ module _ (C : Coded) where
 
   infixl 65 _⊕_
   infixl 70 _⊗_
-  pub byte-bit : (q : ℕ) → q < 2 → byte (elem q) ≡ q
-  byte-bit q h = C .byte-elem q (omega (arith, base .four≤size))
-
   pub byte-product : (a b : F) → byte (a ⊗ b) ≡ mulByte C (byte a) (byte b)
   byte-product a b = ap₂ (λ x y. byte (x ⊗ y)) (sym (C .elem-byte a)) (sym (C .elem-byte b))
-
-  none : (a : F) → 𝟘 ⊗ a ≡ 𝟘
-  none a = simp ring
-
-  pub byte-scale : (q : ℕ) (a : F) → q < 2 → byte (elem q ⊗ a) ≡ q * byte a
-  byte-scale zero a h = ap byte (ap (λ x. x ⊗ a) (C .elem-zero) ∙ none a ∙ sym (C .elem-zero)) ∙ byte-bit 0 h ∙ sym (zero-mul (byte a))
-  byte-scale (suc zero) a h = ap byte (ap (λ x. x ⊗ a) (C .elem-one) ∙ R .mul-comm 𝟙 a ∙ R .mul-one a) ∙ sym (one-mul (byte a))
-  byte-scale (suc (suc q)) a h = absurd (omega arith)
 
   abbrev pub bitsOf : List ℕ → ℕ → F
   bitsOf x c = elem (bit x c)
@@ -69,10 +58,10 @@ module _ (C : Coded) where
   pub product-is : (row x : List ℕ) (n : ℕ) → spareZero x n ≡ true → rowProduct row x ≡ byte (sum R n (λ c. bitsOf row c ⊗ bitsOf x c))
   product-is row x n z =
       product-short row x n z
-      ∙ sum-same n _ _ (λ c h. sym (byte-scale (bit row c) (bitsOf x c) (bit-lt row c) ∙ ap (λ b. bit row c * b) (byte-bit (bit x c) (bit-lt x c))))
+      ∙ sum-same n _ _ (λ c h. sym (byte-scale C (bit row c) (bitsOf x c) (bit-lt row c) ∙ ap (λ b. bit row c * b) (byte-bit C (bit x c) (bit-lt x c))))
       ∙ sym (byte-sum C n (λ c. bitsOf row c ⊗ bitsOf x c))
 
   pub selected-is : (n : ℕ) (row T : List ℕ) (e : ℕ) (f : ℕ → F) → ((c : ℕ) → c < n → laneAt T c e ≡ byte (f c)) → selected n row T lanes e ≡ byte (sum R n (λ c. bitsOf row c ⊗ f c))
   selected-is n row T e f holds =
-      sum-same n _ _ (λ c h. ap (λ b. bit row c * b) (holds c h) ∙ sym (byte-scale (bit row c) (f c) (bit-lt row c)))
+      sum-same n _ _ (λ c h. ap (λ b. bit row c * b) (holds c h) ∙ sym (byte-scale C (bit row c) (f c) (bit-lt row c)))
       ∙ sym (byte-sum C n (λ c. bitsOf row c ⊗ f c))

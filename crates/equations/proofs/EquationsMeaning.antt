@@ -26,11 +26,11 @@ use Rattle.protocol.proofs.TestLaws.{T-true, T-false, all-of, all-at}
 use Rattle.protocol.proofs.StringLaws.{bit-lt}
 use Rattle.strings.specs.Sums.{byteAt, xorSum}
 use Rattle.strings.proofs.SumLaws.{sum-same}
-use Rattle.strings.proofs.Meaning.{byte-sum}
+use Rattle.strings.proofs.Meaning.{byte-sum, byte-bit, byte-scale}
 use Rattle.equations.specs.Equations.{rowProduct, rowOf, errorBit, errorOf, FirstIn}
 use Rattle.equations.specs.declared.Found.the-variants.{At, Nothing}
 use Rattle.equations.proofs.BlockLaws.{block-block}
-use Rattle.equations.proofs.ElementLaws.{byte-bit, byte-scale, byte-form, product-is, bitsOf}
+use Rattle.equations.proofs.ElementLaws.{byte-form, product-is, bitsOf}
 
 module _ (C : Coded) (s : Shape) (key x : List ℕ) where
   open Coded C using (base, elem, byte)

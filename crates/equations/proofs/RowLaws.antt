@@ -11,11 +11,13 @@ use lib.Bits.{bitXor, xor-comm}
 use Rattle.protocol.specs.Lists.{part, blockAt}
 use Rattle.protocol.specs.Strings.{bytesFor, bit}
 use Rattle.protocol.proofs.StringLaws.{bit-lt}
+use Rattle.protocol.proofs.ListLaws.{length-block}
 use Rattle.strings.specs.Sums.{byteAt, bitOf, xorSum}
-use Rattle.strings.proofs.SumLaws.{sum-same}
+use Rattle.strings.proofs.SumLaws.{sum-same, sum-both, xor-scale}
 use Rattle.strings.proofs.Rows.{row-byte, row-end}
 use Rattle.strings.proofs.Meaning.{bit-is, bitOf-xor, bitOf-sum, bit-times}
-use Rattle.chunks.proofs.BitSumLaws.{sum-xor, sum-swap, times-xor, times-sum, bit-sum, bits-lt, bits-times}
+use Rattle.strings.proofs.ProductLaws.{bit-times-lt}
+use Rattle.chunks.proofs.BitSumLaws.{sum-swap, times-sum, bit-sum, bits-lt}
 use Rattle.equations.specs.Equations.{rowProduct, errorBit}
 use Rattle.equations.proofs.BlockLaws.{bit-past}
 
@@ -40,10 +42,6 @@ all-bits old xs x none is same c = go (decLt c (length x * 8))
 pub row-bit : (M : List ℕ) (w ρ c : ℕ) → c < w * 8 → bitOf (byteAt M (ρ * w + c / 8)) (c % 8) ≡ bit (blockAt M w ρ) c
 row-bit M w ρ c h = let inside : c / 8 < w = omega arith in sym (bit-is (blockAt M w ρ) c ∙ ap (λ x. bitOf x (c % 8)) (row-byte M w ρ (c / 8) inside))
 
-pub block-length : (s : List ℕ) (w q : ℕ) → q * w + w ≤ length s → length (blockAt s w q) ≡ w
-unfolding blockAt part
-block-length s w q h = simp (length-take, length-drop) (omega arith)
-
 -- ---- the rows b + xᵀ·A
 
 module _ (n w : ℕ) (g b A xs x : List ℕ) (is : (c : ℕ) → byteAt xs c ≡ bit x c)
@@ -65,9 +63,9 @@ module _ (n w : ℕ) (g b A xs x : List ℕ) (is : (c : ℕ) → byteAt xs c ≡
       sum-same K _ (λ c. bitXor (bit b c * y c) (xorSum n (λ ρ. bit x ρ * bit (blockAt A w ρ) c * y c)))
       (λ c l.
       ap (λ q. q * y c) (sum-bit c (omega arith))
-      ∙ times-xor (bit b c) (xorSum n (λ ρ. bit x ρ * bit (blockAt A w ρ) c)) (y c) (bit-lt b c) (bits-lt n _ (λ ρ. bits-times (bit x ρ) (bit (blockAt A w ρ) c) (bit-lt x ρ) (bit-lt (blockAt A w ρ) c)))
-      ∙ ap (bitXor (bit b c * y c)) (times-sum n (λ ρ. bit x ρ * bit (blockAt A w ρ) c) (y c) (λ ρ. bits-times (bit x ρ) (bit (blockAt A w ρ) c) (bit-lt x ρ) (bit-lt (blockAt A w ρ) c))))
-      ∙ sum-xor K (λ c. bit b c * y c) (λ c. xorSum n (λ ρ. bit x ρ * bit (blockAt A w ρ) c * y c))
+      ∙ xor-scale (bit b c) (xorSum n (λ ρ. bit x ρ * bit (blockAt A w ρ) c)) (y c) (bit-lt b c) (bits-lt n _ (λ ρ. bit-times-lt (bit x ρ) (bit (blockAt A w ρ) c) (bit-lt x ρ) (bit-lt (blockAt A w ρ) c)))
+      ∙ ap (bitXor (bit b c * y c)) (times-sum n (λ ρ. bit x ρ * bit (blockAt A w ρ) c) (y c) (λ ρ. bit-times-lt (bit x ρ) (bit (blockAt A w ρ) c) (bit-lt x ρ) (bit-lt (blockAt A w ρ) c))))
+      ∙ sum-both K (λ c. bit b c * y c) (λ c. xorSum n (λ ρ. bit x ρ * bit (blockAt A w ρ) c * y c))
       ∙ ap (bitXor (xorSum K (λ c. bit b c * y c)))
       (sum-swap K n (λ c ρ. bit x ρ * bit (blockAt A w ρ) c * y c)
       ∙ sum-same n _ _ (λ ρ l.
@@ -87,5 +85,5 @@ error-by-row n g b A xs x y is sums lg lb la =
     ∙ ap₂ bitXor
     (sum-same n _ _ (λ ρ l.
     let inside : ρ * bytesFor n + bytesFor n ≤ length A = omega (arith, la, row-end ρ n (bytesFor n) l) in
-    ap (λ v. bit x ρ * xorSum (v * 8) (λ c. bit (blockAt A (bytesFor n) ρ) c * bit x c)) (sym (block-length A (bytesFor n) ρ inside))))
+    ap (λ v. bit x ρ * xorSum (v * 8) (λ c. bit (blockAt A (bytesFor n) ρ) c * bit x c)) (sym (length-block A (bytesFor n) ρ inside))))
     (ap (λ v. xorSum (v * 8) (λ c. bit b c * bit x c)) (sym lb)))

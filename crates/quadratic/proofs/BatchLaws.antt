@@ -14,20 +14,21 @@ use Rattle.field.specs.Gf256.{gf256}
 use Rattle.protocol.specs.Lists.{blockAt}
 use Rattle.protocol.specs.Strings.{bytesFor, bit}
 use Rattle.protocol.proofs.StringLaws.{bit-lt}
+use Rattle.protocol.proofs.ListLaws.{length-block}
 use Rattle.strings.specs.Sums.{byteAt, bitOf, xorSum, selected}
 use Rattle.strings.proofs.XorLaws.{xor-assoc}
-use Rattle.strings.proofs.SumLaws.{sum-same, sum-short, sum-lt}
+use Rattle.strings.proofs.SumLaws.{sum-same, sum-short, sum-lt, sum-both}
 use Rattle.strings.proofs.Rows.{row-end}
 use Rattle.strings.proofs.Meaning.{bit-is, bitOf-lt}
 use Rattle.strings.proofs.ProductLaws.{product-lt}
 use Rattle.lanes.specs.Lanes.{lanes, laneAt}
-use Rattle.chunks.proofs.BitSumLaws.{sum-xor}
 use Rattle.columns.specs.Stacks.{product}
 use Rattle.columns.proofs.ProductLaws.{product-comm}
 use Rattle.batching.specs.Batched.{batchedByte, columnByte}
 use Rattle.batching.proofs.FormLaws.{batch-first, product-scale, product-one, product-lt as factor-lt}
 use Rattle.equations.specs.Equations.{rowProduct, rowOf, matrixOf}
-use Rattle.equations.proofs.RowLaws.{row-bit, block-length, row-sum}
+use Rattle.equations.proofs.BlockLaws.{bytes-enough}
+use Rattle.equations.proofs.RowLaws.{row-bit, row-sum}
 use Rattle.quadratic.specs.Forms.{formByte, middleByte}
 use Rattle.quadratic.specs.Batch.{batchByte}
 
@@ -35,15 +36,11 @@ single : (f : ℕ → ℕ) → xorSum 1 f ≡ f 0
 unfolding xorSum
 single f = xor-zero-l (f 0)
 
-enough : (n : ℕ) → n ≤ bytesFor n * 8
-unfolding bytesFor
-enough n = omega arith
-
 module _ (n m e : ℕ) (T χ : List ℕ) (long : length T ≡ n * lanes) where
   -- the table has no coordinates from n on
   whole-row : (row : List ℕ) → xorSum (bytesFor n * 8) (λ c. bit row c * laneAt T c e) ≡ selected n row T lanes e
   whole-row row =
-      sum-short n (bytesFor n * 8) (λ c. bit row c * laneAt T c e) (enough n)
+      sum-short n (bytesFor n * 8) (λ c. bit row c * laneAt T c e) (bytes-enough n)
       (λ c l k. let past : length T ≤ c * lanes + e = omega arith in ap (λ x. bit row c * x) (List·getD-eq-default T 0 past) ∙ mul-zero (bit row c))
 
   pub quad-is : (A : List ℕ) → xorSum (bytesFor n * 8) (λ c. product (laneAt T c e) (columnByte n (bytesFor n) m A T χ e (c / 8) (c % 8)))
@@ -74,12 +71,12 @@ module _ (n m e : ℕ) (T χ : List ℕ) (long : length T ≡ n * lanes) where
             → product (laneAt T ρ e) (xorSum (bytesFor n * 8) (λ c. bitOf (byteAt (matrixOf n A i) (ρ * bytesFor n + c / 8)) (c % 8) * bit x c)) ≡ rowProduct (rowOf n (matrixOf n A i) ρ) x * laneAt T ρ e
         row-term i ρ l k =
             let whole : i * (n * bytesFor n) + n * bytesFor n ≤ length A = omega (arith, row-end i m (n * bytesFor n) l) in
-            let inner : length (matrixOf n A i) ≡ n * bytesFor n = block-length A (n * bytesFor n) i whole in
+            let inner : length (matrixOf n A i) ≡ n * bytesFor n = length-block A (n * bytesFor n) i whole in
             let inside : ρ * bytesFor n + bytesFor n ≤ length (matrixOf n A i) = omega (arith, inner, row-end ρ n (bytesFor n) k) in
             let row = rowOf n (matrixOf n A i) ρ in
             ap (product (laneAt T ρ e))
             (sum-same (bytesFor n * 8) _ (λ c. bit row c * bit x c) (λ c j. ap (λ q. q * bit x c) (row-bit (matrixOf n A i) (bytesFor n) ρ c j))
-            ∙ ap (λ v. xorSum (v * 8) (λ c. bit row c * bit x c)) (sym (block-length (matrixOf n A i) (bytesFor n) ρ inside)))
+            ∙ ap (λ v. xorSum (v * 8) (λ c. bit row c * bit x c)) (sym (length-block (matrixOf n A i) (bytesFor n) ρ inside)))
             ∙ product-comm (laneAt T ρ e) (rowProduct row x) ∙ product-scale (rowProduct row x) (laneAt T ρ e) (product-lt (length row * 8) row x) (bytes (ρ * lanes + e))
 
     pub lin-is : (rows ones : List ℕ) → laneAt ones 0 e ≡ 1
@@ -114,9 +111,9 @@ pub middle-by-row : (n e : ℕ) (g b A xs x T : List ℕ) → ((c : ℕ) → byt
     → ((j : ℕ) → j < bytesFor n → byteAt g j ≡ bitXor (byteAt b j) (xorSum n (λ ρ. byteAt xs ρ * byteAt A (ρ * bytesFor n + j))))
     → bitXor (selected n g T lanes e) (xorSum n (λ ρ. rowProduct (rowOf n A ρ) x * laneAt T ρ e)) ≡ middleByte n A b x T e
 middle-by-row n e g b A xs x T is sums =
-    ap (λ q. bitXor q (xorSum n (λ ρ. rowProduct (rowOf n A ρ) x * laneAt T ρ e))) (row-sum n (bytesFor n) g b A xs x is sums n (λ c. laneAt T c e) (enough n))
+    ap (λ q. bitXor q (xorSum n (λ ρ. rowProduct (rowOf n A ρ) x * laneAt T ρ e))) (row-sum n (bytesFor n) g b A xs x is sums n (λ c. laneAt T c e) (bytes-enough n))
     ∙ xor-assoc (selected n b T lanes e) (xorSum n (λ ρ. bit x ρ * selected n (rowOf n A ρ) T lanes e)) (xorSum n (λ ρ. rowProduct (rowOf n A ρ) x * laneAt T ρ e))
-    ∙ ap (bitXor (selected n b T lanes e)) (sym (sum-xor n (λ ρ. bit x ρ * selected n (rowOf n A ρ) T lanes e) (λ ρ. rowProduct (rowOf n A ρ) x * laneAt T ρ e)))
+    ∙ ap (bitXor (selected n b T lanes e)) (sym (sum-both n (λ ρ. bit x ρ * selected n (rowOf n A ρ) T lanes e) (λ ρ. rowProduct (rowOf n A ρ) x * laneAt T ρ e)))
 
 -- ---- batched sums
 
@@ -132,7 +129,7 @@ module _ (C : Coded) where
 
 pub batch-xor : (m : ℕ) (χ : List ℕ) (e : ℕ) (u v : ℕ → ℕ) → bitXor (batchByte m χ e u) (batchByte m χ e v) ≡ batchByte m χ e (λ i. bitXor (u i) (v i))
 batch-xor m χ e u v =
-    sym (sum-xor m (λ i. mulByte gf256 (byteAt χ (e * m + i)) (u i)) (λ i. mulByte gf256 (byteAt χ (e * m + i)) (v i)))
+    sym (sum-both m (λ i. mulByte gf256 (byteAt χ (e * m + i)) (u i)) (λ i. mulByte gf256 (byteAt χ (e * m + i)) (v i)))
     ∙ sum-same m _ _ (λ i l. sym (coded-xor gf256 (byteAt χ (e * m + i)) (u i) (v i)))
 
 pub batch-same : (m : ℕ) (χ : List ℕ) (e : ℕ) (u v : ℕ → ℕ) → ((i : ℕ) → i < m → u i ≡ v i) → batchByte m χ e u ≡ batchByte m χ e v

@@ -25,13 +25,13 @@ use Rattle.protocol.proofs.TestLaws.{ltb-yes}
 use Rattle.protocol.proofs.StringLaws.{bit-lt}
 use Rattle.strings.specs.Sums.{byteAt, xorSum, selected}
 use Rattle.strings.proofs.SumLaws.{sum-same}
-use Rattle.strings.proofs.Meaning.{byte-sum}
+use Rattle.strings.proofs.Meaning.{byte-sum, byte-scale}
 use Rattle.strings.proofs.ProductLaws.{product-lt}
 use Rattle.lanes.specs.Lanes.{lanes, laneAt}
 use Rattle.equations.specs.Equations.{rowProduct, rowOf, matrixOf}
 use Rattle.quadratic.specs.Batch.{qs0Byte, qs1Byte}
 use Rattle.equations.proofs.BlockLaws.{block-block}
-use Rattle.equations.proofs.ElementLaws.{byte-product, byte-scale, byte-form, form-rows, product-is, selected-is, bitsOf}
+use Rattle.equations.proofs.ElementLaws.{byte-product, byte-form, form-rows, product-is, selected-is, bitsOf}
 
 module _ (C : Coded) (s : Shape) where
   open Coded C using (base, elem, byte)

@@ -88,7 +88,7 @@ product-sum C n row x =
 
 -- ---- bounds
 
-bit-times-lt : (p q : ℕ) → p < 2 → q < 2 → p * q < 2
+pub bit-times-lt : (p q : ℕ) → p < 2 → q < 2 → p * q < 2
 bit-times-lt zero q h k = omega arith
 bit-times-lt (suc zero) q h k = omega arith
 bit-times-lt (suc (suc p)) q h k = absurd (omega arith)

@@ -11,16 +11,13 @@ use lib.ListN.{length, length-take, length-drop}
 use lib.Bits.{bitXor}
 use Rattle.protocol.specs.Lists.{part, blockAt}
 use Rattle.protocol.specs.Strings.{bytesFor}
+use Rattle.protocol.proofs.ListLaws.{length-block}
 use Rattle.strings.specs.Sums.{byteAt, xorSum}
 use Rattle.strings.proofs.Rows.{row-byte, put-in, put-other}
 use Rattle.masked.specs.Spread.{Spread}
 use Rattle.equations.specs.Equations.{matrixOf}
 use Rattle.quadratic.proofs.batch.fill_row.Statement.{statement}
 use Rattle.quadratic.proofs.batch.fill_row.Tie as tie
-
-block-long : (l : List ℕ) (w i : ℕ) → i * w + w ≤ length l → length (blockAt l w i) ≡ w
-unfolding blockAt part
-block-long l w i fits = simp (length-take, length-drop) (omega arith)
 
 mul-at : tie.Need-mul-at
 mul-at c = search needs
@@ -53,7 +50,7 @@ witness-row-requires c κs =
     let pre = c .before .before .before .before .before .before .before .pre in
     let w = a .width in
     let e : a .i * w + w - a .i * w ≡ w = add-sub-cancel-left (a .i * w) w in
-    let long : length (blockAt (now (a .rows)) w (a .i)) ≡ w = block-long (now (a .rows)) w (a .i) (pre .2) in
+    let long : length (blockAt (now (a .rows)) w (a .i)) ≡ w = length-block (now (a .rows)) w (a .i) (pre .2) in
     rw (e, long) (c .before .before .row-at .ensures .1, c .before .row-at2 .ensures .1, pre .1, omega (arith, pre .0, pre .1), pre .5)
 
 same-length : tie.Need-same-length
@@ -71,7 +68,7 @@ returns c =
     let r = done .last .0 in
     let e : at + w - at ≡ w = add-sub-cancel-left at w in
     let fits : at + w ≤ length l = pre .2 in
-    let long : length (blockAt l w (a .i)) ≡ w = block-long l w (a .i) fits in
+    let long : length (blockAt l w (a .i)) ≡ w = length-block l w (a .i) fits in
     let kept : length r ≡ w = rw e at (done .kept .0) ∙ long in
     let made : ((xs : List ℕ) (j : ℕ) → ((i : ℕ) → byteAt xs i < 2) → ((k : ℕ) → k < (a .n + 3) / 4 → Spread xs (length (blockAt l w (a .i))) (now (a .masks)) k) → j < length (blockAt l w (a .i))
     → byteAt r j ≡ bitXor (byteAt (now (c .before .before .before .before .row-at2 .result)) j) (xorSum (a .n) (λ ρ. byteAt xs ρ * byteAt (now (c .before .before .before .before .before .row-at .result)) (ρ * length (blockAt l w (a .i)) + j)))) =
