@@ -23,9 +23,8 @@ step() {
     fi
 }
 
-# rt proves each crate from nothing, tries the must-fail edits, and runs each program. It starts so many at a time and waits for all of them:
-# with more than there are cores, none stands idle while the longest ends.
-RT_JOBS=${RT_JOBS:-4} rt ci >"$log" 2>&1 || {
+# rt proves each crate from nothing, tries the must-fail edits, and runs each program.
+rt ci >"$log" 2>&1 || {
     tail -n 60 "$log"
     fail "rt ci"
 }
