@@ -463,9 +463,11 @@ static void print_shapes(double taken[SHAPES][BY])
             printf("%13.4f x %4.2f", taken[i][b], taken[i][b] / taken[BASE][b]);
         printf("%12.2f%15.2f\n", taken[i][BY_LIBRARY] / taken[i][BY_C], taken[i][BY_LIBRARY] / taken[i][BY_PLAIN]);
     }
-    printf("The library sums the matrices for each repetition. In C and plain a row costs n/4 look-ups and one product,\n"
-           "so their times grow less than n^2; C has 16 repetitions to a register, and plain 48 side by side, whatever\n"
-           "tau is: there the forms cost the same for fewer.\n");
+    printf("The library sums the matrices for each repetition, so that its times grow with tau. It takes four rows at a\n"
+           "time in chunks that hold four rows of 160 bits: smaller rows leave them part empty, so below n = 160 its forms\n"
+           "grow with n and not with n^2; and leaves of less than 16 bytes (n = 40) are summed in a slower way. In C and\n"
+           "plain a row costs n/4 look-ups and one product; C has 16 repetitions to a register, and plain 48 side by side,\n"
+           "whatever tau is: there the forms cost the same for fewer.\n");
 }
 
 /* ---- The plot ----------------------------------------------------------------------------- */

@@ -13,6 +13,7 @@ library() {
         return
     fi
     mkdir -p target
+    echo "SOLFADRUS_LIB_DIR is not set: the library is proved and built first" >&2
     rt staticlib solfadrus >target/staticlib.log 2>&1 || {
         tail -n 60 target/staticlib.log >&2
         return 1

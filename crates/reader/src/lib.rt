@@ -70,7 +70,8 @@ pub fn next_section<'a>(reader: Reader<'a>) -> Taken<'a>
     }
 }
 
-// The section at an index of a proof, by the reader. Its parameters are plain, so that a caller needs no walk by hand.
+// The section at an index of a proof, by the reader, and nothing where it is missing: for a caller that has asked for the proof's form, and so
+// knows that it is there. Its parameters are plain, so that such a caller needs no walk by hand.
 pub fn read_section<'a>(proof: &'a [u8], at: usize) -> &'a [u8]
     ensures { λ r. ⌜ now r ≡ bytesAt (now (proof .entry)) at ⌝ }
 {

@@ -3,6 +3,7 @@
 // As in the sums row by row, plane p takes the running sum of the leaves where bit p of the leaf's number changes from j to j + 1. These bits are the
 // lowest ones, up to some p, so that the running sum is held for the highest of them alone, and the held sums are added up at the end.
 // Row k of what is held has the sums for p = r - k, and row 0 those for all planes: plane p is the sum of the rows 0, .., r - p.
+// Where no leaf is left out, leaves are taken by four, and the rows of planes 0 and 1 stay in registers too (`fours`).
 ghost use mathlib.Core.Path.{_≡_};
 ghost use mathlib.Core.Bool.{cond};
 ghost use Prim.Native.Nat.{ℕ, _+_, _*_, _-_, _<_, _≤_};
