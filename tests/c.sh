@@ -1,49 +1,68 @@
 #!/bin/sh
 # The tests around the library, from C, C++ and Rust: builds it (or takes that of SOLFADRUS_LIB_DIR), and runs each.
+# The two longest run beside the others, one after the other, since the machine has two cores.
 set -eu
 cd "$(dirname "$0")/.."
 . tests/need.sh
+# All that is needed, before two of the tests could ask for it at once.
 need gcc gcc
 need g++ g++
+need make make
+need valgrind valgrind
+need pkg-config pkg-config
+need groff groff-base
+need man man-db
+need_fuzzer
 mkdir -p target
 lib=$(library)
+export SOLFADRUS_LIB_DIR="$lib"
 strict="-Wall -Wextra -pedantic -Werror -Iinclude"
+
+beside() {
+    echo "secrets in branches and addresses"
+    sh tests/secrets.sh "$lib" || return
+    echo "fuzzing"
+    sh tests/fuzz.sh
+}
+beside >target/beside.log 2>&1 &
+longest=$!
+trap 'kill "$longest" 2>/dev/null || true' EXIT
 
 echo "the header alone, as C99 and as C++11"
 gcc -std=c99 $strict -x c -fsyntax-only include/solfadrus.h
 g++ -std=c++11 $strict -x c++ -fsyntax-only include/solfadrus.h
 
 echo "size macros and size functions"
-SOLFADRUS_LIB_DIR=$lib sh tests/sizes.sh
+sh tests/sizes.sh
 
 echo "a caller in C++"
 g++ -std=c++11 -O2 $strict tests/header.cpp "$lib/libsolfadrus.a" -o target/header
 target/header
 
 echo "the test vectors"
-SOLFADRUS_LIB_DIR=$lib sh tests/vectors.sh
+sh tests/vectors.sh
 
 echo "the comparison with the Rust rendering"
 sh tests/compare.sh "$lib" --selftest
 sh tests/compare.sh "$lib"
 
 echo "the example"
-SOLFADRUS_LIB_DIR=$lib sh tests/demo.sh
+sh tests/demo.sh
 
 echo "the manual pages"
-SOLFADRUS_LIB_DIR=$lib sh tests/man.sh
+sh tests/man.sh
 
 echo "the Rust wrapper"
-SOLFADRUS_LIB_DIR=$lib sh tests/bindings.sh
+sh tests/bindings.sh
 
 echo "installing and uninstalling"
-SOLFADRUS_LIB_DIR=$lib sh tests/install.sh
+sh tests/install.sh
 
 echo "the example server"
-SOLFADRUS_LIB_DIR=$lib sh tests/server.sh
+sh tests/server.sh
 
-echo "secrets in branches and addresses"
-sh tests/secrets.sh "$lib"
-
-echo "fuzzing"
-SOLFADRUS_LIB_DIR=$lib sh tests/fuzz.sh
+passed=0
+wait "$longest" || passed=$?
+trap - EXIT
+cat target/beside.log
+exit "$passed"

@@ -10,10 +10,7 @@
 set -eu
 cd "$(dirname "$0")/.."
 . tests/need.sh
-need clang clang
-# libFuzzer is no program, so that it is asked for by its file.
-ls "$(clang -print-runtime-dir)"/libclang_rt.fuzzer*.a >/dev/null 2>&1 ||
-    need libFuzzer "libclang-rt-$(clang -dumpversion | cut -d. -f1)-dev"
+need_fuzzer
 lib=$(library)
 seconds=${1:-}
 work=target/fuzz

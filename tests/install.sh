@@ -1,7 +1,8 @@
 #!/bin/sh
 # `make install` and `make uninstall` into a temporary directory: what is installed serves callers in C, C++ and Rust
-# by pkg-config, its versions agree, its manual pages are found, and nothing is left afterwards. The library is that of
-# SOLFADRUS_LIB_DIR, or else the one that rt builds.
+# by pkg-config, its versions agree, its example and its check program run, its manual pages are found, and nothing is
+# left afterwards. The library is that of SOLFADRUS_LIB_DIR, or else the one that rt builds; the check program is that
+# of MQCHECK, or else the one that rt has built, and where there is none the test says so and goes on.
 set -eu
 cd "$(dirname "$0")/.."
 . tests/need.sh
@@ -31,17 +32,32 @@ files() {
     (cd "$1" && find . ! -type d | sort)
 }
 
-# A stand-in for the check program, so that the test does not depend on whether that has been built.
-printf '#!/bin/sh\necho stand-in\n' >"$work/program"
-chmod 755 "$work/program"
+# checked LINE: the installed check program's line on the standard input.
+checked() {
+    line=$("$prefix/bin/mqcheck") || fail "mqcheck ends with status $?"
+    [ "$line" = "$1" ] || fail "mqcheck says '$line' in place of '$1'"
+}
 
 echo "installed:"
-made install PREFIX="$prefix" MQCHECK="$work/program" >/dev/null
+made install PREFIX="$prefix" >/dev/null
 files "$prefix" | tee "$work/files"
-printf '%s\n' ./bin/mqcheck ./include/solfadrus.h ./lib/libsolfadrus.a ./lib/pkgconfig/solfadrus.pc \
-    ./share/man/man1/mqcheck.1 ./share/man/man3/solfadrus.3 | diff - "$work/files"
+mqcheck=${MQCHECK:-target/bin/mqcheck}
+set -- ./include/solfadrus.h ./lib/libsolfadrus.a ./lib/pkgconfig/solfadrus.pc ./share/man/man1/mqcheck.1 \
+    ./share/man/man3/solfadrus.3
+[ ! -x "$mqcheck" ] || set -- ./bin/mqcheck "$@"
+printf '%s\n' "$@" | diff - "$work/files" || fail "these are not the files to be installed"
 cmp "$SOLFADRUS_LIB_DIR/libsolfadrus.a" "$prefix/lib/libsolfadrus.a"
-[ "$("$prefix/bin/mqcheck")" = stand-in ] || fail "mqcheck is not the program that was given"
+cmp include/solfadrus.h "$prefix/include/solfadrus.h"
+
+if [ -x "$mqcheck" ]; then
+    cmp "$mqcheck" "$prefix/bin/mqcheck"
+    # The program's own example is the toy sitting of 01 at 02.
+    checked 'accepted 0 0' <crates/mqcheck/stdin
+    checked 'unread 0 0' </dev/null
+    echo "the check program: the toy is accepted, an empty input is unread"
+else
+    echo "the check program is not built ($mqcheck): its run is left out"
+fi
 
 PKG_CONFIG_PATH=$prefix/lib/pkgconfig
 export PKG_CONFIG_PATH
@@ -78,6 +94,12 @@ for program in c cpp; do
     printf '%s\n' "$version" "$version" | diff - "$work/versions" || fail "versions of .pc file, header and library"
 done
 echo "callers in C and C++: version $version from the .pc file, the header and the library"
+
+# shellcheck disable=SC2046
+gcc -std=c99 -O2 -Wall -Wextra -pedantic -Werror $(pkg-config --cflags solfadrus) examples/demo.c \
+    $(pkg-config --libs solfadrus) -o "$work/demo"
+"$work/demo" >"$work/said" || fail "$(cat "$work/said")"
+echo "the example: $(tail -n 1 "$work/said")"
 
 # wrapper DIRECTORY: the wrapper's tests, by the pkg-config file of that directory.
 wrapper() {

@@ -6,6 +6,13 @@ need() {
     { apt-get update -qq && apt-get install -y -qq "$2"; } >/dev/null
 }
 
+# clang, and libFuzzer: which is no program, so that it is asked for by its file.
+need_fuzzer() {
+    need clang clang
+    ls "$(clang -print-runtime-dir)"/libclang_rt.fuzzer*.a >/dev/null 2>&1 ||
+        need libFuzzer "libclang-rt-$(clang -dumpversion | cut -d. -f1)-dev"
+}
+
 # The directory that has libsolfadrus.a: that of SOLFADRUS_LIB_DIR, or else the one that rt proves and builds.
 library() {
     if [ -n "${SOLFADRUS_LIB_DIR:-}" ]; then

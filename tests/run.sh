@@ -3,7 +3,8 @@
 set -eu
 cd "$(dirname "$0")/.."
 log=$(mktemp)
-trap 'rm -f "$log"' EXIT
+besides=$(mktemp)
+trap 'rm -f "$log" "$besides"' EXIT
 
 fail() {
     echo "FAILED: $1"
@@ -23,6 +24,12 @@ step() {
     fi
 }
 
+# What needs no library, so that it can run while that is built. rt has built the check program.
+beside() {
+    cargo test --quiet --release --offline --manifest-path tests/reference/Cargo.toml -- --test-threads=1 &&
+        MQCHECK=target/bin/mqcheck sh tests/mqcheck.sh
+}
+
 # rt proves each crate from nothing, tries the must-fail edits, and runs each program.
 rt ci >"$log" 2>&1 || {
     tail -n 60 "$log"
@@ -36,9 +43,14 @@ case $verdict in
 esac
 
 step "line counts of the audit guide" sh tests/counts.sh
-step "the Rust rendering" cargo test --quiet --release --offline --manifest-path tests/reference/Cargo.toml -- --test-threads=1
+beside >"$besides" 2>&1 &
+other=$!
 # rt ci has just proved every crate: the archive is built from them.
 step "the library from C, C++ and Rust" sh tests/c.sh
-step "the check program" sh tests/mqcheck.sh
+wait "$other" || {
+    tail -n 60 "$besides"
+    fail "the Rust rendering, or the check program"
+}
+echo "the Rust rendering and the check program: passed"
 
 echo "$verdict"

@@ -55,7 +55,7 @@ product-scale (suc (suc q)) a h k = absurd (omega arith)
 
 module _ (K n m : ℕ) (y W χ : ℕ → ℕ) (a : ℕ → ℕ → ℕ → ℕ) (bits : (i ρ c : ℕ) → a i ρ c < 2) where
   -- a bit at each place, and the factors of its row and of the two other indices
-  inner : (x : ℕ) (k : ℕ) (f : ℕ → ℕ) (q : ℕ → ℕ → ℕ) → ((ρ j : ℕ) → q ρ j < 2)
+  pub inner : (x : ℕ) (k : ℕ) (f : ℕ → ℕ) (q : ℕ → ℕ → ℕ) → ((ρ j : ℕ) → q ρ j < 2)
       → product x (xorSum n (λ ρ. product (W ρ) (xorSum k (λ j. q ρ j * f j)))) ≡ xorSum n (λ ρ. xorSum k (λ j. q ρ j * product x (product (W ρ) (f j))))
   inner x k f q h =
       product-sum x n (λ ρ. product (W ρ) (xorSum k (λ j. q ρ j * f j)))

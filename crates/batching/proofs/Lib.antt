@@ -1,2 +1,4 @@
 pub mod FormLaws
 pub mod StackLaws
+pub mod FoldLaws
+pub mod PanelLaws

@@ -8,17 +8,20 @@ use native.Mathlib.Omega.{arith}
 use lib.Dec.{lit<}
 use lib.ListN.{length, List·getD-eq-default}
 use lib.Bits.{bitXor, xor-comm}
+use mathlib.Core.Bool.{cond}
+use Rattle.protocol.proofs.TestLaws.{ltb-yes}
+use Rattle.field.specs.Gf256.{gf256}
 use Rattle.strings.specs.Sums.{byteAt, bitOf, xorSum}
 use Rattle.strings.proofs.XorLaws.{xor-assoc}
-use Rattle.strings.proofs.SumLaws.{sum-same, sum-parts, sum-none, sum-both, xor-scale}
-use Rattle.strings.proofs.Meaning.{bitOf-lt, bitOf-zero}
+use Rattle.strings.proofs.SumLaws.{sum-same, sum-parts, sum-none, sum-both, sum-put, sum-lt, xor-scale}
+use Rattle.strings.proofs.Meaning.{bitOf-lt, bitOf-zero, bitOf-xor, bitOf-sum, bit-times, times-bit}
 use Rattle.strings.proofs.ProductLaws.{bit-times-lt}
 use Rattle.lanes.specs.Lanes.{lanes, laneAt}
-use Rattle.chunks.specs.Chunks.{chunk}
+use Rattle.chunks.specs.Chunks.{chunk, cellAt}
 use Rattle.chunks.proofs.BitSumLaws.{sum-swap, times-sum, bit-sum, rows-by-four}
-use Rattle.columns.specs.Stacks.{stack, alpha, product, stackAt, stackOf, foldOf}
+use Rattle.columns.specs.Stacks.{alpha, product, stackAt, stackOf}
 use Rattle.columns.proofs.ProductLaws.{product-comm, product-zero, alpha-add, byte-bits, product-bits}
-use Rattle.batching.specs.Batched.{batchedByte, columnByte}
+use Rattle.batching.proofs.FormLaws.{product-one, product-lt}
 
 -- ---- a plane in a stack
 
@@ -63,6 +66,23 @@ module _ (p v y : ℕ) (β β′ : ℕ → ℕ) (hp : p < 8) (hv : v < 256) (hy 
       ∙ last (xorSum p (λ s. β s * alpha s)) (xorSum 8 (λ i. β (p + i) * alpha (p + i))) (xorSum (7 - p) (λ i. β (p + (8 + i)) * alpha (p + (8 + i)))) (y * product (alpha p) v)
       ∙ ap (λ x. bitXor x (y * product (alpha p) v)) (sym (split (λ s. β s * alpha s)))
 
+-- a plane in a side, under a bit
+pub side-added : (t t′ : List ℕ) (p m x f z : ℕ) → p < 8 → x < 2 → cellAt t′ p f ≡ bitXor (cellAt t p f) (m * x) → ((s : ℕ) → (s ≡ p → ⊥) → cellAt t′ s f ≡ cellAt t s f)
+    → stackAt 8 t′ f z ≡ bitXor (stackAt 8 t f z) (x * (bitOf m z * alpha p))
+side-added t t′ p m x f z hp hx here there =
+    sum-put 8 p (x * (bitOf m z * alpha p)) (λ s. bitOf (cellAt t s f) z * alpha s) (λ s. bitOf (cellAt t′ s f) z * alpha s)
+    (ap (λ y. y * alpha p) (ap (λ y. bitOf y z) here ∙ bitOf-xor (cellAt t p f) (m * x) z ∙ ap (bitXor (bitOf (cellAt t p f) z)) (times-bit x m z hx))
+    ∙ xor-scale (bitOf (cellAt t p f) z) (bitOf m z * x) (alpha p) (bitOf-lt _ z) (bit-times-lt (bitOf m z) x (bitOf-lt m z) hx)
+    ∙ ap (bitXor (bitOf (cellAt t p f) z * alpha p)) (ap (λ y. y * alpha p) (mul-comm (bitOf m z) x) ∙ mul-assoc x (bitOf m z) (alpha p)))
+    (λ s other. ap (λ y. bitOf y z * alpha s) (there s other))
+    ∙ ap (λ b. bitXor (stackAt 8 t f z) (cond b 1 0 * (x * (bitOf m z * alpha p)))) (ltb-yes p 8 hp)
+    ∙ ap (bitXor (stackAt 8 t f z)) (one-mul (x * (bitOf m z * alpha p)))
+
+pub scaled-lt : (q x : ℕ) → q < 2 → x < 256 → q * x < 256
+scaled-lt zero x h k = rw (zero-mul x) (lit< tt)
+scaled-lt (suc zero) x h k = rw (one-mul x) k
+scaled-lt (suc (suc q)) x h k = absurd (omega arith)
+
 -- ---- all planes of a sum that bytes weigh
 
 order : (a b x : ℕ) → a * b * x ≡ b * (a * x)
@@ -79,32 +99,35 @@ planes-added m v χ y small bits =
     ∙ ap (λ x. y i * x) (product-bits v 8 (bitOf (χ i)) alpha (bitOf-lt (χ i)) ∙ ap (product v) (byte-bits (χ i) (small i l))))
     ∙ product-bits v m y χ bits
 
+alpha-lt : (p : ℕ) → alpha p < 256
+unfolding alpha
+alpha-lt p = gf256 .byte-lt _
+
+pub side-sum : (S : List ℕ) (χ : ℕ → ℕ) (m x f z : ℕ) → x < 2 → ((i : ℕ) → i < m → χ i < 256)
+    → xorSum 8 (λ p. x * (bitOf (xorSum m (λ i. bitOf (χ i) p * cellAt S i f)) z * alpha p)) ≡ x * xorSum m (λ i. bitOf (cellAt S i f) z * χ i)
+side-sum S χ m x f z hx small =
+    sym (bit-sum x 8 (λ p. bitOf (xorSum m (λ i. bitOf (χ i) p * cellAt S i f)) z * alpha p) hx)
+    ∙ ap (λ y. x * y)
+    (sum-same 8 _ (λ p. xorSum m (λ i. bitOf (χ i) p * bitOf (cellAt S i f) z) * product (alpha p) 1)
+    (λ p l. ap₂ _*_ (bitOf-sum m (λ i. bitOf (χ i) p * cellAt S i f) z ∙ sum-same m _ _ (λ i k. bit-times (bitOf (χ i) p) (cellAt S i f) z (bitOf-lt (χ i) p)))
+    (sym (product-comm (alpha p) 1 ∙ product-one (alpha p) (alpha-lt p))))
+    ∙ planes-added m 1 χ (λ i. bitOf (cellAt S i f) z) small (λ i. bitOf-lt (cellAt S i f) z)
+    ∙ product-one _ (sum-lt 8 m _ (omega arith) (λ i l. scaled-lt (bitOf (cellAt S i f) z) (χ i) (bitOf-lt (cellAt S i f) z) (small i l))))
+
 -- ---- stacks whose bytes are known
 
-pub stack-is : (T r : List ℕ) (e f z : ℕ) → f < chunk → ((b : ℕ) → b < stack → byteAt T (e * stack + b) ≡ byteAt r b) → stackOf T e f z ≡ stackAt r f z
-stack-is T r e f z h same = sum-same 15 _ _ (λ s l. ap (λ x. bitOf x z * alpha s) (same (s * chunk + f) (omega arith)))
+pub stack-is : (P : ℕ) (T r : List ℕ) (e f z : ℕ) → f < chunk → ((b : ℕ) → b < P * chunk → byteAt T (e * (P * chunk) + b) ≡ byteAt r b) → stackOf P T e f z ≡ stackAt P r f z
+stack-is P T r e f z h same = sum-same P _ _ (λ s l. ap (λ x. bitOf x z * alpha s) (same (s * chunk + f) (omega arith)))
 
-pub stack-same : (T T′ : List ℕ) (e f z : ℕ) → f < chunk → ((b : ℕ) → b < stack → byteAt T (e * stack + b) ≡ byteAt T′ (e * stack + b)) → stackOf T e f z ≡ stackOf T′ e f z
-stack-same T T′ e f z h same = sum-same 15 _ _ (λ s l. ap (λ x. bitOf x z * alpha s) (same (s * chunk + f) (omega arith)))
+pub stack-same : (P : ℕ) (T T′ : List ℕ) (e f z : ℕ) → f < chunk → ((b : ℕ) → b < P * chunk → byteAt T (e * (P * chunk) + b) ≡ byteAt T′ (e * (P * chunk) + b)) → stackOf P T e f z ≡ stackOf P T′ e f z
+stack-same P T T′ e f z h same = sum-same P _ _ (λ s l. ap (λ x. bitOf x z * alpha s) (same (s * chunk + f) (omega arith)))
 
-pub stack-none : (T : List ℕ) (e f z : ℕ) → ((b : ℕ) → byteAt T b ≡ 0) → stackOf T e f z ≡ 0
-stack-none T e f z none =
-    sum-same 15 _ (λ s. 0) (λ s l. ap (λ x. x * alpha s) (ap (λ x. bitOf x z) (none (e * stack + (s * chunk + f))) ∙ bitOf-zero z) ∙ zero-mul (alpha s)) ∙ sum-none 15
+pub stack-none : (P : ℕ) (T : List ℕ) (e f z : ℕ) → ((b : ℕ) → byteAt T b ≡ 0) → stackOf P T e f z ≡ 0
+stack-none P T e f z none =
+    sum-same P _ (λ s. 0) (λ s l. ap (λ x. x * alpha s) (ap (λ x. bitOf x z) (none (e * (P * chunk) + (s * chunk + f))) ∙ bitOf-zero z) ∙ zero-mul (alpha s)) ∙ sum-none P
 
--- ---- the columns of the batched matrix
-
-module _ (N w m : ℕ) (A W χ : List ℕ) (e j z : ℕ) (long : length W ≡ N * lanes) where
-  term : ℕ → ℕ
-  term ρ = product (laneAt W ρ e) (batchedByte w (N * w) m A χ e ρ j z)
-
-  past : (ρ : ℕ) → N ≤ ρ → term ρ ≡ 0
-  unfolding term
-  past ρ h =
-      let end : length W ≤ ρ * lanes + e = omega arith in
-      ap (λ x. product x (batchedByte w (N * w) m A χ e ρ j z)) (List·getD-eq-default W 0 end) ∙ product-zero _
-
-  pub column-is : (T : List ℕ)
-      → ((g : ℕ) → g < 4 → stackOf T e (g * w + j) z ≡ xorSum ((N + 3) / 4) (λ k. product (laneAt W (k * 4 + g) e) (batchedByte w (N * w) m A χ e (k * 4 + g) j z)))
-      → foldOf T e w j z ≡ columnByte N w m A W χ e j z
-  unfolding foldOf columnByte term
-  column-is T are = sum-same 4 _ (λ g. xorSum ((N + 3) / 4) (λ k. term (k * 4 + g))) are ∙ rows-by-four N term past
+-- a table has no coordinates from n on
+pub lane-past : (T : List ℕ) (n c e : ℕ) → length T ≡ n * lanes → n ≤ c → laneAt T c e ≡ 0
+lane-past T n c e long h =
+    let past : length T ≤ c * lanes + e = omega arith in
+    List·getD-eq-default T 0 past

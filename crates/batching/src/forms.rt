@@ -1,40 +1,128 @@
-// Forms of the batched matrix.
+// Forms of the batched matrix, a panel of sixteen columns after the other.
 ghost use mathlib.Core.Path.{_≡_};
 ghost use mathlib.Core.List.{List};
 ghost use Prim.Native.Nat.{ℕ, _+_, _*_, _/_, _%_, _<_, _≤_};
 ghost use lib.ListN.{length};
 ghost use lib.Bits.{bitXor};
+ghost use Rattle.protocol.specs.Strings.{bytesFor};
 ghost use Rattle.strings.specs.Sums.{byteAt, xorSum};
 ghost use Rattle.lanes.specs.Lanes.{lanes, laneAt};
 ghost use Rattle.chunks.specs.Chunks.{chunk};
 ghost use Rattle.choices.specs.Entries.{Chosen};
 ghost use Rattle.columns.specs.Stacks.{product};
-ghost use Rattle.batching.specs.Batched.{columnByte};
+ghost use Rattle.batching.specs.Batched.{most, leftSum, formSum};
+use super::stacks::MOST;
+use chunks::CHUNK;
+use columns::SIDE;
 use columns::STACK;
 use lanes::LANES;
 
-// With h the vector that the rows of the batched matrix make, each times its coordinate in the table `left`, of so many: adds to quad
-// the product of h with the vectors of the n coordinates of the table, and to right its product with the bits xs.
-pub fn add_forms(
+// The chunks of a panel: of ten times sixteen rows, one for each equation.
+const CELLS: usize = 10 * 160 * CHUNK;
+
+// The table of sums of as many equations: 32 entries for each five.
+const SUMS: usize = 32 * 32 * CHUNK;
+
+// The bits of a witness, each as a mask.
+fn widen(bits: &mut [u8], xs: &[u8])
+    requires { ⌜ (length (now bits) ≤ length (now xs)) × ((c : ℕ) → byteAt (now xs) c < 2) ⌝ }
+    ensures { λ _. ⌜ ((c : ℕ) → c < length (now (bits .entry)) → byteAt (now (bits .exit)) c ≡ byteAt (now (xs .entry)) c * 255) ⌝ }
+{
+    let mut c = 0;
+    while c < bits.len() {
+        bits[c] = xs[c] * 255;
+        c += 1;
+    }
+}
+
+// Adds what a panel gives to the form of the vectors, and to their polar form with the bits xs, of which the masks are lent. `cells` and
+// `sums` are space.
+fn add_panel(
     quad: &mut [u8],
-    right: &mut [u8],
+    mid: &mut [u8],
+    cells: &mut [u8],
+    sums: &mut [u8],
     a: &[u8],
-    count: usize,
-    left: &[u8],
-    offsets: &[u16],
-    groups: usize,
+    n: usize,
+    width: usize,
     m: usize,
     tau: usize,
-    width: usize,
+    offsets: &[u16],
+    groups: usize,
+    vectors: &[u8],
+    table: &[u8],
+    bits: &[u8],
+    xs: &[u8],
+    panel: usize,
+)
+    requires { ⌜ (length (now quad) ≡ lanes) × (length (now mid) ≡ lanes) × (length (now cells) ≡ 51200) × (length (now sums) ≡ 32768) × (length (now a) ≡ m * (n * width)) × (width ≡ bytesFor n) × (n ≤ 160) × (0 < m) × (m ≤ 160) × (0 < tau) × (tau ≤ lanes) × (groups ≡ (m + 9) / 10 * 2) × (tau * 8 * groups ≤ length (now offsets)) × ((k : ℕ) → k < tau * 8 * groups → byteAt (now offsets) k * 16 + chunk ≤ 32768) × (length (now table) ≡ n * lanes) × (panel * 16 < n) ⌝ }
+    requires { ⌜ (tau * most ≤ length (now vectors)) × (length (now bits) ≡ most) × (length (now xs) ≡ most) × ((c : ℕ) → byteAt (now xs) c < 2) × ((c : ℕ) → n ≤ c → byteAt (now xs) c ≡ 0) × ((e c : ℕ) → e < tau → c < most → byteAt (now vectors) (e * most + c) ≡ laneAt (now table) c e) × ((c : ℕ) → c < most → byteAt (now bits) c ≡ byteAt (now xs) c * 255) ⌝ }
+    ensures { λ _. ⌜ ((χ : List ℕ) (e : ℕ) → ((k : ℕ) → byteAt χ k < 256) → ((r : ℕ) → r < tau * 8 → Chosen χ m groups (now (offsets .entry)) r) → e < tau → byteAt (now (quad .exit)) e ≡ bitXor (byteAt (now (quad .entry)) e) (xorSum 16 (λ s. product (laneAt (now (table .entry)) (panel * 16 + s) e) (leftSum width (n * width) m (now (a .entry)) χ e (λ ρ. laneAt (now (table .entry)) ρ e) panel (panel * 16 + s))))) ⌝ }
+    ensures { λ _. ⌜ ((χ : List ℕ) (e : ℕ) → ((k : ℕ) → byteAt χ k < 256) → ((r : ℕ) → r < tau * 8 → Chosen χ m groups (now (offsets .entry)) r) → e < tau → byteAt (now (mid .exit)) e ≡ bitXor (byteAt (now (mid .entry)) e) (xorSum 16 (λ s. bitXor (product (laneAt (now (table .entry)) (panel * 16 + s) e) (leftSum width (n * width) m (now (a .entry)) χ e (byteAt (now (xs .entry))) panel (panel * 16 + s))) (product (byteAt (now (xs .entry)) (panel * 16 + s)) (leftSum width (n * width) m (now (a .entry)) χ e (λ ρ. laneAt (now (table .entry)) ρ e) panel (panel * 16 + s)))))) ⌝ }
+{
+    let mut stacks = [0u8; LANES * STACK];
+    let mut sides = [0u8; LANES * SIDE];
+    folds::load_panel(cells, a, n, width, m, panel);
+    super::stacks::collect(
+        &mut stacks,
+        &mut sides,
+        sums,
+        cells,
+        panel,
+        m,
+        tau,
+        offsets,
+        groups,
+        vectors,
+        bits,
+    );
+    columns::finish(quad, mid, &stacks, &sides, panel, tau, n, table, xs);
+}
+
+// Adds to quad the form of the batched matrix at the vectors of the table, and to mid its polar form at them and the bits xs.
+pub fn add_forms(
+    quad: &mut [u8],
+    mid: &mut [u8],
+    a: &[u8],
     n: usize,
+    width: usize,
+    m: usize,
+    tau: usize,
+    offsets: &[u16],
+    groups: usize,
     table: &[u8],
     xs: &[u8],
 )
-    requires { ⌜ (length (now quad) ≡ lanes) × (length (now right) ≡ lanes) × (length (now a) ≡ m * (count * width)) × (count ≤ 160) × (length (now left) ≡ count * lanes) × (groups ≡ (m + 7) / 8 * 2) × (tau * 8 * groups ≤ length (now offsets)) × ((k : ℕ) → k < tau * 8 * groups → byteAt (now offsets) k * 16 + chunk ≤ 51200) × (m ≤ 160) × (tau ≤ lanes) × (4 * width ≤ chunk) × (length (now table) ≡ n * lanes) × (width * 8 ≤ length (now xs)) × ((c : ℕ) → byteAt (now xs) c < 2) × (0 < m) × (0 < tau) ⌝ }
-    ensures { λ _. ⌜ ((χ : List ℕ) (e : ℕ) → ((k : ℕ) → byteAt χ k < 256) → ((r : ℕ) → r < tau * 8 → Chosen χ m groups (now (offsets .entry)) r) → e < tau → byteAt (now (quad .exit)) e ≡ bitXor (byteAt (now (quad .entry)) e) (xorSum (width * 8) (λ c. product (laneAt (now (table .entry)) c e) (columnByte count width m (now (a .entry)) (now (left .entry)) χ e (c / 8) (c % 8))))) ⌝ }
-    ensures { λ _. ⌜ ((χ : List ℕ) (e : ℕ) → ((k : ℕ) → byteAt χ k < 256) → ((r : ℕ) → r < tau * 8 → Chosen χ m groups (now (offsets .entry)) r) → e < tau → byteAt (now (right .exit)) e ≡ bitXor (byteAt (now (right .entry)) e) (xorSum (width * 8) (λ c. byteAt (now (xs .entry)) c * columnByte count width m (now (a .entry)) (now (left .entry)) χ e (c / 8) (c % 8)))) ⌝ }
+    requires { ⌜ (length (now quad) ≡ lanes) × (length (now mid) ≡ lanes) × (length (now a) ≡ m * (n * width)) × (width ≡ bytesFor n) × (n ≤ 160) × (0 < m) × (m ≤ 160) × (0 < tau) × (tau ≤ lanes) × (groups ≡ (m + 9) / 10 * 2) × (tau * 8 * groups ≤ length (now offsets)) × ((k : ℕ) → k < tau * 8 * groups → byteAt (now offsets) k * 16 + chunk ≤ 32768) × (length (now table) ≡ n * lanes) × (length (now xs) ≡ most) × ((c : ℕ) → byteAt (now xs) c < 2) × ((c : ℕ) → n ≤ c → byteAt (now xs) c ≡ 0) ⌝ }
+    ensures { λ _. ⌜ ((χ : List ℕ) (e : ℕ) → ((k : ℕ) → byteAt χ k < 256) → ((r : ℕ) → r < tau * 8 → Chosen χ m groups (now (offsets .entry)) r) → e < tau → byteAt (now (quad .exit)) e ≡ bitXor (byteAt (now (quad .entry)) e) (formSum n width m (now (a .entry)) χ e (λ c. laneAt (now (table .entry)) c e) (λ c. laneAt (now (table .entry)) c e))) ⌝ }
+    ensures { λ _. ⌜ ((χ : List ℕ) (e : ℕ) → ((k : ℕ) → byteAt χ k < 256) → ((r : ℕ) → r < tau * 8 → Chosen χ m groups (now (offsets .entry)) r) → e < tau → byteAt (now (mid .exit)) e ≡ bitXor (byteAt (now (mid .entry)) e) (bitXor (formSum n width m (now (a .entry)) χ e (λ c. laneAt (now (table .entry)) c e) (byteAt (now (xs .entry)))) (formSum n width m (now (a .entry)) χ e (byteAt (now (xs .entry))) (λ c. laneAt (now (table .entry)) c e)))) ⌝ }
 {
-    let mut stacks = [0u8; LANES * STACK];
-    super::stacks::collect(&mut stacks, a, count, width, m, tau, offsets, groups, left);
-    columns::finish(quad, right, &stacks, width, tau, n, table, xs);
+    let mut cells = [0u8; CELLS];
+    let mut sums = [0u8; SUMS];
+    let mut vectors = [0u8; LANES * MOST];
+    let mut bits = [0u8; MOST];
+    super::stacks::fill_vectors(&mut vectors, tau, table, n);
+    widen(&mut bits, xs);
+    let mut panel = 0;
+    while panel * 16 < n {
+        add_panel(
+            quad,
+            mid,
+            &mut cells,
+            &mut sums,
+            a,
+            n,
+            width,
+            m,
+            tau,
+            offsets,
+            groups,
+            &vectors,
+            table,
+            &bits,
+            xs,
+            panel,
+        );
+        panel += 1;
+    }
 }

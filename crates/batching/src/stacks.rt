@@ -7,16 +7,24 @@ ghost use lib.ListN.{length};
 ghost use lib.Bits.{bitXor};
 ghost use Rattle.strings.specs.Sums.{byteAt, bitOf, xorSum};
 ghost use Rattle.lanes.specs.Lanes.{lanes, laneAt};
-ghost use Rattle.chunks.specs.Chunks.{chunk, cellAt, Masks};
+ghost use Rattle.chunks.specs.Chunks.{chunk, pair, cellAt, Masks};
 ghost use Rattle.choices.specs.Entries.{Chosen, Weighed};
-ghost use Rattle.columns.specs.Stacks.{stack, alpha, product, stackAt, stackOf};
-ghost use Rattle.batching.specs.Batched.{batchedByte};
+ghost use Rattle.columns.specs.Stacks.{alpha, product, stackAt, stackOf};
+ghost use Rattle.batching.specs.Batched.{most, cellSum};
 use chunks::CHUNK;
+use chunks::PAIR;
+use columns::SIDE;
 use columns::STACK;
 use lanes::LANES;
 
 // The bytes of eight masks.
 const MASKS: usize = 8 * CHUNK;
+
+// As many as a key may have variables (01: 1..160).
+pub const MOST: usize = 160;
+
+// The rows of a chunk.
+const ROWS: usize = 16;
 
 // Coordinate c of the vector of repetition e, 0 from n on.
 fn lane_byte(table: &[u8], c: usize, n: usize, e: usize) -> u8
@@ -26,34 +34,109 @@ fn lane_byte(table: &[u8], c: usize, n: usize, e: usize) -> u8
     if c < n { table[c * LANES + e] } else { 0 }
 }
 
-// Four coordinates of the vector of repetition e, from `first` on, each in as many bytes as a row has.
-fn spread(v: &mut [u8], table: &[u8], first: usize, n: usize, e: usize, w: usize)
-    requires { ⌜ (4 * w ≤ length (now v)) × (length (now table) ≡ n * lanes) × (e < lanes) × (first < n) ⌝ }
-    ensures { λ _. ⌜ ((g j : ℕ) → g < 4 → j < w → byteAt (now (v .exit)) (g * w + j) ≡ laneAt (now (table .entry)) (first + g) e) ⌝ }
+fn fill_vector(v: &mut [u8], table: &[u8], n: usize, e: usize)
+    requires { ⌜ (length (now table) ≡ n * lanes) × (e < lanes) ⌝ }
+    ensures { λ _. ⌜ ((c : ℕ) → c < length (now (v .entry)) → byteAt (now (v .exit)) c ≡ laneAt (now (table .entry)) c e) ⌝ }
+{
+    let mut c = 0;
+    while c < v.len() {
+        v[c] = lane_byte(table, c, n, e);
+        c += 1;
+    }
+}
+
+fn put_vector(vectors: &mut [u8], e: usize, table: &[u8], n: usize)
+    requires { ⌜ (length (now table) ≡ n * lanes) × (e < lanes) × (e * most + most ≤ length (now vectors)) ⌝ }
+    ensures { λ _. ⌜ ((c : ℕ) → c < most → byteAt (now (vectors .exit)) (e * most + c) ≡ laneAt (now (table .entry)) c e) ⌝ }
+    ensures { λ _. ⌜ ((q c : ℕ) → (q ≡ e → ⊥) → c < most → byteAt (now (vectors .exit)) (q * most + c) ≡ byteAt (now (vectors .entry)) (q * most + c)) ⌝ }
+{
+    let at = e * MOST;
+    fill_vector(&mut vectors[at..at + MOST], table, n, e);
+}
+
+// The vectors one after the other: the coordinates of a repetition stand together.
+pub fn fill_vectors(vectors: &mut [u8], tau: usize, table: &[u8], n: usize)
+    requires { ⌜ (length (now table) ≡ n * lanes) × (tau ≤ lanes) × (tau * most ≤ length (now vectors)) ⌝ }
+    ensures { λ _. ⌜ ((e c : ℕ) → e < tau → c < most → byteAt (now (vectors .exit)) (e * most + c) ≡ laneAt (now (table .entry)) c e) ⌝ }
+{
+    let mut e = 0;
+    while e < tau {
+        put_vector(vectors, e, table, n);
+        e += 1;
+    }
+}
+
+fn put_half(v: &mut [u8], h: usize, src: &[u8], from: usize)
+    requires { ⌜ (h * 16 + 16 ≤ length (now v)) × (from + 16 ≤ length (now src)) ⌝ }
+    ensures { λ _. ⌜ ((f : ℕ) → f < 16 → byteAt (now (v .exit)) (h * 16 + f) ≡ byteAt (now (src .entry)) (from + f)) ⌝ }
+    ensures { λ _. ⌜ ((q f : ℕ) → (q ≡ h → ⊥) → f < 16 → byteAt (now (v .exit)) (q * 16 + f) ≡ byteAt (now (v .entry)) (q * 16 + f)) ⌝ }
+{
+    let at = h * ROWS;
+    chunks::cells::copy_front(&mut v[at..at + ROWS], src, from, ROWS);
+}
+
+// Both halves of a chunk become sixteen bytes of src, from `from` on.
+fn spread(v: &mut [u8], src: &[u8], from: usize)
+    requires { ⌜ (length (now v) ≡ chunk) × (from + 16 ≤ length (now src)) ⌝ }
+    ensures { λ _. ⌜ ((h f : ℕ) → h < 2 → f < 16 → byteAt (now (v .exit)) (h * 16 + f) ≡ byteAt (now (src .entry)) (from + f)) ⌝ }
+{
+    put_half(v, 0, src, from);
+    put_half(v, 1, src, from);
+}
+
+fn put_copy(v: &mut [u8], h: usize, src: &[u8; CHUNK])
+    requires { ⌜ (h * chunk + chunk ≤ length (now v)) × (length (now src) ≡ chunk) ⌝ }
+    ensures { λ _. ⌜ ((f : ℕ) → f < chunk → byteAt (now (v .exit)) (h * chunk + f) ≡ byteAt (now (src .entry)) f) ⌝ }
+    ensures { λ _. ⌜ ((q f : ℕ) → (q ≡ h → ⊥) → f < chunk → byteAt (now (v .exit)) (q * chunk + f) ≡ byteAt (now (v .entry)) (q * chunk + f)) ⌝ }
+{
+    let at = h * CHUNK;
+    chunks::cells::copy_chunk(&mut v[at..at + CHUNK], src);
+}
+
+// A chunk twice, side by side.
+fn double(v: &mut [u8], src: &[u8; CHUNK])
+    requires { ⌜ (length (now v) ≡ pair) × (length (now src) ≡ chunk) ⌝ }
+    ensures { λ _. ⌜ ((h f : ℕ) → h < 2 → f < chunk → byteAt (now (v .exit)) (h * chunk + f) ≡ byteAt (now (src .entry)) f) ⌝ }
+{
+    put_copy(v, 0, src);
+    put_copy(v, 1, src);
+}
+
+// Adds a plane whose weight is α^p, times v, whose masks are lent: mask b is that of α^b. The plane is lent twice, for two masks at a time.
+fn absorb_plane(t: &mut [u8], p: usize, twice: &[u8], masks: &[u8])
+    requires { ⌜ (length (now t) ≡ 15 * chunk) × (p < 8) × (length (now twice) ≡ pair) × (length (now masks) ≡ 8 * chunk) ⌝ }
+    ensures { λ _. ⌜ ((m v : List ℕ) (f z : ℕ) → ((h f : ℕ) → h < 2 → f < chunk → byteAt (now (twice .entry)) (h * chunk + f) ≡ byteAt m f) → Masks v (now (masks .entry)) → byteAt v f < 256 → f < chunk → stackAt 15 (now (t .exit)) f z ≡ bitXor (stackAt 15 (now (t .entry)) f z) (bitOf (byteAt m f) z * product (alpha p) (byteAt v f))) ⌝ }
 {
     let mut g = 0;
     while g < 4 {
-        chunks::masks::fill_part(v, g, w, lane_byte(table, first + g, n, e));
+        chunks::masks::xor_and_rows(t, p + 2 * g, twice, strings::row_at(masks, PAIR, g));
         g += 1;
     }
 }
 
-// Adds m, a plane whose weight is α^p, times v, whose masks are lent: mask b is that of α^b.
-fn absorb_plane(t: &mut [u8], p: usize, m: &[u8], masks: &[u8])
-    requires { ⌜ (length (now t) ≡ stack) × (p < 8) × (length (now m) ≡ chunk) × (length (now masks) ≡ 8 * chunk) ⌝ }
-    ensures { λ _. ⌜ ((v : List ℕ) (f z : ℕ) → Masks v (now (masks .entry)) → byteAt v f < 256 → f < chunk → stackAt (now (t .exit)) f z ≡ bitXor (stackAt (now (t .entry)) f z) (bitOf (byteAt (now (m .entry)) f) z * product (alpha p) (byteAt v f))) ⌝ }
+// Adds m, a plane whose weight is α^p, under a mask.
+fn absorb_side(t: &mut [u8], p: usize, m: &[u8], mask: &[u8])
+    requires { ⌜ (length (now t) ≡ 8 * chunk) × (p < 8) × (length (now m) ≡ chunk) × (length (now mask) ≡ chunk) ⌝ }
+    ensures { λ _. ⌜ ((x f z : ℕ) → x < 2 → byteAt (now (mask .entry)) f ≡ x * 255 → f < chunk → stackAt 8 (now (t .exit)) f z ≡ bitXor (stackAt 8 (now (t .entry)) f z) (x * (bitOf (byteAt (now (m .entry)) f) z * alpha p))) ⌝ }
 {
-    let mut b = 0;
-    while b < 8 {
-        chunks::masks::xor_and_row(t, p + b, m, strings::row_at(masks, CHUNK, b));
-        b += 1;
-    }
+    chunks::masks::xor_and_row(t, p, m, mask);
 }
 
-// Adds to a stack the chunk of the batched matrix times v: the sum of the rows S, each times its byte χ, whose bits chose the offsets.
-fn absorb(t: &mut [u8], offsets: &[u16], base: usize, groups: usize, sums: &[u8], masks: &[u8])
-    requires { ⌜ (length (now t) ≡ stack) × ((base + 8) * groups ≤ length (now offsets)) × (groups % 2 ≡ 0) × ((k : ℕ) → k < (base + 8) * groups → byteAt (now offsets) k * 16 + chunk ≤ length (now sums)) × (length (now masks) ≡ 8 * chunk) × (base ≤ 1000) ⌝ }
-    ensures { λ _. ⌜ ((S v : List ℕ) (χ : ℕ → ℕ) (m f z : ℕ) → Weighed S χ m (now (sums .entry)) (now (offsets .entry)) groups base → Masks v (now (masks .entry)) → byteAt v f < 256 → f < chunk → stackAt (now (t .exit)) f z ≡ bitXor (stackAt (now (t .entry)) f z) (product (byteAt v f) (xorSum m (λ i. bitOf (cellAt S i f) z * χ i)))) ⌝ }
+// Adds a chunk of the batched matrix to a stack, times v, and to a side, under a mask: it is the sum of the rows S, each times its byte χ, whose
+// bits chose the offsets.
+fn absorb(
+    t: &mut [u8],
+    side: &mut [u8],
+    offsets: &[u16],
+    base: usize,
+    groups: usize,
+    sums: &[u8],
+    masks: &[u8],
+    mask: &[u8],
+)
+    requires { ⌜ (length (now t) ≡ 15 * chunk) × (length (now side) ≡ 8 * chunk) × ((base + 8) * groups ≤ length (now offsets)) × (groups % 2 ≡ 0) × ((k : ℕ) → k < (base + 8) * groups → byteAt (now offsets) k * 16 + chunk ≤ length (now sums)) × (length (now masks) ≡ 8 * chunk) × (length (now mask) ≡ chunk) × (base ≤ 1000) ⌝ }
+    ensures { λ _. ⌜ ((S v : List ℕ) (χ : ℕ → ℕ) (m f z : ℕ) → Weighed S χ m (now (sums .entry)) (now (offsets .entry)) groups base → Masks v (now (masks .entry)) → byteAt v f < 256 → f < chunk → stackAt 15 (now (t .exit)) f z ≡ bitXor (stackAt 15 (now (t .entry)) f z) (product (byteAt v f) (xorSum m (λ i. bitOf (cellAt S i f) z * χ i)))) ⌝ }
+    ensures { λ _. ⌜ ((S : List ℕ) (χ : ℕ → ℕ) (m x f z : ℕ) → Weighed S χ m (now (sums .entry)) (now (offsets .entry)) groups base → x < 2 → byteAt (now (mask .entry)) f ≡ x * 255 → f < chunk → stackAt 8 (now (side .exit)) f z ≡ bitXor (stackAt 8 (now (side .entry)) f z) (x * xorSum m (λ i. bitOf (cellAt S i f) z * χ i))) ⌝ }
 {
     let mut p = 0;
     while p < 8 {
@@ -63,88 +146,120 @@ fn absorb(t: &mut [u8], offsets: &[u16], base: usize, groups: usize, sums: &[u8]
             choices::offsets::row_at(offsets, groups, base + p),
             sums,
         );
-        absorb_plane(t, p, &sum, masks);
+        let mut twice = [0u8; PAIR];
+        double(&mut twice, &sum);
+        absorb_plane(t, p, &twice, masks);
+        absorb_side(side, p, &sum, mask);
         p += 1;
     }
 }
 
-// Adds to the stack of repetition e four rows of the batched matrix, from `first` on, each times its coordinate.
+// Adds to the stack and to the side of repetition e the same sixteen rows of the batched matrix, from `first` on: times the vector of e, and
+// under the mask.
 fn absorb_lane(
     stacks: &mut [u8],
+    sides: &mut [u8],
     e: usize,
     offsets: &[u16],
     groups: usize,
     sums: &[u8],
-    table: &[u8],
+    vectors: &[u8],
     first: usize,
-    n: usize,
-    width: usize,
+    mask: &[u8],
 )
-    requires { ⌜ (e * stack + stack ≤ length (now stacks)) × ((e * 8 + 8) * groups ≤ length (now offsets)) × (groups % 2 ≡ 0) × ((k : ℕ) → k < (e * 8 + 8) * groups → byteAt (now offsets) k * 16 + chunk ≤ length (now sums)) × (length (now table) ≡ n * lanes) × (e < lanes) × (first < n) × (4 * width ≤ chunk) ⌝ }
-    ensures { λ _. ⌜ ((S : List ℕ) (χ : ℕ → ℕ) (m g j z : ℕ) → Weighed S χ m (now (sums .entry)) (now (offsets .entry)) groups (e * 8) → g < 4 → j < width → stackOf (now (stacks .exit)) e (g * width + j) z ≡ bitXor (stackOf (now (stacks .entry)) e (g * width + j) z) (product (laneAt (now (table .entry)) (first + g) e) (xorSum m (λ i. bitOf (cellAt S i (g * width + j)) z * χ i)))) ⌝ }
-    ensures { λ _. ⌜ ((q b : ℕ) → (q ≡ e → ⊥) → b < stack → byteAt (now (stacks .exit)) (q * stack + b) ≡ byteAt (now (stacks .entry)) (q * stack + b)) ⌝ }
+    requires { ⌜ (e * (15 * chunk) + 15 * chunk ≤ length (now stacks)) × (e * (8 * chunk) + 8 * chunk ≤ length (now sides)) × ((e * 8 + 8) * groups ≤ length (now offsets)) × (groups % 2 ≡ 0) × ((k : ℕ) → k < (e * 8 + 8) * groups → byteAt (now offsets) k * 16 + chunk ≤ length (now sums)) × (e * most + most ≤ length (now vectors)) × (first + 16 ≤ most) × (length (now mask) ≡ chunk) × (e < lanes) ⌝ }
+    ensures { λ _. ⌜ ((S : List ℕ) (χ : ℕ → ℕ) (m h f z : ℕ) → Weighed S χ m (now (sums .entry)) (now (offsets .entry)) groups (e * 8) → h < 2 → f < 16 → stackOf 15 (now (stacks .exit)) e (h * 16 + f) z ≡ bitXor (stackOf 15 (now (stacks .entry)) e (h * 16 + f) z) (product (byteAt (now (vectors .entry)) (e * most + (first + f))) (xorSum m (λ i. bitOf (cellAt S i (h * 16 + f)) z * χ i)))) ⌝ }
+    ensures { λ _. ⌜ ((S : List ℕ) (χ : ℕ → ℕ) (m x f z : ℕ) → Weighed S χ m (now (sums .entry)) (now (offsets .entry)) groups (e * 8) → x < 2 → byteAt (now (mask .entry)) f ≡ x * 255 → f < chunk → stackOf 8 (now (sides .exit)) e f z ≡ bitXor (stackOf 8 (now (sides .entry)) e f z) (x * xorSum m (λ i. bitOf (cellAt S i f) z * χ i))) ⌝ }
+    ensures { λ _. ⌜ ((q b : ℕ) → (q ≡ e → ⊥) → b < 15 * chunk → byteAt (now (stacks .exit)) (q * (15 * chunk) + b) ≡ byteAt (now (stacks .entry)) (q * (15 * chunk) + b)) ⌝ }
+    ensures { λ _. ⌜ ((q b : ℕ) → (q ≡ e → ⊥) → b < 8 * chunk → byteAt (now (sides .exit)) (q * (8 * chunk) + b) ≡ byteAt (now (sides .entry)) (q * (8 * chunk) + b)) ⌝ }
 {
     let mut v = [0u8; CHUNK];
     let mut masks = [0u8; MASKS];
-    spread(&mut v, table, first, n, e, width);
+    spread(&mut v, vectors, e * MOST + first);
     chunks::masks::fill_masks(&mut masks, &v);
     let at = e * STACK;
+    let beside = e * SIDE;
     absorb(
         &mut stacks[at..at + STACK],
+        &mut sides[beside..beside + SIDE],
         offsets,
         e * 8,
         groups,
         sums,
         &masks,
+        mask,
     );
 }
 
 // The same for each of the tau repetitions.
 fn absorb_lanes(
     stacks: &mut [u8],
+    sides: &mut [u8],
     tau: usize,
     offsets: &[u16],
     groups: usize,
     sums: &[u8],
-    table: &[u8],
+    vectors: &[u8],
     first: usize,
-    n: usize,
-    width: usize,
+    mask: &[u8],
 )
-    requires { ⌜ (tau * stack ≤ length (now stacks)) × (tau * 8 * groups ≤ length (now offsets)) × (groups % 2 ≡ 0) × ((k : ℕ) → k < tau * 8 * groups → byteAt (now offsets) k * 16 + chunk ≤ length (now sums)) × (length (now table) ≡ n * lanes) × (tau ≤ lanes) × (first < n) × (4 * width ≤ chunk) ⌝ }
-    ensures { λ _. ⌜ ((S : List ℕ) (χ : ℕ → ℕ → ℕ) (m e g j z : ℕ) → ((q : ℕ) → q < tau → Weighed S (χ q) m (now (sums .entry)) (now (offsets .entry)) groups (q * 8)) → e < tau → g < 4 → j < width → stackOf (now (stacks .exit)) e (g * width + j) z ≡ bitXor (stackOf (now (stacks .entry)) e (g * width + j) z) (product (laneAt (now (table .entry)) (first + g) e) (xorSum m (λ i. bitOf (cellAt S i (g * width + j)) z * χ e i)))) ⌝ }
+    requires { ⌜ (tau * (15 * chunk) ≤ length (now stacks)) × (tau * (8 * chunk) ≤ length (now sides)) × (tau * 8 * groups ≤ length (now offsets)) × (groups % 2 ≡ 0) × ((k : ℕ) → k < tau * 8 * groups → byteAt (now offsets) k * 16 + chunk ≤ length (now sums)) × (tau * most ≤ length (now vectors)) × (first + 16 ≤ most) × (length (now mask) ≡ chunk) × (tau ≤ lanes) ⌝ }
+    ensures { λ _. ⌜ ((S : List ℕ) (χ : ℕ → ℕ → ℕ) (m e h f z : ℕ) → ((q : ℕ) → q < tau → Weighed S (χ q) m (now (sums .entry)) (now (offsets .entry)) groups (q * 8)) → e < tau → h < 2 → f < 16 → stackOf 15 (now (stacks .exit)) e (h * 16 + f) z ≡ bitXor (stackOf 15 (now (stacks .entry)) e (h * 16 + f) z) (product (byteAt (now (vectors .entry)) (e * most + (first + f))) (xorSum m (λ i. bitOf (cellAt S i (h * 16 + f)) z * χ e i)))) ⌝ }
+    ensures { λ _. ⌜ ((S : List ℕ) (χ : ℕ → ℕ → ℕ) (m x e f z : ℕ) → ((q : ℕ) → q < tau → Weighed S (χ q) m (now (sums .entry)) (now (offsets .entry)) groups (q * 8)) → x < 2 → byteAt (now (mask .entry)) f ≡ x * 255 → e < tau → f < chunk → stackOf 8 (now (sides .exit)) e f z ≡ bitXor (stackOf 8 (now (sides .entry)) e f z) (x * xorSum m (λ i. bitOf (cellAt S i f) z * χ e i))) ⌝ }
 {
     let mut e = 0;
     while e < tau {
-        absorb_lane(stacks, e, offsets, groups, sums, table, first, n, width);
+        absorb_lane(
+            stacks,
+            sides,
+            e,
+            offsets,
+            groups,
+            sums,
+            vectors,
+            first,
+            mask,
+        );
         e += 1;
     }
 }
 
-// Adds the whole batched matrix times the vectors, its rows side by side in four parts of a stack: part g has the rows ρ with ρ mod 4 = g.
-// The matrices are the m strings of a, of n rows of `width` bytes. The batching bytes are public, and so are the tables that they index.
+// Adds the cells of a panel of the batched matrix, each row times its coordinate of the vectors, and to the sides under its bit, of which the
+// masks are lent. The batching bytes are public, and so are the tables that they index; `sums` is space for these.
 pub fn collect(
     stacks: &mut [u8],
-    a: &[u8],
-    n: usize,
-    width: usize,
+    sides: &mut [u8],
+    sums: &mut [u8],
+    cells: &[u8],
+    panel: usize,
     m: usize,
     tau: usize,
     offsets: &[u16],
     groups: usize,
-    table: &[u8],
+    vectors: &[u8],
+    bits: &[u8],
 )
-    requires { ⌜ (tau * stack ≤ length (now stacks)) × (length (now a) ≡ m * (n * width)) × (n ≤ 160) × (m ≤ 160) × (groups ≡ (m + 7) / 8 * 2) × (tau * 8 * groups ≤ length (now offsets)) × ((k : ℕ) → k < tau * 8 * groups → byteAt (now offsets) k * 16 + chunk ≤ 51200) × (length (now table) ≡ n * lanes) × (tau ≤ lanes) × (4 * width ≤ chunk) × (0 < m) × (0 < tau) ⌝ }
-    ensures { λ _. ⌜ ((χ : List ℕ) (e g j z : ℕ) → ((k : ℕ) → byteAt χ k < 256) → ((r : ℕ) → r < tau * 8 → Chosen χ m groups (now (offsets .entry)) r) → e < tau → g < 4 → j < width → stackOf (now (stacks .exit)) e (g * width + j) z ≡ bitXor (stackOf (now (stacks .entry)) e (g * width + j) z) (xorSum ((n + 3) / 4) (λ k. product (laneAt (now (table .entry)) (k * 4 + g) e) (batchedByte width (n * width) m (now (a .entry)) χ e (k * 4 + g) j z)))) ⌝ }
+    requires { ⌜ (tau * (15 * chunk) ≤ length (now stacks)) × (tau * (8 * chunk) ≤ length (now sides)) × (length (now sums) ≡ 32768) × ((panel + 1) * (m * chunk) ≤ length (now cells)) × (panel * 16 + 16 ≤ most) × (0 < m) × (m ≤ 160) × (0 < tau) × (tau ≤ lanes) × (groups ≡ (m + 9) / 10 * 2) × (tau * 8 * groups ≤ length (now offsets)) × ((k : ℕ) → k < tau * 8 * groups → byteAt (now offsets) k * 16 + chunk ≤ 32768) × (tau * most ≤ length (now vectors)) × (length (now bits) ≡ most) ⌝ }
+    ensures { λ _. ⌜ ((χ : List ℕ) (e h f z : ℕ) → ((k : ℕ) → byteAt χ k < 256) → ((r : ℕ) → r < tau * 8 → Chosen χ m groups (now (offsets .entry)) r) → e < tau → h < 2 → f < 16 → stackOf 15 (now (stacks .exit)) e (h * 16 + f) z ≡ bitXor (stackOf 15 (now (stacks .entry)) e (h * 16 + f) z) (xorSum (panel + 1) (λ q. product (byteAt (now (vectors .entry)) (e * most + (q * 16 + f))) (cellSum (now (cells .entry)) m χ e q (h * 16 + f) z)))) ⌝ }
+    ensures { λ _. ⌜ ((χ : List ℕ) (x : ℕ → ℕ) (e h f z : ℕ) → ((k : ℕ) → byteAt χ k < 256) → ((r : ℕ) → r < tau * 8 → Chosen χ m groups (now (offsets .entry)) r) → ((c : ℕ) → x c < 2) → ((c : ℕ) → c < most → byteAt (now (bits .entry)) c ≡ x c * 255) → e < tau → h < 2 → f < 16 → stackOf 8 (now (sides .exit)) e (h * 16 + f) z ≡ bitXor (stackOf 8 (now (sides .entry)) e (h * 16 + f) z) (xorSum (panel + 1) (λ q. x (q * 16 + f) * cellSum (now (cells .entry)) m χ e q (h * 16 + f) z))) ⌝ }
 {
-    let mut cells = [0u8; 160 * CHUNK];
-    let mut sums = [0u8; 640 * CHUNK];
-    let mut k = 0;
-    while k * 4 < n {
-        chunks::cells::load(&mut cells, a, n * width, k * 4 * width, 4 * width, m);
-        choices::sums::fill_sums(&mut sums, groups, m, &cells[..m * CHUNK]);
-        choices::sums::add_first(stacks, &sums);
-        absorb_lanes(stacks, tau, offsets, groups, &sums, table, k * 4, n, width);
-        k += 1;
+    let mut q = 0;
+    while q <= panel {
+        let mut mask = [0u8; CHUNK];
+        choices::sums::fill_sums(sums, groups, m, strings::row_at(cells, m * CHUNK, q));
+        choices::sums::add_first(stacks, sums);
+        spread(&mut mask, bits, q * ROWS);
+        absorb_lanes(
+            stacks,
+            sides,
+            tau,
+            offsets,
+            groups,
+            sums,
+            vectors,
+            q * ROWS,
+            &mask,
+        );
+        q += 1;
     }
 }

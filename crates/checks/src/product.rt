@@ -54,25 +54,12 @@ pub fn product_lanes(
     ensures { λ _. ⌜ ((e : ℕ) → e < tau → byteAt (now (left .exit)) e ≡ productByte n m (now (a .entry)) (now (b .entry)) (now (y .entry)) (now (chi .entry)) (byteAt (now (delta .entry)) e) (now (table .entry)) e) ⌝ }
 {
     let mut linear = [0u8; LANES];
-    let mut unused = [0u8; LANES];
     let mut values = [0u8; LANES];
     let mut square = [0u8; LANES];
     let zeros = [0u8; VARIABLES];
     let front = &table[..n * LANES];
     strings::clear(left);
-    quadratic::batch::batch_forms(
-        left,
-        &mut linear,
-        &mut unused,
-        a,
-        b,
-        &zeros,
-        chi,
-        n,
-        m,
-        tau,
-        front,
-    );
+    quadratic::batch::batch_forms(left, &mut linear, a, b, &zeros, chi, n, m, tau, front);
     batch_values(&mut values, y, chi, m, tau);
     lanes::accumulate(left, delta, &linear);
     lanes::accumulate(&mut square, delta, delta);

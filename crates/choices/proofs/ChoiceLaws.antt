@@ -14,52 +14,53 @@ use Rattle.chunks.specs.Chunks.{chunk, cellAt}
 use Rattle.chunks.proofs.BitSumLaws.{sum-blocks}
 use Rattle.choices.specs.Entries.{entryByte, choice, Chosen, Weighed}
 
--- ---- the four bits of a choice
+-- ---- the five bits of a choice
 
-four-lt : (a b c d : ℕ) → a < 2 → b < 2 → c < 2 → d < 2 → a + b * 2 + c * 4 + d * 8 < 16
-four-lt a b c d h k l m = omega arith
+five-lt : (a b c d e : ℕ) → a < 2 → b < 2 → c < 2 → d < 2 → e < 2 → a + b * 2 + c * 4 + d * 8 + e * 16 < 32
+five-lt a b c d e h k l m n = omega arith
 
-pub choice-lt : (χ : ℕ → ℕ) (p g : ℕ) → choice χ p g < 16
+pub choice-lt : (χ : ℕ → ℕ) (p g : ℕ) → choice χ p g < 32
 unfolding choice
 choice-lt χ p g =
-    four-lt (bitOf (χ (g * 4)) p) (bitOf (χ (g * 4 + 1)) p) (bitOf (χ (g * 4 + 2)) p) (bitOf (χ (g * 4 + 3)) p) (bitOf-lt _ p) (bitOf-lt _ p) (bitOf-lt _ p) (bitOf-lt _ p)
+    five-lt (bitOf (χ (g * 5)) p) (bitOf (χ (g * 5 + 1)) p) (bitOf (χ (g * 5 + 2)) p) (bitOf (χ (g * 5 + 3)) p) (bitOf (χ (g * 5 + 4)) p) (bitOf-lt _ p) (bitOf-lt _ p) (bitOf-lt _ p) (bitOf-lt _ p) (bitOf-lt _ p)
 
-four-bits : (a b c d : ℕ) → a < 2 → b < 2 → c < 2 → d < 2
-    → (bitOf (a + b * 2 + c * 4 + d * 8) 0 ≡ a) × (bitOf (a + b * 2 + c * 4 + d * 8) 1 ≡ b) × (bitOf (a + b * 2 + c * 4 + d * 8) 2 ≡ c) × (bitOf (a + b * 2 + c * 4 + d * 8) 3 ≡ d)
+five-bits : (a b c d e : ℕ) → a < 2 → b < 2 → c < 2 → d < 2 → e < 2
+    → (bitOf (a + b * 2 + c * 4 + d * 8 + e * 16) 0 ≡ a) × (bitOf (a + b * 2 + c * 4 + d * 8 + e * 16) 1 ≡ b) × (bitOf (a + b * 2 + c * 4 + d * 8 + e * 16) 2 ≡ c) × (bitOf (a + b * 2 + c * 4 + d * 8 + e * 16) 3 ≡ d) × (bitOf (a + b * 2 + c * 4 + d * 8 + e * 16) 4 ≡ e)
 unfolding bitOf
-four-bits a b c d h k l m = (omega arith, omega arith, omega arith, omega arith)
+five-bits a b c d e h k l m n = (omega arith, omega arith, omega arith, omega arith, omega arith)
 
 choice-bits : (χ : ℕ → ℕ) (p g : ℕ)
-    → (bitOf (choice χ p g) 0 ≡ bitOf (χ (g * 4)) p) × (bitOf (choice χ p g) 1 ≡ bitOf (χ (g * 4 + 1)) p) × (bitOf (choice χ p g) 2 ≡ bitOf (χ (g * 4 + 2)) p) × (bitOf (choice χ p g) 3 ≡ bitOf (χ (g * 4 + 3)) p)
+    → (bitOf (choice χ p g) 0 ≡ bitOf (χ (g * 5)) p) × (bitOf (choice χ p g) 1 ≡ bitOf (χ (g * 5 + 1)) p) × (bitOf (choice χ p g) 2 ≡ bitOf (χ (g * 5 + 2)) p) × (bitOf (choice χ p g) 3 ≡ bitOf (χ (g * 5 + 3)) p) × (bitOf (choice χ p g) 4 ≡ bitOf (χ (g * 5 + 4)) p)
 unfolding choice
 choice-bits χ p g =
-    four-bits (bitOf (χ (g * 4)) p) (bitOf (χ (g * 4 + 1)) p) (bitOf (χ (g * 4 + 2)) p) (bitOf (χ (g * 4 + 3)) p) (bitOf-lt _ p) (bitOf-lt _ p) (bitOf-lt _ p) (bitOf-lt _ p)
+    five-bits (bitOf (χ (g * 5)) p) (bitOf (χ (g * 5 + 1)) p) (bitOf (χ (g * 5 + 2)) p) (bitOf (χ (g * 5 + 3)) p) (bitOf (χ (g * 5 + 4)) p) (bitOf-lt _ p) (bitOf-lt _ p) (bitOf-lt _ p) (bitOf-lt _ p) (bitOf-lt _ p)
 
-pub choice-bit : (χ : ℕ → ℕ) (p g s : ℕ) → s < 4 → bitOf (choice χ p g) s ≡ bitOf (χ (g * 4 + s)) p
-choice-bit χ p g zero h = choice-bits χ p g .0 ∙ ap (λ (i : ℕ). bitOf (χ i) p) (sym (add-zero (g * 4)))
+pub choice-bit : (χ : ℕ → ℕ) (p g s : ℕ) → s < 5 → bitOf (choice χ p g) s ≡ bitOf (χ (g * 5 + s)) p
+choice-bit χ p g zero h = choice-bits χ p g .0 ∙ ap (λ (i : ℕ). bitOf (χ i) p) (sym (add-zero (g * 5)))
 choice-bit χ p g (suc zero) h = choice-bits χ p g .1
 choice-bit χ p g (suc (suc zero)) h = choice-bits χ p g .2
 choice-bit χ p g (suc (suc (suc zero))) h = choice-bits χ p g .3
-choice-bit χ p g (suc (suc (suc (suc s)))) h = absurd (omega arith)
+choice-bit χ p g (suc (suc (suc (suc zero)))) h = choice-bits χ p g .4
+choice-bit χ p g (suc (suc (suc (suc (suc s))))) h = absurd (omega arith)
 
-pub choice-same : (χ ψ : ℕ → ℕ) (p g : ℕ) → ((i : ℕ) → i < g * 4 + 4 → χ i ≡ ψ i) → choice χ p g ≡ choice ψ p g
+pub choice-same : (χ ψ : ℕ → ℕ) (p g : ℕ) → ((i : ℕ) → i < g * 5 + 5 → χ i ≡ ψ i) → choice χ p g ≡ choice ψ p g
 unfolding choice
 choice-same χ ψ p g same =
-    rw (same (g * 4) (omega arith), same (g * 4 + 1) (omega arith), same (g * 4 + 2) (omega arith), same (g * 4 + 3) (omega arith))
+    rw (same (g * 5) (omega arith), same (g * 5 + 1) (omega arith), same (g * 5 + 2) (omega arith), same (g * 5 + 3) (omega arith), same (g * 5 + 4) (omega arith))
 
 -- ---- entries
 
-pub entry-chosen : (S : List ℕ) (χ : ℕ → ℕ) (p g f : ℕ) → entryByte S (g * 16 + choice χ p g) f ≡ xorSum 4 (λ s. bitOf (χ (g * 4 + s)) p * cellAt S (g * 4 + s) f)
+pub entry-chosen : (S : List ℕ) (χ : ℕ → ℕ) (p g f : ℕ) → entryByte S (g * 32 + choice χ p g) f ≡ xorSum 5 (λ s. bitOf (χ (g * 5 + s)) p * cellAt S (g * 5 + s) f)
 entry-chosen S χ p g f =
     let small = choice-lt χ p g in
-    let q : (g * 16 + choice χ p g) / 16 * 4 ≡ g * 4 = omega arith in
-    let r : (g * 16 + choice χ p g) % 16 ≡ choice χ p g = omega arith in
-    rw (q, r) (sum-same 4 _ _ (λ s h. ap (λ (x : ℕ). x * cellAt S (g * 4 + s) f) (choice-bit χ p g s h)))
+    let q : (g * 32 + choice χ p g) / 32 * 5 ≡ g * 5 = omega arith in
+    let r : (g * 32 + choice χ p g) % 32 ≡ choice χ p g = omega arith in
+    rw (q, r) (sum-same 5 _ _ (λ s h. ap (λ (x : ℕ). x * cellAt S (g * 5 + s) f) (choice-bit χ p g s h)))
 
 -- ---- offsets
 
 -- an entry at an offset stands whole in the largest table
-pub chosen-fits : (χ O : List ℕ) (m G R k : ℕ) → 0 < G → G ≤ 40 → ((r : ℕ) → r < R → Chosen χ m G O r) → k < R * G → byteAt O k * 16 + chunk ≤ 51200
+pub chosen-fits : (χ O : List ℕ) (m G R k : ℕ) → 0 < G → G ≤ 32 → ((r : ℕ) → r < R → Chosen χ m G O r) → k < R * G → byteAt O k * 16 + chunk ≤ 32768
 chosen-fits χ O m G R k pos most chosen h =
     let r = k / G in
     let g = k % G in
@@ -69,7 +70,7 @@ chosen-fits χ O m G R k pos most chosen h =
     let e : byteAt O k ≡ byteAt O (r * G + g) = ap (byteAt O) (sym (div-add-mod' k G)) in
     omega (arith, e, is, within, small, most)
 
-unit-entry : (o k : ℕ) → o ≡ k * 5 → o * 16 ≡ k * chunk
+unit-entry : (o k : ℕ) → o ≡ k * 2 → o * 16 ≡ k * chunk
 unit-entry o k h = omega arith
 
 -- there are no rows from m on
@@ -83,10 +84,10 @@ rows-end S q m k f long =
 pub chosen-sum : (S : List ℕ) (χ : ℕ → ℕ) (m : ℕ) (sums O : List ℕ) (G r p f : ℕ) → Weighed S χ m sums O G r → p < 8 → f < chunk
     → xorSum G (λ g. byteAt sums (byteAt O ((r + p) * G + g) * 16 + f)) ≡ xorSum m (λ i. bitOf (χ i) p * cellAt S i f)
 chosen-sum S χ m sums O G r p f (tabled, long, most, small, offset) hp hf =
-    let whole : G * 4 ≡ m + (G * 4 - m) = omega arith in
-    sum-same G _ (λ g. xorSum 4 (λ s. bitOf (χ (g * 4 + s)) p * cellAt S (g * 4 + s) f))
+    let whole : G * 5 ≡ m + (G * 5 - m) = omega arith in
+    sum-same G _ (λ g. xorSum 5 (λ s. bitOf (χ (g * 5 + s)) p * cellAt S (g * 5 + s) f))
     (λ g h.
-    ap (λ (x : ℕ). byteAt sums (x + f)) (unit-entry (byteAt O ((r + p) * G + g)) (g * 16 + choice χ p g) (offset p g hp h))
-    ∙ tabled (g * 16 + choice χ p g) f (omega (arith, choice-lt χ p g)) hf ∙ entry-chosen S χ p g f)
-    ∙ sum-blocks G 4 (λ i. bitOf (χ i) p * cellAt S i f) ∙ ap (λ (n : ℕ). xorSum n (λ i. bitOf (χ i) p * cellAt S i f)) whole
-    ∙ rows-end S (λ i. bitOf (χ i) p) m (G * 4 - m) f long
+    ap (λ (x : ℕ). byteAt sums (x + f)) (unit-entry (byteAt O ((r + p) * G + g)) (g * 32 + choice χ p g) (offset p g hp h))
+    ∙ tabled (g * 32 + choice χ p g) f (omega (arith, choice-lt χ p g)) hf ∙ entry-chosen S χ p g f)
+    ∙ sum-blocks G 5 (λ i. bitOf (χ i) p * cellAt S i f) ∙ ap (λ (n : ℕ). xorSum n (λ i. bitOf (χ i) p * cellAt S i f)) whole
+    ∙ rows-end S (λ i. bitOf (χ i) p) m (G * 5 - m) f long

@@ -1,3 +1,3 @@
-// Sums of the rows that public bits choose: the table of the sums of each four rows, and where in it the entries stand that the bits choose.
+// Sums of the rows that public bits choose: the table of the sums of each five rows, and where in it the entries stand that the bits choose.
 pub mod offsets;
 pub mod sums;

@@ -1,4 +1,4 @@
-// Sums of the rows that public bits select. Four rows at a time, the sixteen sums of them are in a table, so that one addition serves four rows.
+// Sums of the rows that public bits select. Five rows at a time, the 32 sums of them are in a table, so that one addition serves five rows.
 ghost use mathlib.Core.Path.{_≡_};
 ghost use mathlib.Core.List.{List};
 ghost use Prim.Native.Nat.{ℕ, _+_, _*_, _/_, _%_, _^_, _<_, _≤_};
@@ -9,8 +9,8 @@ ghost use Rattle.chunks.specs.Chunks.{chunk, cellAt};
 ghost use Rattle.choices.specs.Entries.{entryByte, Tabled};
 use chunks::CHUNK;
 
-// The entries of the table of sums for four rows, one for each value of half a byte.
-const HALF: usize = 16;
+// The entries of the table of sums for five rows, one for each value of five bits.
+const HALF: usize = 32;
 
 // The bytes that offsets count.
 pub const UNIT: usize = 16;
@@ -51,7 +51,7 @@ fn store(sums: &mut [u8], k: usize, src: &[u8; CHUNK])
     ensures { λ _. ⌜ ((q f : ℕ) → (q ≡ k → ⊥) → f < chunk → cellAt (now (sums .exit)) q f ≡ cellAt (now (sums .entry)) q f) ⌝ }
 {
     let at = k * CHUNK;
-    copy_chunk(&mut sums[at..at + CHUNK], src);
+    chunks::cells::copy_chunk(&mut sums[at..at + CHUNK], src);
 }
 
 // Entry `to` becomes entry `from` plus a row.
@@ -79,45 +79,34 @@ fn fill_next(sums: &mut [u8], base: usize, count: usize, row: &[u8; CHUNK])
     }
 }
 
-// The sixteen sums of four rows: with each row the sums so far are doubled.
+// The 32 sums of five rows: with each row the sums so far are doubled.
 fn fill_group(sums: &mut [u8], g: usize, n: usize, table: &[u8])
-    requires { ⌜ ((g * 16 + 16) * chunk ≤ length (now sums)) × (length (now table) ≡ n * chunk) ⌝ }
-    ensures { λ _. ⌜ ((v f : ℕ) → v < 16 → f < chunk → cellAt (now (sums .exit)) (g * 16 + v) f ≡ entryByte (now (table .entry)) (g * 16 + v) f) ⌝ }
-    ensures { λ _. ⌜ ((q f : ℕ) → q < g * 16 → f < chunk → cellAt (now (sums .exit)) q f ≡ cellAt (now (sums .entry)) q f) ⌝ }
+    requires { ⌜ ((g * 32 + 32) * chunk ≤ length (now sums)) × (length (now table) ≡ n * chunk) ⌝ }
+    ensures { λ _. ⌜ ((v f : ℕ) → v < 32 → f < chunk → cellAt (now (sums .exit)) (g * 32 + v) f ≡ entryByte (now (table .entry)) (g * 32 + v) f) ⌝ }
+    ensures { λ _. ⌜ ((q f : ℕ) → q < g * 32 → f < chunk → cellAt (now (sums .exit)) q f ≡ cellAt (now (sums .entry)) q f) ⌝ }
 {
     let zero = [0u8; CHUNK];
     store(sums, g * HALF, &zero);
     let mut count = 1;
     let mut s = 0;
-    while s < 4 {
+    while s < 5 {
         let mut row = [0u8; CHUNK];
-        add_row(&mut row, g * 4 + s, n, table);
+        add_row(&mut row, g * 5 + s, n, table);
         fill_next(sums, g * HALF, count, &row);
         count *= 2;
         s += 1;
     }
 }
 
-// The table of sums of the n rows, sixteen entries for each four of them. Made once, it serves every plane of every repetition.
+// The table of sums of the n rows, 32 entries for each five of them. Made once, it serves every plane of every repetition.
 pub fn fill_sums(sums: &mut [u8], groups: usize, n: usize, table: &[u8])
-    requires { ⌜ (groups * 16 * chunk ≤ length (now sums)) × (length (now table) ≡ n * chunk) ⌝ }
-    ensures { λ _. ⌜ Tabled (now (table .entry)) (now (sums .exit)) (groups * 16) ⌝ }
+    requires { ⌜ (groups * 32 * chunk ≤ length (now sums)) × (length (now table) ≡ n * chunk) ⌝ }
+    ensures { λ _. ⌜ Tabled (now (table .entry)) (now (sums .exit)) (groups * 32) ⌝ }
 {
     let mut g = 0;
     while g < groups {
         fill_group(sums, g, n, table);
         g += 1;
-    }
-}
-
-fn copy_chunk(out: &mut [u8], src: &[u8; CHUNK])
-    requires { ⌜ length (now out) ≡ chunk ⌝ }
-    ensures { λ _. ⌜ ((e : ℕ) → e < chunk → byteAt (now (out .exit)) e ≡ byteAt (now (src .entry)) e) ⌝ }
-{
-    let mut e = 0;
-    while e < CHUNK {
-        out[e] = src[e];
-        e += 1;
     }
 }
 
@@ -133,7 +122,7 @@ pub fn look_up(out: &mut [u8], offsets: &[u16], sums: &[u8])
         add_at(&mut sum, sums, wide(offsets[g + 1]) * UNIT);
         g += 2;
     }
-    copy_chunk(out, &sum);
+    chunks::cells::copy_chunk(out, &sum);
 }
 
 // dst[f] ^= sums[f] for a chunk. As the first entry is 0 this changes nothing; but it is an access to the start of two arrays, from which the

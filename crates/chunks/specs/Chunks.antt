@@ -1,5 +1,5 @@
 -- Rows of one length, the chunk, side by side in a table.
---   chunk == the bytes of a chunk: four rows of a matrix of at most 160 variables;  cellAt S i f == byte f of row i
+--   chunk == the bytes of a chunk: sixteen rows of two columns of bytes;  cellAt S i f == byte f of row i;  pair == the bytes of two chunks
 --   Masks v masks == masks holds eight masks: byte f of mask b is 255 where bit b of byte f of v is set, and 0 elsewhere
 -- Assumes nothing.
 use mathlib.Core.Path.{_≡_}
@@ -8,7 +8,10 @@ use Prim.Native.Nat.{ℕ, _+_, _*_, _<_}
 use Rattle.strings.specs.Sums.{byteAt, bitOf}
 
 abbrev pub chunk : ℕ
-chunk = 80
+chunk = 32
+
+abbrev pub pair : ℕ
+pair = 64
 
 abbrev pub cellAt : List ℕ → ℕ → ℕ → ℕ
 cellAt S i f = byteAt S (i * chunk + f)

@@ -4,8 +4,9 @@ ghost use Prim.Native.Nat.{ℕ, _+_, _*_, _<_, _≤_};
 ghost use lib.ListN.{length};
 ghost use lib.Bits.{bitXor, bitAnd};
 ghost use Rattle.strings.specs.Sums.{byteAt, bitOf};
-ghost use Rattle.chunks.specs.Chunks.{chunk, cellAt, Masks};
+ghost use Rattle.chunks.specs.Chunks.{chunk, pair, cellAt, Masks};
 use super::CHUNK;
+use super::PAIR;
 
 fn fill(dst: &mut [u8], x: u8)
     ensures { λ _. ⌜ ((f : ℕ) → f < length (now (dst .entry)) → byteAt (now (dst .exit)) f ≡ x) ⌝ }
@@ -58,16 +59,27 @@ pub fn fill_masks(masks: &mut [u8], v: &[u8])
     }
 }
 
-// dst[f] ^= m[f] & mask[f], for each byte of a chunk.
-pub fn xor_and(dst: &mut [u8], m: &[u8], mask: &[u8])
-    requires { ⌜ (length (now dst) ≡ chunk) × (length (now m) ≡ chunk) × (length (now mask) ≡ chunk) ⌝ }
-    ensures { λ _. ⌜ ((f : ℕ) → f < chunk → byteAt (now (dst .exit)) f ≡ bitXor (byteAt (now (dst .entry)) f) (bitAnd (byteAt (now (m .entry)) f) (byteAt (now (mask .entry)) f))) ⌝ }
+// out[f] = t[f] ^ (m[f] & mask[f]), for each byte of a chunk.
+fn masked_sum(out: &mut [u8; CHUNK], t: &[u8], m: &[u8], mask: &[u8])
+    requires { ⌜ (length (now out) ≡ chunk) × (length (now t) ≡ chunk) × (length (now m) ≡ chunk) × (length (now mask) ≡ chunk) ⌝ }
+    ensures { λ _. ⌜ length (now (out .exit)) ≡ chunk ⌝ }
+    ensures { λ _. ⌜ ((f : ℕ) → f < chunk → byteAt (now (out .exit)) f ≡ bitXor (byteAt (now (t .entry)) f) (bitAnd (byteAt (now (m .entry)) f) (byteAt (now (mask .entry)) f))) ⌝ }
 {
     let mut f = 0;
     while f < CHUNK {
-        dst[f] ^= m[f] & mask[f];
+        out[f] = t[f] ^ (m[f] & mask[f]);
         f += 1;
     }
+}
+
+// dst[f] ^= m[f] & mask[f], for each byte of a chunk: by way of a local array, so that the compiler need not fear that dst is one of the others.
+fn xor_and(dst: &mut [u8], m: &[u8], mask: &[u8])
+    requires { ⌜ (length (now dst) ≡ chunk) × (length (now m) ≡ chunk) × (length (now mask) ≡ chunk) ⌝ }
+    ensures { λ _. ⌜ ((f : ℕ) → f < chunk → byteAt (now (dst .exit)) f ≡ bitXor (byteAt (now (dst .entry)) f) (bitAnd (byteAt (now (m .entry)) f) (byteAt (now (mask .entry)) f))) ⌝ }
+{
+    let mut sum = [0u8; CHUNK];
+    masked_sum(&mut sum, dst, m, mask);
+    super::cells::copy_chunk(dst, &sum);
 }
 
 // The same for row s of a table.
@@ -78,4 +90,26 @@ pub fn xor_and_row(t: &mut [u8], s: usize, m: &[u8], mask: &[u8])
 {
     let at = s * CHUNK;
     xor_and(&mut t[at..at + CHUNK], m, mask);
+}
+
+// dst[f] ^= m[f] & mask[f], for each byte of two chunks.
+fn xor_and_pair(dst: &mut [u8], m: &[u8], mask: &[u8])
+    requires { ⌜ (length (now dst) ≡ pair) × (length (now m) ≡ pair) × (length (now mask) ≡ pair) ⌝ }
+    ensures { λ _. ⌜ ((f : ℕ) → f < pair → byteAt (now (dst .exit)) f ≡ bitXor (byteAt (now (dst .entry)) f) (bitAnd (byteAt (now (m .entry)) f) (byteAt (now (mask .entry)) f))) ⌝ }
+{
+    let mut f = 0;
+    while f < PAIR {
+        dst[f] ^= m[f] & mask[f];
+        f += 1;
+    }
+}
+
+// The same for the two rows of a table from s on.
+pub fn xor_and_rows(t: &mut [u8], s: usize, m: &[u8], mask: &[u8])
+    requires { ⌜ (s * chunk + pair ≤ length (now t)) × (length (now m) ≡ pair) × (length (now mask) ≡ pair) ⌝ }
+    ensures { λ _. ⌜ ((f : ℕ) → f < pair → byteAt (now (t .exit)) (s * chunk + f) ≡ bitXor (byteAt (now (t .entry)) (s * chunk + f)) (bitAnd (byteAt (now (m .entry)) f) (byteAt (now (mask .entry)) f))) ⌝ }
+    ensures { λ _. ⌜ ((k : ℕ) → (s * chunk ≤ k → k < s * chunk + pair → ⊥) → byteAt (now (t .exit)) k ≡ byteAt (now (t .entry)) k) ⌝ }
+{
+    let at = s * CHUNK;
+    xor_and_pair(&mut t[at..at + PAIR], m, mask);
 }

@@ -1,8 +1,9 @@
 -- Polynomials in α whose coefficients are bits, in planes: plane s of a stack holds the coefficients of α^s, one bit for each place.
---   planes == the planes of a stack: the product of two elements has as many coefficients;  stack == its bytes
---   alpha s == α^s as a byte, where α is the element 02
---   stackAt t f z == the value of a stack at bit z of byte f;  stackOf T e f z == that of stack e of a table of them
---   foldOf T e w j z == the sum of the values of stack e at bit z of byte j of each of four parts of w bytes
+--   planes == the planes of a stack of products of two elements: a product has as many coefficients
+--   sidePlanes == the planes of a stack of elements under a bit
+--   alpha s == α^s as a byte, where α is the element 02;  product x y == the product of two bytes as elements
+--   stackAt P t f z == the value of a stack of P planes at bit z of byte f;  stackOf P T e f z == that of stack e of a table of them
+--   foldOf P T e h z == the sum of the values of stack e at bit z of the sixteen bytes of half h
 -- Assumes nothing.
 use mathlib.Core.List.{List}
 use Prim.Native.Nat.{ℕ, _+_, _*_}
@@ -14,8 +15,8 @@ use Rattle.chunks.specs.Chunks.{chunk}
 abbrev pub planes : ℕ
 planes = 15
 
-abbrev pub stack : ℕ
-stack = 1200
+abbrev pub sidePlanes : ℕ
+sidePlanes = 8
 
 unfoldable pub alpha : ℕ → ℕ
 alpha s = powByte gf256 2 s
@@ -23,11 +24,11 @@ alpha s = powByte gf256 2 s
 unfoldable pub product : ℕ → ℕ → ℕ
 product x y = mulByte gf256 x y
 
-abbrev pub stackAt : List ℕ → ℕ → ℕ → ℕ
-stackAt t f z = xorSum planes (λ s. bitOf (byteAt t (s * chunk + f)) z * alpha s)
+abbrev pub stackAt : ℕ → List ℕ → ℕ → ℕ → ℕ
+stackAt P t f z = xorSum P (λ s. bitOf (byteAt t (s * chunk + f)) z * alpha s)
 
-abbrev pub stackOf : List ℕ → ℕ → ℕ → ℕ → ℕ
-stackOf T e f z = xorSum planes (λ s. bitOf (byteAt T (e * stack + (s * chunk + f))) z * alpha s)
+abbrev pub stackOf : ℕ → List ℕ → ℕ → ℕ → ℕ → ℕ
+stackOf P T e f z = xorSum P (λ s. bitOf (byteAt T (e * (P * chunk) + (s * chunk + f))) z * alpha s)
 
-unfoldable pub foldOf : List ℕ → ℕ → ℕ → ℕ → ℕ → ℕ
-foldOf T e w j z = xorSum 4 (λ g. stackOf T e (g * w + j) z)
+unfoldable pub foldOf : ℕ → List ℕ → ℕ → ℕ → ℕ → ℕ
+foldOf P T e h z = xorSum 16 (λ f. stackOf P T e (h * 16 + f) z)

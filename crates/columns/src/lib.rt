@@ -1,4 +1,4 @@
-// The columns of a product that stands in stacks, for all repetitions side by side, and their products with vectors. All of it is secret but the places.
+// The columns of products that stand in stacks, for all repetitions side by side, and their products with vectors. All of it is secret but the places.
 ghost use mathlib.Core.Path.{_≡_};
 ghost use Prim.Native.Nat.{ℕ, _+_, _*_, _/_, _%_, _<_, _≤_};
 ghost use lib.ListN.{length};
@@ -6,7 +6,7 @@ ghost use lib.Bits.{bitXor};
 ghost use Rattle.strings.specs.Sums.{byteAt, bitOf, xorSum};
 ghost use Rattle.lanes.specs.Lanes.{lanes, laneAt};
 ghost use Rattle.chunks.specs.Chunks.{chunk};
-ghost use Rattle.columns.specs.Stacks.{planes, stack, alpha, product, foldOf};
+ghost use Rattle.columns.specs.Stacks.{alpha, product, foldOf};
 use chunks::CHUNK;
 use field::Gf256;
 use lanes::LANES;
@@ -14,39 +14,57 @@ use lanes::LANES;
 // The bytes of a stack of 15 planes.
 pub const STACK: usize = 15 * CHUNK;
 
-// The bytes of a plane of all repetitions for each plane of a stack.
+// The bytes of a side, a stack of 8 planes.
+pub const SIDE: usize = 8 * CHUNK;
+
+// The bytes of a plane of all repetitions for each plane of a stack, and of a side.
 const ROWS: usize = 15 * LANES;
 
-// out[e] = the sum of the bytes at `at` in the four parts of stack e.
-fn gather_row(out: &mut [u8], stacks: &[u8], at: usize, width: usize, tau: usize)
-    requires { ⌜ (tau ≤ length (now out)) × (tau * stack ≤ length (now stacks)) × (at + 3 * width < stack) × (tau ≤ 1000) ⌝ }
-    ensures { λ _. ⌜ ((e : ℕ) → e < tau → byteAt (now (out .exit)) e ≡ xorSum 4 (λ g. byteAt (now (stacks .entry)) (e * stack + (at + g * width)))) ⌝ }
+const SIDE_ROWS: usize = 8 * LANES;
+
+// The sum of sixteen bytes from `at` on.
+fn sum_at(s: &[u8], at: usize) -> u8
+    requires { ⌜ at + 16 ≤ length (now s) ⌝ }
+    ensures { λ r. ⌜ r ≡ xorSum 16 (λ f. byteAt (now (s .entry)) (at + f)) ⌝ }
+{
+    let mut sum: u8 = 0;
+    let mut f = 0;
+    while f < 16 {
+        sum ^= s[at + f];
+        f += 1;
+    }
+    sum
+}
+
+// out[e] = the sum of sixteen bytes from `at` on in stack e, where a stack has `size` bytes.
+fn gather_row(out: &mut [u8], stacks: &[u8], size: usize, at: usize, tau: usize)
+    requires { ⌜ (tau ≤ length (now out)) × (tau * size ≤ length (now stacks)) × (at + 16 ≤ size) ⌝ }
+    ensures { λ _. ⌜ ((e : ℕ) → e < tau → byteAt (now (out .exit)) e ≡ xorSum 16 (λ f. byteAt (now (stacks .entry)) (e * size + (at + f)))) ⌝ }
 {
     let mut e = 0;
     while e < tau {
-        let i = e * STACK + at;
-        out[e] = stacks[i] ^ stacks[i + width] ^ stacks[i + 2 * width] ^ stacks[i + 3 * width];
+        out[e] = sum_at(stacks, e * size + at);
         e += 1;
     }
 }
 
-fn gather_at(rows: &mut [u8], s: usize, stacks: &[u8], at: usize, width: usize, tau: usize)
-    requires { ⌜ (s * lanes + lanes ≤ length (now rows)) × (tau ≤ lanes) × (tau * stack ≤ length (now stacks)) × (at + 3 * width < stack) ⌝ }
-    ensures { λ _. ⌜ ((e : ℕ) → e < tau → laneAt (now (rows .exit)) s e ≡ xorSum 4 (λ g. byteAt (now (stacks .entry)) (e * stack + (at + g * width)))) ⌝ }
+fn gather_at(rows: &mut [u8], s: usize, stacks: &[u8], size: usize, at: usize, tau: usize)
+    requires { ⌜ (s * lanes + lanes ≤ length (now rows)) × (tau ≤ lanes) × (tau * size ≤ length (now stacks)) × (at + 16 ≤ size) ⌝ }
+    ensures { λ _. ⌜ ((e : ℕ) → e < tau → laneAt (now (rows .exit)) s e ≡ xorSum 16 (λ f. byteAt (now (stacks .entry)) (e * size + (at + f)))) ⌝ }
     ensures { λ _. ⌜ ((q e : ℕ) → (q ≡ s → ⊥) → e < lanes → laneAt (now (rows .exit)) q e ≡ laneAt (now (rows .entry)) q e) ⌝ }
 {
     let from = s * LANES;
-    gather_row(&mut rows[from..from + LANES], stacks, at, width, tau);
+    gather_row(&mut rows[from..from + LANES], stacks, size, at, tau);
 }
 
-// The planes of byte j of all repetitions.
-fn gather(rows: &mut [u8], stacks: &[u8], j: usize, width: usize, tau: usize)
-    requires { ⌜ (length (now rows) ≡ planes * lanes) × (tau ≤ lanes) × (tau * stack ≤ length (now stacks)) × (4 * width ≤ chunk) × (j < width) ⌝ }
-    ensures { λ _. ⌜ ((s e : ℕ) → s < planes → e < tau → laneAt (now (rows .exit)) s e ≡ xorSum 4 (λ g. byteAt (now (stacks .entry)) (e * stack + (s * chunk + j + g * width)))) ⌝ }
+// The planes of all repetitions, each the sum of its sixteen bytes of half h.
+fn gather(rows: &mut [u8], stacks: &[u8], planes: usize, h: usize, tau: usize)
+    requires { ⌜ (length (now rows) ≡ planes * lanes) × (tau ≤ lanes) × (tau * (planes * chunk) ≤ length (now stacks)) × (h < 2) ⌝ }
+    ensures { λ _. ⌜ ((s e : ℕ) → s < planes → e < tau → laneAt (now (rows .exit)) s e ≡ xorSum 16 (λ f. byteAt (now (stacks .entry)) (e * (planes * chunk) + (s * chunk + h * 16 + f)))) ⌝ }
 {
     let mut s = 0;
-    while s < 15 {
-        gather_at(rows, s, stacks, s * CHUNK + j, width, tau);
+    while s < planes {
+        gather_at(rows, s, stacks, planes * CHUNK, s * CHUNK + h * 16, tau);
         s += 1;
     }
 }
@@ -64,14 +82,14 @@ fn add_weighted(u: &mut [u8], row: &[u8], z: usize, weight: u8)
 }
 
 // u[e] = the value at bit z of the planes of repetition e.
-fn weigh(u: &mut [u8], rows: &[u8], z: usize)
+fn weigh(u: &mut [u8], rows: &[u8], planes: usize, z: usize)
     requires { ⌜ (length (now u) ≡ lanes) × (length (now rows) ≡ planes * lanes) × (z < 8) ⌝ }
     ensures { λ _. ⌜ ((e : ℕ) → e < lanes → byteAt (now (u .exit)) e ≡ xorSum planes (λ s. bitOf (laneAt (now (rows .entry)) s e) z * alpha s)) ⌝ }
 {
     strings::clear(u);
     let mut weight: u8 = 1;
     let mut s = 0;
-    while s < 15 {
+    while s < planes {
         add_weighted(u, strings::row_at(rows, LANES, s), z, weight);
         weight = Gf256::multiply(2, weight);
         s += 1;
@@ -88,68 +106,87 @@ fn add_product(acc: &mut [u8], c: usize, n: usize, table: &[u8], u: &[u8])
     }
 }
 
-// Adds column c, which is bit z of the planes, times coordinate c of the vectors to quad, and times bit c of xs to right.
+// Column c is bit z of the planes. Adds that of the stacks, times coordinate c of the vectors, to quad; and to mid that of the sides,
+// times this coordinate, and that of the stacks, times bit c of xs.
 fn add_column(
     quad: &mut [u8],
-    right: &mut [u8],
+    mid: &mut [u8],
     rows: &[u8],
+    sides: &[u8],
     c: usize,
     z: usize,
     n: usize,
     table: &[u8],
     xs: &[u8],
 )
-    requires { ⌜ (length (now quad) ≡ lanes) × (length (now right) ≡ lanes) × (length (now rows) ≡ planes * lanes) × (z < 8) × (length (now table) ≡ n * lanes) × (c < length (now xs)) × (byteAt (now xs) c < 2) ⌝ }
-    ensures { λ _. ⌜ ((e : ℕ) → e < lanes → byteAt (now (quad .exit)) e ≡ bitXor (byteAt (now (quad .entry)) e) (product (laneAt (now (table .entry)) c e) (xorSum planes (λ s. bitOf (laneAt (now (rows .entry)) s e) z * alpha s)))) ⌝ }
-    ensures { λ _. ⌜ ((e : ℕ) → e < lanes → byteAt (now (right .exit)) e ≡ bitXor (byteAt (now (right .entry)) e) (byteAt (now (xs .entry)) c * xorSum planes (λ s. bitOf (laneAt (now (rows .entry)) s e) z * alpha s))) ⌝ }
+    requires { ⌜ (length (now quad) ≡ lanes) × (length (now mid) ≡ lanes) × (length (now rows) ≡ 15 * lanes) × (length (now sides) ≡ 8 * lanes) × (z < 8) × (length (now table) ≡ n * lanes) × (c < length (now xs)) × (byteAt (now xs) c < 2) ⌝ }
+    ensures { λ _. ⌜ ((e : ℕ) → e < lanes → byteAt (now (quad .exit)) e ≡ bitXor (byteAt (now (quad .entry)) e) (product (laneAt (now (table .entry)) c e) (xorSum 15 (λ s. bitOf (laneAt (now (rows .entry)) s e) z * alpha s)))) ⌝ }
+    ensures { λ _. ⌜ ((e : ℕ) → e < lanes → byteAt (now (mid .exit)) e ≡ bitXor (byteAt (now (mid .entry)) e) (bitXor (product (laneAt (now (table .entry)) c e) (xorSum 8 (λ s. bitOf (laneAt (now (sides .entry)) s e) z * alpha s))) (byteAt (now (xs .entry)) c * xorSum 15 (λ s. bitOf (laneAt (now (rows .entry)) s e) z * alpha s)))) ⌝ }
 {
     let mut u = [0u8; LANES];
-    weigh(&mut u, rows, z);
+    let mut w = [0u8; LANES];
+    weigh(&mut u, rows, 15, z);
+    weigh(&mut w, sides, 8, z);
     add_product(quad, c, n, table, &u);
-    lanes::add_masked(right, xs[c], &u);
+    add_product(mid, c, n, table, &w);
+    lanes::add_masked(mid, xs[c], &u);
 }
 
-// The same for the eight columns of byte j.
+// The same for eight columns, from `first` on.
 fn add_columns(
     quad: &mut [u8],
-    right: &mut [u8],
+    mid: &mut [u8],
     rows: &[u8],
-    j: usize,
+    sides: &[u8],
+    first: usize,
     n: usize,
     table: &[u8],
     xs: &[u8],
 )
-    requires { ⌜ (length (now quad) ≡ lanes) × (length (now right) ≡ lanes) × (length (now rows) ≡ planes * lanes) × (length (now table) ≡ n * lanes) × (j * 8 + 8 ≤ length (now xs)) × ((c : ℕ) → byteAt (now xs) c < 2) ⌝ }
-    ensures { λ _. ⌜ ((e : ℕ) → e < lanes → byteAt (now (quad .exit)) e ≡ bitXor (byteAt (now (quad .entry)) e) (xorSum 8 (λ z. product (laneAt (now (table .entry)) (j * 8 + z) e) (xorSum planes (λ s. bitOf (laneAt (now (rows .entry)) s e) z * alpha s))))) ⌝ }
-    ensures { λ _. ⌜ ((e : ℕ) → e < lanes → byteAt (now (right .exit)) e ≡ bitXor (byteAt (now (right .entry)) e) (xorSum 8 (λ z. byteAt (now (xs .entry)) (j * 8 + z) * xorSum planes (λ s. bitOf (laneAt (now (rows .entry)) s e) z * alpha s)))) ⌝ }
+    requires { ⌜ (length (now quad) ≡ lanes) × (length (now mid) ≡ lanes) × (length (now rows) ≡ 15 * lanes) × (length (now sides) ≡ 8 * lanes) × (length (now table) ≡ n * lanes) × (first + 8 ≤ length (now xs)) × ((c : ℕ) → byteAt (now xs) c < 2) ⌝ }
+    ensures { λ _. ⌜ ((e : ℕ) → e < lanes → byteAt (now (quad .exit)) e ≡ bitXor (byteAt (now (quad .entry)) e) (xorSum 8 (λ z. product (laneAt (now (table .entry)) (first + z) e) (xorSum 15 (λ s. bitOf (laneAt (now (rows .entry)) s e) z * alpha s))))) ⌝ }
+    ensures { λ _. ⌜ ((e : ℕ) → e < lanes → byteAt (now (mid .exit)) e ≡ bitXor (byteAt (now (mid .entry)) e) (xorSum 8 (λ z. bitXor (product (laneAt (now (table .entry)) (first + z) e) (xorSum 8 (λ s. bitOf (laneAt (now (sides .entry)) s e) z * alpha s))) (byteAt (now (xs .entry)) (first + z) * xorSum 15 (λ s. bitOf (laneAt (now (rows .entry)) s e) z * alpha s))))) ⌝ }
 {
     let mut z = 0;
     while z < 8 {
-        add_column(quad, right, rows, j * 8 + z, z, n, table, xs);
+        add_column(quad, mid, rows, sides, first + z, z, n, table, xs);
         z += 1;
     }
 }
 
-// The products of all columns with the vectors of the n coordinates of the table, and with the bits xs.
+// The sixteen columns of a panel: those of the stacks times the vectors of the n coordinates of the table to quad; those of the sides times
+// the same, and those of the stacks times the bits xs, to mid.
 pub fn finish(
     quad: &mut [u8],
-    right: &mut [u8],
+    mid: &mut [u8],
     stacks: &[u8],
-    width: usize,
+    sides: &[u8],
+    panel: usize,
     tau: usize,
     n: usize,
     table: &[u8],
     xs: &[u8],
 )
-    requires { ⌜ (length (now quad) ≡ lanes) × (length (now right) ≡ lanes) × (tau ≤ lanes) × (tau * stack ≤ length (now stacks)) × (4 * width ≤ chunk) × (length (now table) ≡ n * lanes) × (width * 8 ≤ length (now xs)) × ((c : ℕ) → byteAt (now xs) c < 2) ⌝ }
-    ensures { λ _. ⌜ ((e : ℕ) → e < tau → byteAt (now (quad .exit)) e ≡ bitXor (byteAt (now (quad .entry)) e) (xorSum (width * 8) (λ c. product (laneAt (now (table .entry)) c e) (foldOf (now (stacks .entry)) e width (c / 8) (c % 8))))) ⌝ }
-    ensures { λ _. ⌜ ((e : ℕ) → e < tau → byteAt (now (right .exit)) e ≡ bitXor (byteAt (now (right .entry)) e) (xorSum (width * 8) (λ c. byteAt (now (xs .entry)) c * foldOf (now (stacks .entry)) e width (c / 8) (c % 8)))) ⌝ }
+    requires { ⌜ (length (now quad) ≡ lanes) × (length (now mid) ≡ lanes) × (tau ≤ lanes) × (tau * (15 * chunk) ≤ length (now stacks)) × (tau * (8 * chunk) ≤ length (now sides)) × (length (now table) ≡ n * lanes) × (panel * 16 + 16 ≤ length (now xs)) × ((c : ℕ) → byteAt (now xs) c < 2) × (n ≤ 160) ⌝ }
+    ensures { λ _. ⌜ ((e : ℕ) → e < tau → byteAt (now (quad .exit)) e ≡ bitXor (byteAt (now (quad .entry)) e) (xorSum 16 (λ s. product (laneAt (now (table .entry)) (panel * 16 + s) e) (foldOf 15 (now (stacks .entry)) e (s / 8) (s % 8))))) ⌝ }
+    ensures { λ _. ⌜ ((e : ℕ) → e < tau → byteAt (now (mid .exit)) e ≡ bitXor (byteAt (now (mid .entry)) e) (xorSum 16 (λ s. bitXor (product (laneAt (now (table .entry)) (panel * 16 + s) e) (foldOf 8 (now (sides .entry)) e (s / 8) (s % 8))) (byteAt (now (xs .entry)) (panel * 16 + s) * foldOf 15 (now (stacks .entry)) e (s / 8) (s % 8))))) ⌝ }
 {
-    let mut j = 0;
-    while j < width {
+    let mut h = 0;
+    while h < 2 {
         let mut rows = [0u8; ROWS];
-        gather(&mut rows, stacks, j, width, tau);
-        add_columns(quad, right, &rows, j, n, table, xs);
-        j += 1;
+        let mut side_rows = [0u8; SIDE_ROWS];
+        gather(&mut rows, stacks, 15, h, tau);
+        gather(&mut side_rows, sides, 8, h, tau);
+        add_columns(
+            quad,
+            mid,
+            &rows,
+            &side_rows,
+            panel * 16 + h * 8,
+            n,
+            table,
+            xs,
+        );
+        h += 1;
     }
 }

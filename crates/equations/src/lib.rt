@@ -6,17 +6,16 @@ ghost use Prim.Native.Nat.{ℕ, _+_, _*_, _/_, _<_, _≤_};
 ghost use lib.ListN.{length};
 ghost use Rattle.protocol.specs.Strings.{bytesFor, bit};
 ghost use Rattle.strings.specs.Sums.{byteAt};
-ghost use Rattle.chunks.specs.Chunks.{chunk};
-ghost use Rattle.masked.specs.Spread.{Spread};
+ghost use Rattle.masked.specs.Spread.{fours, Spread};
 ghost use Rattle.equations.specs.Equations.{errorBit, errorOf, FirstIn};
 
 // As many as a key may have variables (01: 1..160).
 pub const VARIABLES: usize = 160;
 
-// The bytes of a row of as many bits, and of the masks of as many, four to a chunk.
+// The bytes of a row of as many bits, and of the masks of as many, four side by side.
 pub const WIDTH: usize = VARIABLES / 8;
 
-pub const MASKS: usize = VARIABLES / 4 * chunks::CHUNK;
+pub const MASKS: usize = VARIABLES / 4 * masked::FOURS;
 
 // The first equation that fails, or that none does.
 pub enum Found {
@@ -48,7 +47,7 @@ fn equation_error(
     masks: &[u8],
     n: usize,
 ) -> u8
-    requires { ⌜ (length (now x) ≡ bytesFor n) × (length (now space) ≡ length (now x)) × (length (now row) ≡ length (now x)) × (length (now matrix) ≡ n * length (now x)) × (n ≤ 160) × ((n + 3) / 4 * chunk ≤ length (now masks)) ⌝ }
+    requires { ⌜ (length (now x) ≡ bytesFor n) × (length (now space) ≡ length (now x)) × (length (now row) ≡ length (now x)) × (length (now matrix) ≡ n * length (now x)) × (n ≤ 160) × ((n + 3) / 4 * fours ≤ length (now masks)) ⌝ }
     ensures { λ r. ⌜ ((xs : List ℕ) → ((c : ℕ) → byteAt xs c ≡ bit (now (x .entry)) c) → ((k : ℕ) → k < (n + 3) / 4 → Spread xs (bytesFor n) (now (masks .entry)) k) → r ≡ errorBit n (now (matrix .entry)) (now (row .entry)) y (now (x .entry))) ⌝ }
 {
     masked::witness_row(space, matrix, row, masks, n);
@@ -67,7 +66,7 @@ fn fill_errors(
     n: usize,
 )
     requires { ⌜ (n ≤ 160) × (length (now x) ≡ bytesFor n) × (length (now a) ≡ length (now errors) * (n * bytesFor n)) × (length (now b) ≡ length (now errors) * bytesFor n) × (length (now errors) ≤ length (now y) * 8) ⌝ }
-    requires { ⌜ (length (now space) ≡ length (now x)) × ((n + 3) / 4 * chunk ≤ length (now masks)) ⌝ }
+    requires { ⌜ (length (now space) ≡ length (now x)) × ((n + 3) / 4 * fours ≤ length (now masks)) ⌝ }
     ensures { λ _. ⌜ ((xs : List ℕ) (i : ℕ) → ((c : ℕ) → byteAt xs c ≡ bit (now (x .entry)) c) → ((k : ℕ) → k < (n + 3) / 4 → Spread xs (bytesFor n) (now (masks .entry)) k) → i < length (now (errors .entry)) → byteAt (now (errors .exit)) i ≡ errorOf n (now (a .entry)) (now (b .entry)) (now (y .entry)) (now (x .entry)) i) ⌝ }
 {
     let width = x.len();
@@ -81,9 +80,9 @@ fn fill_errors(
     }
 }
 
-// The bits of x, one to a byte, and their masks, four to a chunk.
+// The bits of x, one to a byte, and their masks, four side by side.
 pub fn prepare(xs: &mut [u8], masks: &mut [u8], x: &[u8], n: usize)
-    requires { ⌜ (n ≤ 160) × (length (now x) ≡ bytesFor n) × (length (now xs) ≡ 160) × (length (now masks) ≡ 40 * chunk) × ((c : ℕ) → byteAt (now xs) c ≡ 0) ⌝ }
+    requires { ⌜ (n ≤ 160) × (length (now x) ≡ bytesFor n) × (length (now xs) ≡ 160) × (length (now masks) ≡ 40 * fours) × ((c : ℕ) → byteAt (now xs) c ≡ 0) ⌝ }
     ensures { λ _. ⌜ ((c : ℕ) → byteAt (now (xs .exit)) c ≡ bit (now (x .entry)) c) × ((k : ℕ) → k < (n + 3) / 4 → Spread (now (xs .exit)) (bytesFor n) (now (masks .exit)) k) ⌝ }
 {
     let width = x.len();

@@ -35,48 +35,68 @@ fn add_coordinate(out: &mut [u8], c: usize, n: usize, table: &[u8])
     }
 }
 
-// Adds entry k of the table of sums to out. The branch goes by k, which is public.
-fn add_entry(out: &mut [u8], k: usize, n: usize, table: &[u8])
-    requires { ⌜ (length (now out) ≡ lanes) × (length (now table) ≡ n * lanes) ⌝ }
-    ensures { λ _. ⌜ ((e : ℕ) → e < lanes → byteAt (now (out .exit)) e ≡ bitXor (byteAt (now (out .entry)) e) (entryByte (now (table .entry)) k e)) ⌝ }
+fn store(sums: &mut [u8], k: usize, src: &[u8; LANES])
+    requires { ⌜ (k * lanes + lanes ≤ length (now sums)) × (length (now src) ≡ lanes) ⌝ }
+    ensures { λ _. ⌜ ((e : ℕ) → e < lanes → laneAt (now (sums .exit)) k e ≡ byteAt (now (src .entry)) e) ⌝ }
+    ensures { λ _. ⌜ ((q e : ℕ) → (q ≡ k → ⊥) → e < lanes → laneAt (now (sums .exit)) q e ≡ laneAt (now (sums .entry)) q e) ⌝ }
 {
-    let half = k % HALF;
-    let first = k / HALF * 4;
+    let at = k * LANES;
+    copy_lanes(&mut sums[at..at + LANES], src);
+}
+
+// Entry `to` becomes entry `from` plus a coordinate.
+fn fill_entry(sums: &mut [u8], from: usize, to: usize, coordinate: &[u8; LANES])
+    requires { ⌜ (from * lanes + lanes ≤ length (now sums)) × (to * lanes + lanes ≤ length (now sums)) × (length (now coordinate) ≡ lanes) ⌝ }
+    ensures { λ _. ⌜ ((e : ℕ) → e < lanes → laneAt (now (sums .exit)) to e ≡ bitXor (laneAt (now (sums .entry)) from e) (byteAt (now (coordinate .entry)) e)) ⌝ }
+    ensures { λ _. ⌜ ((q e : ℕ) → (q ≡ to → ⊥) → e < lanes → laneAt (now (sums .exit)) q e ≡ laneAt (now (sums .entry)) q e) ⌝ }
+{
+    let mut sum = [0u8; LANES];
+    strings::xor_of(&mut sum, strings::row_at(sums, LANES, from), coordinate);
+    store(sums, to, &sum);
+}
+
+// The `count` entries from base on, each plus a coordinate, become the next as many.
+fn fill_next(sums: &mut [u8], base: usize, count: usize, coordinate: &[u8; LANES])
+    requires { ⌜ ((base + count + count) * lanes ≤ length (now sums)) × (length (now coordinate) ≡ lanes) ⌝ }
+    ensures { λ _. ⌜ ((v e : ℕ) → v < count → e < lanes → laneAt (now (sums .exit)) (base + count + v) e ≡ bitXor (laneAt (now (sums .entry)) (base + v) e) (byteAt (now (coordinate .entry)) e)) ⌝ }
+    ensures { λ _. ⌜ ((q e : ℕ) → q < base + count → e < lanes → laneAt (now (sums .exit)) q e ≡ laneAt (now (sums .entry)) q e) ⌝ }
+{
+    let mut v = 0;
+    while v < count {
+        fill_entry(sums, base + v, base + count + v, coordinate);
+        v += 1;
+    }
+}
+
+// The sixteen sums of four coordinates: with each coordinate the sums so far are doubled.
+fn fill_group(sums: &mut [u8], g: usize, n: usize, table: &[u8])
+    requires { ⌜ ((g * 16 + 16) * lanes ≤ length (now sums)) × (length (now table) ≡ n * lanes) ⌝ }
+    ensures { λ _. ⌜ ((v e : ℕ) → v < 16 → e < lanes → laneAt (now (sums .exit)) (g * 16 + v) e ≡ entryByte (now (table .entry)) (g * 16 + v) e) ⌝ }
+    ensures { λ _. ⌜ ((q e : ℕ) → q < g * 16 → e < lanes → laneAt (now (sums .exit)) q e ≡ laneAt (now (sums .entry)) q e) ⌝ }
+{
+    let zero = [0u8; LANES];
+    store(sums, g * HALF, &zero);
+    let mut count = 1;
     let mut s = 0;
     while s < 4 {
-        if (half >> s) % 2 == 1 {
-            add_coordinate(out, first + s, n, table);
-        }
+        let mut coordinate = [0u8; LANES];
+        add_coordinate(&mut coordinate, g * 4 + s, n, table);
+        fill_next(sums, g * HALF, count, &coordinate);
+        count *= 2;
         s += 1;
     }
 }
 
-fn fill_entry(out: &mut [u8], k: usize, n: usize, table: &[u8])
-    requires { ⌜ (length (now out) ≡ lanes) × (length (now table) ≡ n * lanes) ⌝ }
-    ensures { λ _. ⌜ ((e : ℕ) → e < lanes → byteAt (now (out .exit)) e ≡ entryByte (now (table .entry)) k e) ⌝ }
-{
-    strings::clear(out);
-    add_entry(out, k, n, table);
-}
-
-fn fill_row(sums: &mut [u8], k: usize, n: usize, table: &[u8])
-    requires { ⌜ (length (now table) ≡ n * lanes) × (k * lanes + lanes ≤ length (now sums)) ⌝ }
-    ensures { λ _. ⌜ ((e : ℕ) → e < lanes → laneAt (now (sums .exit)) k e ≡ entryByte (now (table .entry)) k e) ⌝ }
-    ensures { λ _. ⌜ ((q e : ℕ) → (q ≡ k → ⊥) → e < lanes → laneAt (now (sums .exit)) q e ≡ laneAt (now (sums .entry)) q e) ⌝ }
-{
-    let at = k * LANES;
-    fill_entry(&mut sums[at..at + LANES], k, n, table);
-}
-
 // The first entries of the table of sums: sixteen for each four of the n coordinates. Made once, they serve every row of every matrix.
 pub fn fill_sums(sums: &mut [u8], count: usize, n: usize, table: &[u8])
-    requires { ⌜ (count * lanes ≤ length (now sums)) × (length (now table) ≡ n * lanes) ⌝ }
+    requires { ⌜ (count * lanes ≤ length (now sums)) × (length (now table) ≡ n * lanes) × (count % 16 ≡ 0) ⌝ }
     ensures { λ _. ⌜ Tabled (now (table .entry)) (now (sums .exit)) count ⌝ }
 {
-    let mut k = 0;
-    while k < count {
-        fill_row(sums, k, n, table);
-        k += 1;
+    let groups = count / HALF;
+    let mut g = 0;
+    while g < groups {
+        fill_group(sums, g, n, table);
+        g += 1;
     }
 }
 

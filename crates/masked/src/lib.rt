@@ -5,9 +5,10 @@ ghost use Prim.Native.Nat.{ℕ, _+_, _*_, _/_, _<_, _≤_};
 ghost use lib.ListN.{length};
 ghost use lib.Bits.{bitXor, bitAnd};
 ghost use Rattle.strings.specs.Sums.{byteAt, xorSum};
-ghost use Rattle.chunks.specs.Chunks.{chunk};
-ghost use Rattle.masked.specs.Spread.{Spread};
-use chunks::CHUNK;
+ghost use Rattle.masked.specs.Spread.{fours, Spread};
+
+// The bytes of four rows of a matrix of at most 160 variables.
+pub const FOURS: usize = 80;
 
 // Four bits, from `first` on, each as a mask of w bytes. The bits are lent one to a byte.
 fn spread_bits(v: &mut [u8], xs: &[u8], first: usize, w: usize)
@@ -22,17 +23,17 @@ fn spread_bits(v: &mut [u8], xs: &[u8], first: usize, w: usize)
 }
 
 fn spread_row(masks: &mut [u8], k: usize, xs: &[u8], w: usize)
-    requires { ⌜ (k * chunk + chunk ≤ length (now masks)) × (4 * w ≤ chunk) × (k * 4 + 4 ≤ length (now xs)) × ((c : ℕ) → byteAt (now xs) c < 2) ⌝ }
+    requires { ⌜ (k * fours + fours ≤ length (now masks)) × (4 * w ≤ fours) × (k * 4 + 4 ≤ length (now xs)) × ((c : ℕ) → byteAt (now xs) c < 2) ⌝ }
     ensures { λ _. ⌜ Spread (now (xs .entry)) w (now (masks .exit)) k ⌝ }
-    ensures { λ _. ⌜ ((q f : ℕ) → (q ≡ k → ⊥) → f < chunk → byteAt (now (masks .exit)) (q * chunk + f) ≡ byteAt (now (masks .entry)) (q * chunk + f)) ⌝ }
+    ensures { λ _. ⌜ ((q f : ℕ) → (q ≡ k → ⊥) → f < fours → byteAt (now (masks .exit)) (q * fours + f) ≡ byteAt (now (masks .entry)) (q * fours + f)) ⌝ }
 {
-    let at = k * CHUNK;
-    spread_bits(&mut masks[at..at + CHUNK], xs, k * 4, w);
+    let at = k * FOURS;
+    spread_bits(&mut masks[at..at + FOURS], xs, k * 4, w);
 }
 
-// The masks of the first bits, four to a chunk.
+// The masks of the first bits, four side by side.
 pub fn spread_rows(masks: &mut [u8], count: usize, xs: &[u8], w: usize)
-    requires { ⌜ (count * chunk ≤ length (now masks)) × (4 * w ≤ chunk) × (count * 4 ≤ length (now xs)) × ((c : ℕ) → byteAt (now xs) c < 2) ⌝ }
+    requires { ⌜ (count * fours ≤ length (now masks)) × (4 * w ≤ fours) × (count * 4 ≤ length (now xs)) × ((c : ℕ) → byteAt (now xs) c < 2) ⌝ }
     ensures { λ _. ⌜ ((k : ℕ) → k < count → Spread (now (xs .entry)) w (now (masks .exit)) k) ⌝ }
 {
     let mut k = 0;
@@ -42,32 +43,44 @@ pub fn spread_rows(masks: &mut [u8], count: usize, xs: &[u8], w: usize)
     }
 }
 
-// acc[f] ^= matrix[at + f] & mask[f], for the first bytes of a chunk; the matrix is 0 past its end.
-fn add_last(acc: &mut [u8], matrix: &[u8], at: usize, wide: usize, mask: &[u8])
-    requires { ⌜ (length (now acc) ≡ chunk) × (length (now mask) ≡ chunk) × (wide ≤ chunk) × (at ≤ length (now matrix)) ⌝ }
-    ensures { λ _. ⌜ ((f : ℕ) → f < wide → byteAt (now (acc .exit)) f ≡ bitXor (byteAt (now (acc .entry)) f) (bitAnd (byteAt (now (matrix .entry)) (at + f)) (byteAt (now (mask .entry)) f))) ⌝ }
+// dst[f] ^= m[f] & mask[f], for each byte of four rows.
+fn xor_and(dst: &mut [u8], m: &[u8], mask: &[u8])
+    requires { ⌜ (length (now dst) ≡ fours) × (length (now m) ≡ fours) × (length (now mask) ≡ fours) ⌝ }
+    ensures { λ _. ⌜ ((f : ℕ) → f < fours → byteAt (now (dst .exit)) f ≡ bitXor (byteAt (now (dst .entry)) f) (bitAnd (byteAt (now (m .entry)) f) (byteAt (now (mask .entry)) f))) ⌝ }
 {
-    let mut part = [0u8; CHUNK];
-    let len = chunks::cells::least(wide, matrix.len() - at);
-    chunks::cells::copy_front(&mut part, matrix, at, len);
-    chunks::masks::xor_and(acc, &part, mask);
+    let mut f = 0;
+    while f < FOURS {
+        dst[f] ^= m[f] & mask[f];
+        f += 1;
+    }
 }
 
-// The same. What stands past these bytes is not asked for, so that a whole chunk is taken where there is one, and where it stands.
-fn add_part(acc: &mut [u8], matrix: &[u8], at: usize, wide: usize, mask: &[u8])
-    requires { ⌜ (length (now acc) ≡ chunk) × (length (now mask) ≡ chunk) × (wide ≤ chunk) × (at ≤ length (now matrix)) ⌝ }
+// acc[f] ^= matrix[at + f] & mask[f], for the first bytes of four rows; the matrix is 0 past its end.
+fn add_last(acc: &mut [u8], matrix: &[u8], at: usize, wide: usize, mask: &[u8])
+    requires { ⌜ (length (now acc) ≡ fours) × (length (now mask) ≡ fours) × (wide ≤ fours) × (at ≤ length (now matrix)) ⌝ }
     ensures { λ _. ⌜ ((f : ℕ) → f < wide → byteAt (now (acc .exit)) f ≡ bitXor (byteAt (now (acc .entry)) f) (bitAnd (byteAt (now (matrix .entry)) (at + f)) (byteAt (now (mask .entry)) f))) ⌝ }
 {
-    if matrix.len() - at < CHUNK {
+    let mut part = [0u8; FOURS];
+    let len = chunks::cells::least(wide, matrix.len() - at);
+    chunks::cells::copy_front(&mut part, matrix, at, len);
+    xor_and(acc, &part, mask);
+}
+
+// The same. What stands past these bytes is not asked for, so that FOURS bytes are taken where there are as many, and where they stand.
+fn add_part(acc: &mut [u8], matrix: &[u8], at: usize, wide: usize, mask: &[u8])
+    requires { ⌜ (length (now acc) ≡ fours) × (length (now mask) ≡ fours) × (wide ≤ fours) × (at ≤ length (now matrix)) ⌝ }
+    ensures { λ _. ⌜ ((f : ℕ) → f < wide → byteAt (now (acc .exit)) f ≡ bitXor (byteAt (now (acc .entry)) f) (bitAnd (byteAt (now (matrix .entry)) (at + f)) (byteAt (now (mask .entry)) f))) ⌝ }
+{
+    if matrix.len() - at < FOURS {
         add_last(acc, matrix, at, wide, mask);
     } else {
-        chunks::masks::xor_and(acc, &matrix[at..at + CHUNK], mask);
+        xor_and(acc, &matrix[at..at + FOURS], mask);
     }
 }
 
 // Adds the rows of a matrix that the masks select, four side by side.
 fn add_rows(acc: &mut [u8], matrix: &[u8], masks: &[u8], n: usize, w: usize)
-    requires { ⌜ (length (now acc) ≡ chunk) × (length (now matrix) ≡ n * w) × (n ≤ 160) × (4 * w ≤ chunk) × ((n + 3) / 4 * chunk ≤ length (now masks)) ⌝ }
+    requires { ⌜ (length (now acc) ≡ fours) × (length (now matrix) ≡ n * w) × (n ≤ 160) × (4 * w ≤ fours) × ((n + 3) / 4 * fours ≤ length (now masks)) ⌝ }
     ensures { λ _. ⌜ ((xs : List ℕ) (g j : ℕ) → ((c : ℕ) → byteAt xs c < 2) → ((k : ℕ) → k < (n + 3) / 4 → Spread xs w (now (masks .entry)) k) → g < 4 → j < w → byteAt (now (acc .exit)) (g * w + j) ≡ bitXor (byteAt (now (acc .entry)) (g * w + j)) (xorSum ((n + 3) / 4) (λ k. byteAt xs (k * 4 + g) * byteAt (now (matrix .entry)) ((k * 4 + g) * w + j)))) ⌝ }
 {
     let mut k = 0;
@@ -77,7 +90,7 @@ fn add_rows(acc: &mut [u8], matrix: &[u8], masks: &[u8], n: usize, w: usize)
             matrix,
             k * 4 * w,
             4 * w,
-            strings::row_at(masks, CHUNK, k),
+            strings::row_at(masks, FOURS, k),
         );
         k += 1;
     }
@@ -85,7 +98,7 @@ fn add_rows(acc: &mut [u8], matrix: &[u8], masks: &[u8], n: usize, w: usize)
 
 // out[j] = row[j] plus the sum of byte j of the four parts.
 fn fold_row(out: &mut [u8], row: &[u8], acc: &[u8])
-    requires { ⌜ (length (now acc) ≡ chunk) × (4 * length (now out) ≤ chunk) × (length (now row) ≡ length (now out)) ⌝ }
+    requires { ⌜ (length (now acc) ≡ fours) × (4 * length (now out) ≤ fours) × (length (now row) ≡ length (now out)) ⌝ }
     ensures { λ _. ⌜ ((j : ℕ) → j < length (now (out .entry)) → byteAt (now (out .exit)) j ≡ bitXor (byteAt (now (row .entry)) j) (xorSum 4 (λ g. byteAt (now (acc .entry)) (g * length (now (out .entry)) + j)))) ⌝ }
 {
     let w = out.len();
@@ -98,10 +111,10 @@ fn fold_row(out: &mut [u8], row: &[u8], acc: &[u8])
 
 // out = row + xᵀ·A: with b for the row, its product with x is the left side of the equation.
 pub fn witness_row(out: &mut [u8], matrix: &[u8], row: &[u8], masks: &[u8], n: usize)
-    requires { ⌜ (length (now matrix) ≡ n * length (now out)) × (length (now row) ≡ length (now out)) × (n ≤ 160) × (4 * length (now out) ≤ chunk) × ((n + 3) / 4 * chunk ≤ length (now masks)) ⌝ }
+    requires { ⌜ (length (now matrix) ≡ n * length (now out)) × (length (now row) ≡ length (now out)) × (n ≤ 160) × (4 * length (now out) ≤ fours) × ((n + 3) / 4 * fours ≤ length (now masks)) ⌝ }
     ensures { λ _. ⌜ ((xs : List ℕ) (j : ℕ) → ((c : ℕ) → byteAt xs c < 2) → ((k : ℕ) → k < (n + 3) / 4 → Spread xs (length (now (out .entry))) (now (masks .entry)) k) → j < length (now (out .entry)) → byteAt (now (out .exit)) j ≡ bitXor (byteAt (now (row .entry)) j) (xorSum n (λ ρ. byteAt xs ρ * byteAt (now (matrix .entry)) (ρ * length (now (out .entry)) + j)))) ⌝ }
 {
-    let mut acc = [0u8; CHUNK];
+    let mut acc = [0u8; FOURS];
     add_rows(&mut acc, matrix, masks, n, out.len());
     fold_row(out, row, &acc);
 }

@@ -1,7 +1,7 @@
 -- What the forms, the batched sums and the masks are in 01's terms, where the table holds a vector f in the lane of repetition e; and so QS0 and QS1.
 -- Assumes nothing.
 use mathlib.Core.Path.{_≡_, refl, sym, ap, ap₂, _∙_}
-use mathlib.Core.Bool.{true, cond}
+use mathlib.Core.Bool.{cond}
 use mathlib.Core.List.{List}
 use Prim.Native.Nat.{ℕ, zero, suc, _+_, _*_, _<_}
 use native.Mathlib.Omega.{arith}
@@ -14,7 +14,7 @@ use Rattle.algebra.proofs.RingLaws.{ring}
 use Rattle.algebra.proofs.SumLaws.{sum-ext, sum-add}
 use Rattle.field.specs.Gf256.{gf256, maskElement}
 use Rattle.protocol.specs.Lists.{blockAt}
-use Rattle.protocol.specs.Strings.{bytesFor, bit, spareZero}
+use Rattle.protocol.specs.Strings.{bytesFor, bit}
 use Rattle.protocol.specs.Alphabet.{Alphabet, sym as symbol, elemAt}
 use Rattle.protocol.specs.Binary.{binary, bits256}
 use Rattle.protocol.specs.Shape.{Shape, maskAt, kOf}
@@ -26,12 +26,13 @@ use Rattle.protocol.proofs.StringLaws.{bit-lt}
 use Rattle.strings.specs.Sums.{byteAt, xorSum, selected}
 use Rattle.strings.proofs.SumLaws.{sum-same}
 use Rattle.strings.proofs.Meaning.{byte-sum, byte-scale}
-use Rattle.strings.proofs.ProductLaws.{product-lt}
+use Rattle.strings.proofs.ProductLaws.{product-lt, product-sum}
 use Rattle.lanes.specs.Lanes.{lanes, laneAt}
-use Rattle.equations.specs.Equations.{rowProduct, rowOf, matrixOf}
+use Rattle.equations.specs.Equations.{rowOf, matrixOf}
+use Rattle.quadratic.specs.Forms.{rowBit}
 use Rattle.quadratic.specs.Batch.{qs0Byte, qs1Byte}
 use Rattle.equations.proofs.BlockLaws.{block-block}
-use Rattle.equations.proofs.ElementLaws.{byte-product, byte-form, form-rows, product-is, selected-is, bitsOf}
+use Rattle.equations.proofs.ElementLaws.{byte-product, byte-form, form-rows, selected-is, bitsOf}
 
 module _ (C : Coded) (s : Shape) where
   open Coded C using (base, elem, byte)
@@ -73,25 +74,25 @@ module _ (C : Coded) (s : Shape) where
     unfolding lin bSym symbol
     lin-is = selected-is C n (rowOf n (sectionB A s key) i) T e f holds
 
-    module _ (x : List ℕ) (spare : spareZero x (s .n) ≡ true) where
-      product-lane : (ρ : ℕ) → ρ < n → rowProduct (row ρ) x * laneAt T ρ e ≡ byte (f ρ ⊗ times (bitsOf C x) ρ)
-      product-lane ρ h =
-          ap₂ (λ r z. rowProduct r x * z) (same-row ρ h) (holds ρ h)
-          ∙ sym (byte-scale C (rowProduct (line ρ) x) (f ρ) (product-lt _ (line ρ) x))
-          ∙ ap byte (ap (λ z. z ⊗ f ρ) (ap elem (product-is C (line ρ) x n spare) ∙ C .elem-byte _) ∙ R .mul-comm (times (bitsOf C x) ρ) (f ρ))
+    module _ (x : List ℕ) where
+      row-bit-is : (ρ : ℕ) → ρ < n → rowBit n (row ρ) (bit x) * laneAt T ρ e ≡ byte (f ρ ⊗ times (bitsOf C x) ρ)
+      row-bit-is ρ h =
+          ap₂ (λ r z. rowBit n r (bit x) * z) (same-row ρ h) (holds ρ h)
+          ∙ sym (byte-scale C (rowBit n (line ρ) (bit x)) (f ρ) (product-lt n (line ρ) x))
+          ∙ ap byte (ap (λ z. z ⊗ f ρ) (ap elem (sym (product-sum C n (line ρ) x)) ∙ C .elem-byte _) ∙ R .mul-comm (times (bitsOf C x) ρ) (f ρ))
 
-      cross-is : xorSum n (λ ρ. bitXor (bit x ρ * selected n (row ρ) T lanes e) (rowProduct (row ρ) x * laneAt T ρ e)) ≡ byte (quad A s key i (symbol A x) f ⊕ quad A s key i f (symbol A x))
+      cross-is : xorSum n (λ ρ. bitXor (bit x ρ * selected n (row ρ) T lanes e) (rowBit n (row ρ) (bit x) * laneAt T ρ e)) ≡ byte (quad A s key i (symbol A x) f ⊕ quad A s key i f (symbol A x))
       unfolding quad aSym symbol
       cross-is =
           sum-same n _ (λ ρ. byte (bitsOf C x ρ ⊗ times f ρ ⊕ f ρ ⊗ times (bitsOf C x) ρ))
-          (λ ρ h. ap₂ bitXor (ap (λ z. bit x ρ * z) (row-is ρ h) ∙ sym (byte-scale C (bit x ρ) (times f ρ) (bit-lt x ρ))) (product-lane ρ h) ∙ sym (C .byte-add _ _))
+          (λ ρ h. ap₂ bitXor (ap (λ z. bit x ρ * z) (row-is ρ h) ∙ sym (byte-scale C (bit x ρ) (times f ρ) (bit-lt x ρ))) (row-bit-is ρ h) ∙ sym (C .byte-add _ _))
           ∙ sym (byte-sum C n _)
           ∙ ap byte (sum-add R n (λ ρ. bitsOf C x ρ ⊗ times f ρ) (λ ρ. f ρ ⊗ times (bitsOf C x) ρ) ∙ ap₂ _⊕_ (sym (form-rows C n _ (bitsOf C x) f)) (sym (form-rows C n _ f (bitsOf C x))))
 
       order : (p q r : F) → r ⊕ (p ⊕ q) ≡ q ⊕ p ⊕ r
       order p q r = simp ring
 
-      pub middle-is : bitXor (selected n (rowOf n (sectionB A s key) i) T lanes e) (xorSum n (λ ρ. bitXor (bit x ρ * selected n (row ρ) T lanes e) (rowProduct (row ρ) x * laneAt T ρ e)))
+      pub middle-is : bitXor (selected n (rowOf n (sectionB A s key) i) T lanes e) (xorSum n (λ ρ. bitXor (bit x ρ * selected n (row ρ) T lanes e) (rowBit n (row ρ) (bit x) * laneAt T ρ e)))
           ≡ byte (middle A s key i f (symbol A x))
       unfolding middle
       middle-is =
@@ -135,10 +136,10 @@ module _ (s : Shape) where
         (mask-is e (λ c. laneAt T c e) (v bits256 s leaves e) holds)
         ∙ sym (gf256 .byte-add _ _)
 
-    pub qs1-is : (x us : List ℕ) → spareZero x (s .n) ≡ true → ((c : ℕ) → c < kOf bits256 s → bit us c ≡ byteOf (u bits256 s leaves 0 c))
+    pub qs1-is : (x us : List ℕ) → ((c : ℕ) → c < kOf bits256 s → bit us c ≡ byteOf (u bits256 s leaves 0 c))
         → qs1Byte (s .n) (s .m) (sectionA bits256 s key) (sectionB bits256 s key) x χ us T e ≡ byteOf (qs1 bits256 s leaves key x χ e)
     unfolding qs1 a₁
-    qs1-is x us spare bits =
-        ap₂ bitXor (batch-is gf256 s χ e _ (λ i. middle bits256 s key i (v bits256 s leaves e) (symbol bits256 x)) (λ i. middle-is gf256 s key i T e (v bits256 s leaves e) front x spare))
+    qs1-is x us bits =
+        ap₂ bitXor (batch-is gf256 s χ e _ (λ i. middle bits256 s key i (v bits256 s leaves e) (symbol bits256 x)) (λ i. middle-is gf256 s key i T e (v bits256 s leaves e) front x))
         (mask-is e (bit us) (u bits256 s leaves 0) bits)
         ∙ sym (gf256 .byte-add _ _)

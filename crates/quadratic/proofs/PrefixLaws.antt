@@ -14,8 +14,8 @@ use Rattle.strings.specs.Sums.{selected}
 use Rattle.strings.proofs.Rows.{row-end}
 use Rattle.strings.proofs.SumLaws.{sum-same}
 use Rattle.lanes.specs.Lanes.{lanes, laneAt}
-use Rattle.equations.specs.Equations.{rowProduct, rowOf}
-use Rattle.quadratic.specs.Forms.{formByte, middleByte}
+use Rattle.equations.specs.Equations.{rowOf}
+use Rattle.quadratic.specs.Forms.{formByte, rowBit, middleByte}
 
 module _ (n : ℕ) (T : List ℕ) (e : ℕ) (h : e < lanes) where
   abbrev front : List ℕ
@@ -30,7 +30,7 @@ module _ (n : ℕ) (T : List ℕ) (e : ℕ) (h : e < lanes) where
   pub form-prefix : (A : List ℕ) → formByte n A front e ≡ formByte n A T e
   form-prefix A = sum-same n _ _ (λ ρ l. ap₂ (mulByte gf256) (lane-prefix ρ l) (selected-prefix (rowOf n A ρ)))
 
-  pub middle-prefix : (A b x : List ℕ) → middleByte n A b x front e ≡ middleByte n A b x T e
+  pub middle-prefix : (A b : List ℕ) (x : ℕ → ℕ) → middleByte n A b x front e ≡ middleByte n A b x T e
   middle-prefix A b x =
       ap₂ bitXor (selected-prefix b)
-      (sum-same n _ _ (λ ρ l. ap₂ (λ p q. bitXor (bit x ρ * p) (rowProduct (rowOf n A ρ) x * q)) (selected-prefix (rowOf n A ρ)) (lane-prefix ρ l)))
+      (sum-same n _ _ (λ ρ l. ap₂ (λ p q. bitXor (x ρ * p) (rowBit n (rowOf n A ρ) x * q)) (selected-prefix (rowOf n A ρ)) (lane-prefix ρ l)))

@@ -7,6 +7,7 @@ use Prim.Native.Nat.{ℕ, _+_, _*_}
 use lib.Bits.{bitXor}
 use Rattle.algebra.specs.Coded.{mulByte}
 use Rattle.field.specs.Gf256.{gf256}
+use Rattle.protocol.specs.Strings.{bit}
 use Rattle.strings.specs.Sums.{byteAt, xorSum}
 use Rattle.lanes.specs.Lanes.{maskLane, maskBits}
 use Rattle.equations.specs.Equations.{rowOf, matrixOf}
@@ -19,4 +20,4 @@ abbrev pub qs0Byte : ℕ → ℕ → List ℕ → List ℕ → List ℕ → ℕ 
 qs0Byte n m A χ T e = bitXor (batchByte m χ e (λ i. formByte n (matrixOf n A i) T e)) (maskLane T n e)
 
 abbrev pub qs1Byte : ℕ → ℕ → List ℕ → List ℕ → List ℕ → List ℕ → List ℕ → List ℕ → ℕ → ℕ
-qs1Byte n m A b x χ u T e = bitXor (batchByte m χ e (λ i. middleByte n (matrixOf n A i) (rowOf n b i) x T e)) (maskBits u n)
+qs1Byte n m A b x χ u T e = bitXor (batchByte m χ e (λ i. middleByte n (matrixOf n A i) (rowOf n b i) (bit x) T e)) (maskBits u n)

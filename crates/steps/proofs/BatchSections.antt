@@ -1,12 +1,10 @@
 -- The sections that the batching step writes, from what the kernels ensure.
 -- Assumes nothing.
 use mathlib.Core.Path.{_≡_, _∙_}
-use mathlib.Core.Bool.{true}
 use mathlib.Core.List.{List}
 use Prim.Native.Nat.{ℕ, _+_, _*_, _≤_, _<_}
 use native.Mathlib.Omega.{arith}
 use lib.ListN.{length, take}
-use Rattle.protocol.specs.Strings.{spareZero}
 use Rattle.protocol.specs.Binary.{bits256}
 use Rattle.protocol.specs.Shape.{Shape, kOf, lOf, wOf}
 use Rattle.protocol.specs.Key.{sectionA, sectionB}
@@ -31,10 +29,10 @@ module _ (s : Shape) (leaves key χ tab out : List ℕ) (is : TableIs tab leaves
       prefix-table out (s .τ) (λ e. byteOf (qs0 bits256 s leaves key χ e)) long
       (λ e l. at e l ∙ qs0-is s leaves key χ tab e (λ c h. table-v s leaves e c tab (s .τ) is l (inside c h)))
 
-  pub qs1-are : (x us : List ℕ) → spareZero x (s .n) ≡ true → IsU s leaves us
+  pub qs1-are : (x us : List ℕ) → IsU s leaves us
       → ((e : ℕ) → e < s .τ → byteAt out e ≡ qs1Byte (s .n) (s .m) (sectionA bits256 s key) (sectionB bits256 s key) x χ us tab e)
       → take (s .τ) out ≡ qs1Section bits256 s leaves key x χ
   unfolding qs1Section
-  qs1-are x us spare bits at =
+  qs1-are x us bits at =
       prefix-table out (s .τ) (λ e. byteOf (qs1 bits256 s leaves key x χ e)) long
-      (λ e l. at e l ∙ qs1-is s leaves key χ tab e (λ c h. table-v s leaves e c tab (s .τ) is l (inside c h)) x us spare (λ c h. bits c (inside c h)))
+      (λ e l. at e l ∙ qs1-is s leaves key χ tab e (λ c h. table-v s leaves e c tab (s .τ) is l (inside c h)) x us (λ c h. bits c (inside c h)))

@@ -3,7 +3,7 @@
 use borrow.Author.Needs.{needs}
 use Prim.Native.Nat.{ℕ, _+_, _*_, _-_, _≤_, _<_}
 use mathlib.Core.List.{List}
-use mathlib.Core.Path.{_≡_, refl, sym, _∙_}
+use mathlib.Core.Path.{_≡_, sym, _∙_}
 use native.Mathlib.Omega.{arith}
 use denote.Ref.{now}
 use lib.ListN.{length}
@@ -11,33 +11,30 @@ use lib.Bits.{bitXor, xor-zero-r}
 use Rattle.strings.specs.Sums.{byteAt, bitOf, xorSum}
 use Rattle.strings.proofs.SumLaws.{sum-step}
 use Rattle.lanes.specs.Lanes.{lanes, laneAt}
-use Rattle.columns.specs.Stacks.{planes, alpha, product}
+use Rattle.columns.specs.Stacks.{alpha, product}
 use Rattle.columns.proofs.add_columns.Statement.{statement}
 use Rattle.columns.proofs.add_columns.Tie as tie
 
--- the value of column z, and what it adds
-abbrev value : List ℕ → ℕ → ℕ → ℕ
-value rows e z = xorSum planes (λ s. bitOf (laneAt rows s e) z * alpha s)
+-- the value of column z of the first so many planes, and what it adds
+abbrev value : ℕ → List ℕ → ℕ → ℕ → ℕ
+value P rows e z = xorSum P (λ s. bitOf (laneAt rows s e) z * alpha s)
 
 abbrev quadTerm : List ℕ → List ℕ → ℕ → ℕ → ℕ → ℕ
-quadTerm rows table j e z = product (laneAt table (j * 8 + z) e) (value rows e z)
+quadTerm rows table first e z = product (laneAt table (first + z) e) (value 15 rows e z)
 
-abbrev rightTerm : List ℕ → List ℕ → ℕ → ℕ → ℕ → ℕ
-rightTerm rows xs j e z = byteAt xs (j * 8 + z) * value rows e z
+abbrev midTerm : List ℕ → List ℕ → List ℕ → List ℕ → ℕ → ℕ → ℕ → ℕ
+midTerm rows sides table xs first e z = bitXor (product (laneAt table (first + z) e) (value 8 sides e z)) (byteAt xs (first + z) * value 15 rows e z)
 
 abbrev Inv-loop : tie.InvT-loop
-Inv-loop quad₀ right₀ rows j n table xs z₀ quad right z = (z ≤ 8) × (length quad ≡ lanes) × (length right ≡ lanes) × ((e : ℕ) → e < lanes → byteAt quad e ≡ bitXor (byteAt quad₀ e) (xorSum z (quadTerm rows table j e))) × ((e : ℕ) → e < lanes → byteAt right e ≡ bitXor (byteAt right₀ e) (xorSum z (rightTerm rows xs j e)))
+Inv-loop quad₀ mid₀ rows sides first n table xs z₀ quad mid z = (z ≤ 8) × (length quad ≡ lanes) × (length mid ≡ lanes) × ((e : ℕ) → e < lanes → byteAt quad e ≡ bitXor (byteAt quad₀ e) (xorSum z (quadTerm rows table first e))) × ((e : ℕ) → e < lanes → byteAt mid e ≡ bitXor (byteAt mid₀ e) (xorSum z (midTerm rows sides table xs first e)))
 
 abbrev μ-loop : tie.MeasureT-loop
-μ-loop quad₀ right₀ rows j n table xs z₀ quad right z = 8 - z
+μ-loop quad₀ mid₀ rows sides first n table xs z₀ quad mid z = 8 - z
 
 loop-holds : tie.Need-loop-holds Inv-loop μ-loop
 unfolding xorSum
 loop-holds c =
     (search needs, search needs, search needs, (λ e h. sym (xor-zero-r _)), λ e h. sym (xor-zero-r _))
-
-mul-add-column : tie.Need-mul-add-column Inv-loop μ-loop
-mul-add-column c = search needs
 
 add-add-column : tie.Need-add-add-column Inv-loop μ-loop
 add-add-column c = search needs
@@ -45,7 +42,8 @@ add-add-column c = search needs
 add-column-requires : tie.Need-add-column-requires Inv-loop μ-loop
 add-column-requires c κs =
     let l = c .before .before .before .loop in
-    (l .inv .1, l .inv .2, c .before .before .before .before .before .before .before .before .before .pre .2, omega arith, c .before .before .before .before .before .before .before .before .before .pre .3, omega arith, c .before .before .before .before .before .before .before .before .before .pre .5 _)
+    let pre = c .before .before .before .before .before .before .before .before .before .before .pre in
+    (l .inv .1, l .inv .2, pre .2, pre .3, omega arith, pre .4, omega arith, pre .6 _)
 
 add-z : tie.Need-add-z Inv-loop μ-loop
 add-z c = search needs
@@ -55,14 +53,14 @@ loop-less c = search needs
 
 loop-again : tie.Need-loop-again Inv-loop μ-loop
 loop-again c =
-    let a = c .before .before .before .before .before .before .before .before .before .before .before .before .before .before .args in
+    let a = c .before .before .before .before .before .before .before .before .before .before .before .before .before .before .before .args in
     let l = c .before .before .before .before .before .before .before .before .loop in
     let done = c .before .before .before .before .add-column in (
       omega arith,
       done .kept .0 ∙ l .inv .1,
       done .kept .1 .0 ∙ l .inv .2,
-      (λ e h. done .ensures .0 e h ∙ sum-step (byteAt (now (a .quad)) e) (byteAt (l .quad) e) (l .z) (quadTerm (now (a .rows)) (now (a .table)) (a .j) e) (l .inv .3 e h)),
-      (λ e h. done .ensures .1 e h ∙ sum-step (byteAt (now (a .right)) e) (byteAt (l .right) e) (l .z) (rightTerm (now (a .rows)) (now (a .xs)) (a .j) e) (l .inv .4 e h)),
+      (λ e h. done .ensures .0 e h ∙ sum-step (byteAt (now (a .quad)) e) (byteAt (l .quad) e) (l .z) (quadTerm (now (a .rows)) (now (a .table)) (a .first) e) (l .inv .3 e h)),
+      (λ e h. done .ensures .1 e h ∙ sum-step (byteAt (now (a .mid)) e) (byteAt (l .mid) e) (l .z) (midTerm (now (a .rows)) (now (a .sides)) (now (a .table)) (now (a .xs)) (a .first) e) (l .inv .4 e h)),
     )
 
 same-length : tie.Need-same-length Inv-loop μ-loop
@@ -84,7 +82,6 @@ add-columns-spec =
     Inv-loop
     μ-loop
     loop-holds
-    mul-add-column
     add-add-column
     add-column-requires
     add-z

@@ -1,9 +1,10 @@
--- `columns::finish` meets its contract. The invariant: the columns of the bytes below j are added.
+-- `columns::finish` meets its contract. The invariant: the columns of the halves below h are added.
 -- Assumes nothing.
 use borrow.Author.Needs.{needs}
 use Prim.Native.Nat.{ℕ, _+_, _*_, _-_, _/_, _%_, _≤_, _<_}
 use mathlib.Core.List.{List}
-use mathlib.Core.Path.{_≡_, refl, sym, ap, ap₂, _∙_}
+use mathlib.Core.Path.{_≡_, sym, ap₂, _∙_}
+use native.Mathlib.Nat.{add-assoc}
 use native.Mathlib.Omega.{arith}
 use denote.Ref.{now}
 use lib.Arith.{digits-div, digits-mod}
@@ -11,29 +12,31 @@ use lib.ListN.{length}
 use lib.Bits.{bitXor, xor-zero-r}
 use Rattle.strings.specs.Sums.{byteAt, bitOf, xorSum}
 use Rattle.lanes.specs.Lanes.{lanes, laneAt}
-use Rattle.columns.specs.Stacks.{planes, alpha, product, foldOf}
+use Rattle.chunks.specs.Chunks.{chunk}
+use Rattle.columns.specs.Stacks.{alpha, product, foldOf}
 use Rattle.columns.proofs.ColumnLaws.{fold-is, eight-more}
 use Rattle.columns.proofs.finish.Statement.{statement}
 use Rattle.columns.proofs.finish.Tie as tie
 
--- what column c adds
-abbrev column : List ℕ → ℕ → ℕ → ℕ → ℕ
-column stacks width e c = foldOf stacks e width (c / 8) (c % 8)
+-- the value of column s of a panel, and what it adds
+abbrev column : ℕ → List ℕ → ℕ → ℕ → ℕ
+column P T e s = foldOf P T e (s / 8) (s % 8)
 
 abbrev quadTerm : List ℕ → ℕ → List ℕ → ℕ → ℕ → ℕ
-quadTerm stacks width table e c = product (laneAt table c e) (column stacks width e c)
+quadTerm stacks panel table e s = product (laneAt table (panel * 16 + s) e) (column 15 stacks e s)
 
-abbrev rightTerm : List ℕ → ℕ → List ℕ → ℕ → ℕ → ℕ
-rightTerm stacks width xs e c = byteAt xs c * column stacks width e c
+abbrev midTerm : List ℕ → List ℕ → ℕ → List ℕ → List ℕ → ℕ → ℕ → ℕ
+midTerm stacks sides panel table xs e s = bitXor (product (laneAt table (panel * 16 + s) e) (column 8 sides e s)) (byteAt xs (panel * 16 + s) * column 15 stacks e s)
 
-column-at : (stacks : List ℕ) (width e j z : ℕ) → z < 8 → foldOf stacks e width j z ≡ column stacks width e (j * 8 + z)
-column-at stacks width e j z h = sym (ap₂ (foldOf stacks e width) (digits-div j h) (digits-mod j h))
+column-is : (P : ℕ) (rows T : List ℕ) (e h z : ℕ) → z < 8 → ((s : ℕ) → s < P → laneAt rows s e ≡ xorSum 16 (λ f. byteAt T (e * (P * chunk) + (s * chunk + h * 16 + f))))
+    → xorSum P (λ s. bitOf (laneAt rows s e) z * alpha s) ≡ column P T e (h * 8 + z)
+column-is P rows T e h z k are = fold-is P rows T e h z are ∙ sym (ap₂ (foldOf P T e) (digits-div h k) (digits-mod h k))
 
 abbrev Inv-loop : tie.InvT-loop
-Inv-loop quad₀ right₀ stacks width tau n table xs j₀ quad right j = (j ≤ width) × (length quad ≡ lanes) × (length right ≡ lanes) × ((e : ℕ) → e < tau → byteAt quad e ≡ bitXor (byteAt quad₀ e) (xorSum (j * 8) (quadTerm stacks width table e))) × ((e : ℕ) → e < tau → byteAt right e ≡ bitXor (byteAt right₀ e) (xorSum (j * 8) (rightTerm stacks width xs e)))
+Inv-loop quad₀ mid₀ stacks sides panel tau n table xs h₀ quad mid h = (h ≤ 2) × (length quad ≡ lanes) × (length mid ≡ lanes) × ((e : ℕ) → e < tau → byteAt quad e ≡ bitXor (byteAt quad₀ e) (xorSum (h * 8) (quadTerm stacks panel table e))) × ((e : ℕ) → e < tau → byteAt mid e ≡ bitXor (byteAt mid₀ e) (xorSum (h * 8) (midTerm stacks sides panel table xs e)))
 
 abbrev μ-loop : tie.MeasureT-loop
-μ-loop quad₀ right₀ stacks width tau n table xs j₀ quad right j = width - j
+μ-loop quad₀ mid₀ stacks sides panel tau n table xs h₀ quad mid h = 2 - h
 
 loop-holds : tie.Need-loop-holds Inv-loop μ-loop
 unfolding xorSum
@@ -46,39 +49,63 @@ slice-aggregate-gather c = search needs
 gather-requires : tie.Need-gather-requires Inv-loop μ-loop
 gather-requires c κs = search needs
 
+slice-aggregate-gather-2 : tie.Need-slice-aggregate-gather-2 Inv-loop μ-loop
+slice-aggregate-gather-2 c = search needs
+
+gather-requires-2 : tie.Need-gather-requires-2 Inv-loop μ-loop
+gather-requires-2 c κs = search needs
+
 slice-aggregate-add-columns : tie.Need-slice-aggregate-add-columns Inv-loop μ-loop
 slice-aggregate-add-columns c = search needs
 
+slice-aggregate-add-columns-2 : tie.Need-slice-aggregate-add-columns-2 Inv-loop μ-loop
+slice-aggregate-add-columns-2 c = search needs
+
+mul-add-columns : tie.Need-mul-add-columns Inv-loop μ-loop
+mul-add-columns c = search needs
+
+mul-add-columns-2 : tie.Need-mul-add-columns-2 Inv-loop μ-loop
+mul-add-columns-2 c = search needs
+
+add-add-columns : tie.Need-add-add-columns Inv-loop μ-loop
+add-add-columns c = search needs
+
 add-columns-requires : tie.Need-add-columns-requires Inv-loop μ-loop
 add-columns-requires c κs =
-    let l = c .before .before .before .before .before .before .before .loop in
-    (l .inv .1, l .inv .2, search needs, c .before .before .before .before .before .before .before .before .before .before .before .before .before .pre .5, omega arith, c .before .before .before .before .before .before .before .before .before .before .before .before .before .pre .7)
+    let l = c .before .before .before .before .before .before .before .before .before .before .before .loop in
+    let pre = c .before .before .before .before .before .before .before .before .before .before .before .before .before .before .before .before .before .before .pre in
+    (l .inv .1, l .inv .2, search needs, search needs, pre .5, omega arith, pre .7)
 
-add-j : tie.Need-add-j Inv-loop μ-loop
-add-j c = search needs
+add-h : tie.Need-add-h Inv-loop μ-loop
+add-h c = search needs
 
 loop-less : tie.Need-loop-less Inv-loop μ-loop
 loop-less c = search needs
 
 loop-again : tie.Need-loop-again Inv-loop μ-loop
 loop-again c =
-    let a = c .before .before .before .before .before .before .before .before .before .before .before .before .before .before .before .before .before .before .args in
-    let l = c .before .before .before .before .before .before .before .before .before .before .before .before .loop in
-    let rows = c .before .before .before .before .before .before .before .before .before .gather .last .0 in
+    let a = c .before .before .before .before .before .before .before .before .before .before .before .before .before .before .before .before .before .before .before .before .before .before .before .args in
+    let l = c .before .before .before .before .before .before .before .before .before .before .before .before .before .before .before .before .loop in
+    let most : a .tau ≤ lanes = c .before .before .before .before .before .before .before .before .before .before .before .before .before .before .before .before .before .before .before .before .before .before .before .pre .2 in
+    let rows = c .before .before .before .before .before .before .before .before .before .before .before .before .before .gather in
+    let sides = c .before .before .before .before .before .before .before .before .before .before .gather2 in
     let done = c .before .before .before .before .add-columns in
-    let value : (e : ℕ) → e < a .tau → (z : ℕ) → z < 8 → xorSum planes (λ s. bitOf (laneAt rows s e) z * alpha s) ≡ column (now (a .stacks)) (a .width) e (l .j * 8 + z) =
-    λ e h z k. fold-is rows (now (a .stacks)) e (a .width) (l .j) z (λ s q. c .before .before .before .before .before .before .before .before .before .gather .ensures s e q h) ∙ column-at (now (a .stacks)) (a .width) e (l .j) z k in (
-      omega arith,
+    let value : (e : ℕ) → e < a .tau → (z : ℕ) → z < 8 → xorSum 15 (λ s. bitOf (laneAt (rows .last .0) s e) z * alpha s) ≡ column 15 (now (a .stacks)) e (l .h * 8 + z) =
+    λ e h z k. column-is 15 (rows .last .0) (now (a .stacks)) e (l .h) z k (λ s q. rows .ensures s e q h) in
+    let side : (e : ℕ) → e < a .tau → (z : ℕ) → z < 8 → xorSum 8 (λ s. bitOf (laneAt (sides .last .0) s e) z * alpha s) ≡ column 8 (now (a .sides)) e (l .h * 8 + z) =
+    λ e h z k. column-is 8 (sides .last .0) (now (a .sides)) e (l .h) z k (λ s q. sides .ensures s e q h) in
+    let place = add-assoc (a .panel * 16) (l .h * 8) in (
+      omega (arith, c .before .before .before .before .before .before .before .before .before .before .before .before .before .before .before .loop-test .taken),
       done .kept .0 ∙ l .inv .1,
       done .kept .1 .0 ∙ l .inv .2,
       (λ e h.
           done .ensures .0 e (omega arith)
-          ∙ eight-more (byteAt (now (a .quad)) e) (byteAt (l .quad) e) (l .j) (quadTerm (now (a .stacks)) (a .width) (now (a .table)) e) _ (l .inv .3 e h)
-          (λ z k. ap (product (laneAt (now (a .table)) (l .j * 8 + z) e)) (value e h z k))),
+          ∙ eight-more (byteAt (now (a .quad)) e) (byteAt (l .quad) e) (l .h) (quadTerm (now (a .stacks)) (a .panel) (now (a .table)) e) _ (l .inv .3 e h)
+          (λ z k. ap₂ (λ (i x : ℕ). product (laneAt (now (a .table)) i e) x) (place z) (value e h z k))),
       (λ e h.
           done .ensures .1 e (omega arith)
-          ∙ eight-more (byteAt (now (a .right)) e) (byteAt (l .right) e) (l .j) (rightTerm (now (a .stacks)) (a .width) (now (a .xs)) e) _ (l .inv .4 e h)
-          (λ z k. ap (λ (x : ℕ). byteAt (now (a .xs)) (l .j * 8 + z) * x) (value e h z k))),
+          ∙ eight-more (byteAt (now (a .mid)) e) (byteAt (l .mid) e) (l .h) (midTerm (now (a .stacks)) (now (a .sides)) (a .panel) (now (a .table)) (now (a .xs)) e) _ (l .inv .4 e h)
+          (λ z k. ap₂ bitXor (ap₂ (λ (i x : ℕ). product (laneAt (now (a .table)) i e) x) (place z) (side e h z k)) (ap₂ (λ (i x : ℕ). byteAt (now (a .xs)) i * x) (place z) (value e h z k)))),
     )
 
 same-length : tie.Need-same-length Inv-loop μ-loop
@@ -90,7 +117,7 @@ same-length-2 c = search needs
 returns : tie.Need-returns Inv-loop μ-loop
 returns c =
     let l = c .before .loop in
-    let end : l .j ≡ c .before .before .before .before .before .before .before .args .width = omega arith in
+    let end : l .h ≡ 2 = omega arith in
     ((λ e h. (rw end at (l .inv .3)) e h), λ e h. (rw end at (l .inv .4)) e h)
 
 pub finish-spec : {M : Type 1} → statement M
@@ -102,9 +129,15 @@ finish-spec =
     loop-holds
     slice-aggregate-gather
     gather-requires
+    slice-aggregate-gather-2
+    gather-requires-2
     slice-aggregate-add-columns
+    slice-aggregate-add-columns-2
+    mul-add-columns
+    mul-add-columns-2
+    add-add-columns
     add-columns-requires
-    add-j
+    add-h
     loop-less
     loop-again
     same-length

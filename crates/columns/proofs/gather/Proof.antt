@@ -3,24 +3,22 @@
 use borrow.Author.Needs.{needs}
 use Prim.Native.Nat.{ℕ, _+_, _*_, _-_, _≤_, _<_}
 use mathlib.Core.Logic.{⊎-elim}
-use mathlib.Core.Path.{_≡_, refl, _∙_}
+use mathlib.Core.Path.{_≡_, _∙_}
 use native.Mathlib.Nat.{eq-or-lt-of-le, le-of-suc-le-suc}
 use native.Mathlib.Numerals.{add-one}
 use native.Mathlib.Omega.{arith}
-use denote.Ref.{now}
 use lib.ListN.{length}
 use Rattle.strings.specs.Sums.{byteAt, xorSum}
 use Rattle.lanes.specs.Lanes.{lanes, laneAt}
 use Rattle.chunks.specs.Chunks.{chunk}
-use Rattle.columns.specs.Stacks.{planes, stack}
 use Rattle.columns.proofs.gather.Statement.{statement}
 use Rattle.columns.proofs.gather.Tie as tie
 
 abbrev Inv-loop : tie.InvT-loop
-Inv-loop rows₀ stacks j width tau s₀ rows s = (s ≤ planes) × (length rows ≡ planes * lanes) × ((q e : ℕ) → q < s → e < tau → laneAt rows q e ≡ xorSum 4 (λ g. byteAt stacks (e * stack + (q * chunk + j + g * width))))
+Inv-loop rows₀ stacks planes h tau s₀ rows s = (s ≤ planes) × (length rows ≡ planes * lanes) × ((q e : ℕ) → q < s → e < tau → laneAt rows q e ≡ xorSum 16 (λ f. byteAt stacks (e * (planes * chunk) + (q * chunk + h * 16 + f))))
 
 abbrev μ-loop : tie.MeasureT-loop
-μ-loop rows₀ stacks j width tau s₀ rows s = planes - s
+μ-loop rows₀ stacks planes h tau s₀ rows s = planes - s
 
 loop-holds : tie.Need-loop-holds Inv-loop μ-loop
 loop-holds c =
@@ -28,6 +26,12 @@ loop-holds c =
 
 mul-gather-at : tie.Need-mul-gather-at Inv-loop μ-loop
 mul-gather-at c = search needs
+
+mul-gather-at-2 : tie.Need-mul-gather-at-2 Inv-loop μ-loop
+mul-gather-at-2 c = search needs
+
+mul-gather-at-3 : tie.Need-mul-gather-at-3 Inv-loop μ-loop
+mul-gather-at-3 c = search needs
 
 add-gather-at : tie.Need-add-gather-at Inv-loop μ-loop
 add-gather-at c = search needs
@@ -68,6 +72,8 @@ gather-spec =
     μ-loop
     loop-holds
     mul-gather-at
+    mul-gather-at-2
+    mul-gather-at-3
     add-gather-at
     gather-at-requires
     add-s

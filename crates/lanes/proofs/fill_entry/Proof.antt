@@ -1,31 +1,49 @@
--- `lanes::fill_entry` meets its contract: a cleared row, and the entry added.
+-- `lanes::fill_entry` meets its contract.
 -- Assumes nothing.
-use Prim.Native.Nat.{ℕ}
+use borrow.Author.Needs.{needs}
+use mathlib.Core.List.{List}
 use mathlib.Core.Path.{ap, _∙_}
-use native.Mathlib.Omega.{arith}
+use Prim.Native.Nat.{ℕ}
 use denote.Ref.{now}
 use lib.Bits.{bitXor}
-use Rattle.lanes.specs.Lanes.{entryByte}
-use borrow.Author.Needs.{needs}
+use Rattle.strings.specs.Sums.{byteAt}
+use Rattle.strings.proofs.Rows.{row-byte}
+use Rattle.lanes.specs.Lanes.{lanes}
 use Rattle.lanes.proofs.fill_entry.Statement.{statement}
 use Rattle.lanes.proofs.fill_entry.Tie as tie
 
-clear-requires : tie.Need-clear-requires
-clear-requires c κs = search needs
+slice-aggregate-xor-of : tie.Need-slice-aggregate-xor-of
+slice-aggregate-xor-of c = search needs
 
-add-entry-requires : tie.Need-add-entry-requires
-add-entry-requires c κs = search needs
+row-at-requires : tie.Need-row-at-requires
+row-at-requires c κs = search needs
+
+xor-of-requires : tie.Need-xor-of-requires
+xor-of-requires c κs = search needs
+
+store-requires : tie.Need-store-requires
+store-requires c κs = search needs
 
 same-length : tie.Need-same-length
 same-length c = search needs
 
 returns : tie.Need-returns
-returns c e h =
-    let a = c .before .before .before .before .before .before .before .before .before .before .args in
-    let cleared = c .before .before .before .before .before .before .clear in
-    c .before .before .add-entry .ensures e h
-    ∙ ap (λ (x : ℕ). bitXor x (entryByte (now (a .table)) (a .k) e)) (cleared .ensures e (omega arith))
+returns c =
+    let a = c .before .before .before .before .before .before .before .before .before .before .before .before .args in
+    let stored = c .before .before .store in (
+      (λ e h.
+          stored .ensures .0 e h ∙ c .before .before .before .before .before .before .xor-of .ensures e h
+          ∙ ap (λ (x : ℕ). bitXor x (byteAt (now (a .coordinate)) e)) (ap (λ (r : List ℕ). byteAt r e) (c .before .before .before .before .before .before .before .before .row-at .ensures .0) ∙ row-byte (now (a .sums)) lanes (a .from) e h)),
+      stored .ensures .1,
+    )
 
 pub fill-entry-spec : {M : Type 1} → statement M
 fill-entry-spec =
-    tie.close (tie.spec clear-requires add-entry-requires same-length returns)
+    tie.close
+    (tie.spec
+    slice-aggregate-xor-of
+    row-at-requires
+    xor-of-requires
+    store-requires
+    same-length
+    returns)

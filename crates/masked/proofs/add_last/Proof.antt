@@ -10,13 +10,13 @@ use denote.Ref.{now}
 use lib.ListN.{length, getD-replicate, List·getD-eq-default}
 use lib.Bits.{bitXor, bitAnd}
 use Rattle.strings.specs.Sums.{byteAt}
-use Rattle.chunks.specs.Chunks.{chunk}
+use Rattle.masked.specs.Spread.{fours}
 use Rattle.masked.proofs.add_last.Statement.{statement}
 use Rattle.masked.proofs.add_last.Tie as tie
 
 part-is : (part matrix : List ℕ) (at wide len : ℕ) → len ≤ length matrix - at → (len < wide → len ≡ length matrix - at)
-    → ((f : ℕ) → f < len → byteAt part f ≡ byteAt matrix (at + f)) → ((f : ℕ) → len ≤ f → f < chunk → byteAt part f ≡ 0)
-    → at ≤ length matrix → wide ≤ chunk → (f : ℕ) → f < wide → byteAt part f ≡ byteAt matrix (at + f)
+    → ((f : ℕ) → f < len → byteAt part f ≡ byteAt matrix (at + f)) → ((f : ℕ) → len ≤ f → f < fours → byteAt part f ≡ 0)
+    → at ≤ length matrix → wide ≤ fours → (f : ℕ) → f < wide → byteAt part f ≡ byteAt matrix (at + f)
 part-is part matrix at wide len short reach is zeros fits small f h = go (decLt f len)
   where
     go : Dec (f < len) → byteAt part f ≡ byteAt matrix (at + f)
@@ -55,7 +55,7 @@ returns c f h =
     c .before .before .xor-and .ensures f (omega arith)
     ∙ ap (λ (x : ℕ). bitXor (byteAt (now (a .acc)) f) (bitAnd x (byteAt (now (a .mask)) f)))
     (part-is (copied .last .0) (now (a .matrix)) (a .at) (a .wide) (len .result) (len .ensures .1) (len .ensures .2) (copied .ensures .0)
-    (λ i l k. copied .ensures .1 i l ∙ getD-replicate chunk i 0 0 k) (omega arith) (omega arith) f h)
+    (λ i l k. copied .ensures .1 i l ∙ getD-replicate fours i 0 0 k) (omega arith) (omega arith) f h)
 
 pub add-last-spec : {M : Type 1} → statement M
 add-last-spec =

@@ -10,7 +10,7 @@ use lib.ListN.{drop, take}
 use lib.Seq.{getD-take, getD-drop}
 use lib.Bits.{bitXor, bitAnd}
 use Rattle.strings.specs.Sums.{byteAt}
-use Rattle.chunks.specs.Chunks.{chunk}
+use Rattle.masked.specs.Spread.{fours}
 use Rattle.masked.proofs.add_part.Statement.{statement}
 use Rattle.masked.proofs.add_part.Tie as tie
 
@@ -48,11 +48,11 @@ returns-2 : tie.Need-returns-2
 returns-2 c =
     let a = c .before .before .before .before .before .before .before .before .before .args in
     let M = now (a .matrix) in
-    let e : a .at + chunk - a .at ≡ chunk = add-sub-cancel-left (a .at) chunk in
-    let done : (f : ℕ) → f < chunk → byteAt (c .before .before .xor-and .last .0) f ≡ bitXor (byteAt (now (a .acc)) f) (bitAnd (byteAt (take chunk (drop (a .at) M)) f) (byteAt (now (a .mask)) f)) = rw e at (c .before .before .xor-and .ensures) in
+    let e : a .at + fours - a .at ≡ fours = add-sub-cancel-left (a .at) fours in
+    let done : (f : ℕ) → f < fours → byteAt (c .before .before .xor-and .last .0) f ≡ bitXor (byteAt (now (a .acc)) f) (bitAnd (byteAt (take fours (drop (a .at) M)) f) (byteAt (now (a .mask)) f)) = rw e at (c .before .before .xor-and .ensures) in
     λ f h.
-    let inside : f < chunk = omega (arith, h, c .before .before .before .before .before .before .before .before .before .pre .2) in
-    done f inside ∙ ap (λ (x : ℕ). bitXor (byteAt (now (a .acc)) f) (bitAnd x (byteAt (now (a .mask)) f))) (getD-take chunk (drop (a .at) M) f 0 inside ∙ getD-drop (a .at) M f 0)
+    let inside : f < fours = omega (arith, h, c .before .before .before .before .before .before .before .before .before .pre .2) in
+    done f inside ∙ ap (λ (x : ℕ). bitXor (byteAt (now (a .acc)) f) (bitAnd x (byteAt (now (a .mask)) f))) (getD-take fours (drop (a .at) M) f 0 inside ∙ getD-drop (a .at) M f 0)
 
 pub add-part-spec : {M : Type 1} → statement M
 add-part-spec =

@@ -13,21 +13,20 @@ use Rattle.field.proofs.ProductLaws.{mask-times}
 use Rattle.strings.specs.Sums.{byteAt, xorSum}
 use Rattle.strings.proofs.Rows.{row-end, row-byte}
 use Rattle.strings.proofs.SumLaws.{sum-step}
-use Rattle.chunks.specs.Chunks.{chunk}
-use Rattle.masked.specs.Spread.{Spread}
+use Rattle.masked.specs.Spread.{fours, Spread}
 use Rattle.masked.proofs.add_rows.Statement.{statement}
 use Rattle.masked.proofs.add_rows.Tie as tie
 
--- what chunk k adds to part g
+-- what the four rows from 4·k on add to part g
 abbrev term : List ℕ → List ℕ → ℕ → ℕ → ℕ → ℕ → ℕ
 term xs matrix w g j k = byteAt xs (k * 4 + g) * byteAt matrix ((k * 4 + g) * w + j)
 
--- the byte of a chunk, in its row
+-- the byte of four rows, in its row
 place : (k width g j : ℕ) → k * 4 * width + (g * width + j) ≡ (k * 4 + g) * width + j
 place k width g j = sym (add-assoc (k * 4 * width) (g * width) j) ∙ ap (λ x. x + j) (sym (add-mul (k * 4) g width))
 
 abbrev Inv-loop : tie.InvT-loop
-Inv-loop acc₀ matrix masks n w k₀ acc k = (k * 4 < n + 4) × (length acc ≡ chunk) × ((xs : List ℕ) (g j : ℕ) → ((c : ℕ) → byteAt xs c < 2) → ((i : ℕ) → i < (n + 3) / 4 → Spread xs w masks i) → g < 4 → j < w → byteAt acc (g * w + j) ≡ bitXor (byteAt acc₀ (g * w + j)) (xorSum k (term xs matrix w g j)))
+Inv-loop acc₀ matrix masks n w k₀ acc k = (k * 4 < n + 4) × (length acc ≡ fours) × ((xs : List ℕ) (g j : ℕ) → ((c : ℕ) → byteAt xs c < 2) → ((i : ℕ) → i < (n + 3) / 4 → Spread xs w masks i) → g < 4 → j < w → byteAt acc (g * w + j) ≡ bitXor (byteAt acc₀ (g * w + j)) (xorSum k (term xs matrix w g j)))
 
 abbrev μ-loop : tie.MeasureT-loop
 μ-loop acc₀ matrix masks n w k₀ acc k = n + 4 - k * 4
@@ -80,11 +79,11 @@ loop-again c =
       (λ xs g j bits spread hg hj.
           let f = g * a .w + j in
           let wide : g * a .w + j < 4 * a .w = omega (arith, row-end g 4 (a .w) hg) in
-          let inside : g * a .w + j < chunk = omega arith in
+          let inside : g * a .w + j < fours = omega arith in
           let x = byteAt (now (a .matrix)) (l .k * 4 * a .w + (g * a .w + j)) in
           done .ensures f wide
           ∙ ap (bitXor (byteAt (l .acc) f))
-          (ap (bitAnd x) (ap (λ (r : List ℕ). byteAt r f) (row .ensures .0) ∙ row-byte (now (a .masks)) chunk (l .k) f inside ∙ spread (l .k) (omega arith) g j hg hj)
+          (ap (bitAnd x) (ap (λ (r : List ℕ). byteAt r f) (row .ensures .0) ∙ row-byte (now (a .masks)) fours (l .k) f inside ∙ spread (l .k) (omega arith) g j hg hj)
           ∙ mask-times (byteAt xs (l .k * 4 + g)) x (bits (l .k * 4 + g)) (c .before .before .before .before .before .before .before .before .shared-slice-known .given (l .k * 4 * a .w + (g * a .w + j)) .fits)
           ∙ mul-comm x (byteAt xs (l .k * 4 + g)) ∙ ap (λ i. byteAt xs (l .k * 4 + g) * byteAt (now (a .matrix)) i) (place (l .k) (a .w) g j))
           ∙ sum-step (byteAt (now (a .acc)) f) (byteAt (l .acc) f) (l .k) (term xs (now (a .matrix)) (a .w) g j) (l .inv .2 xs g j bits spread hg hj)),

@@ -9,7 +9,7 @@ use denote.Ref.{now}
 use lib.ListN.{length, take, drop, length-take, length-drop}
 use Rattle.strings.specs.Sums.{byteAt}
 use Rattle.strings.proofs.Rows.{put-in, put-other, row-end}
-use Rattle.chunks.specs.Chunks.{chunk}
+use Rattle.masked.specs.Spread.{fours}
 use Rattle.masked.proofs.spread_row.Statement.{statement}
 use Rattle.masked.proofs.spread_row.Tie as tie
 
@@ -41,15 +41,15 @@ returns : tie.Need-returns
 returns c =
     let a = c .before .before .before .before .before .before .args in
     let l = now (a .masks) in
-    let at = a .k * chunk in
+    let at = a .k * fours in
     let r = c .before .before .spread-bits .last .0 in
-    let e : at + chunk - at ≡ chunk = add-sub-cancel-left at chunk in
-    let fits : at + chunk ≤ length l = omega arith in
-    let long : length (take chunk (drop at l)) ≡ chunk = simp (length-take, length-drop) (omega arith) in
-    let kept : length r ≡ chunk = rw e at (c .before .before .spread-bits .kept .0) ∙ long in
+    let e : at + fours - at ≡ fours = add-sub-cancel-left at fours in
+    let fits : at + fours ≤ length l = omega arith in
+    let long : length (take fours (drop at l)) ≡ fours = simp (length-take, length-drop) (omega arith) in
+    let kept : length r ≡ fours = rw e at (c .before .before .spread-bits .kept .0) ∙ long in
     rw e (
-      (λ g j h k. put-in at chunk l r fits kept (g * a .w + j) (omega (arith, row-end g 4 (a .w) h)) ∙ c .before .before .spread-bits .ensures g j h k),
-      put-other (a .k) chunk l r fits kept,
+      (λ g j h k. put-in at fours l r fits kept (g * a .w + j) (omega (arith, row-end g 4 (a .w) h)) ∙ c .before .before .spread-bits .ensures g j h k),
+      put-other (a .k) fours l r fits kept,
     )
 
 pub spread-row-spec : {M : Type 1} → statement M

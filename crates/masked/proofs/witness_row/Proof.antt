@@ -12,8 +12,8 @@ use lib.Bits.{bitXor, xor-zero-l}
 use Rattle.strings.specs.Sums.{byteAt, xorSum}
 use Rattle.strings.proofs.Rows.{row-end}
 use Rattle.strings.proofs.SumLaws.{sum-same}
-use Rattle.chunks.specs.Chunks.{chunk}
 use Rattle.chunks.proofs.BitSumLaws.{rows-by-four}
+use Rattle.masked.specs.Spread.{fours}
 use Rattle.masked.proofs.witness_row.Statement.{statement}
 use Rattle.masked.proofs.witness_row.Tie as tie
 
@@ -47,9 +47,9 @@ returns c xs j bits spread h =
     ∙ ap (bitXor (byteAt (now (a .row)) j))
     (sum-same 4 _ (λ g. xorSum ((a .n + 3) / 4) (λ k. term (k * 4 + g)))
     (λ g hg.
-    let inside : g * w + j < chunk = omega (arith, row-end g 4 w hg) in
+    let inside : g * w + j < fours = omega (arith, row-end g 4 w hg) in
     c .before .before .before .before .before .before .add-rows .ensures xs g j bits spread hg h
-    ∙ ap (λ (x : ℕ). bitXor x (xorSum ((a .n + 3) / 4) (λ k. term (k * 4 + g)))) (getD-replicate chunk (g * w + j) 0 0 inside)
+    ∙ ap (λ (x : ℕ). bitXor x (xorSum ((a .n + 3) / 4) (λ k. term (k * 4 + g)))) (getD-replicate fours (g * w + j) 0 0 inside)
     ∙ xor-zero-l _)
     ∙ rows-by-four (a .n) term (past-rows (now (a .matrix)) xs (a .n) w j (c .before .before .before .before .before .before .before .before .before .before .before .before .pre .0)))
 

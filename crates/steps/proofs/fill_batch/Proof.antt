@@ -92,7 +92,7 @@ returns c =
       qs0-are shape (now (a .leaves)) (now (a .key)) (now (a .batching)) (now (a .table)) (done .last .0) (s .pre .0 .4 .table-is) wide
           (λ e l. done .ensures .0 e l ∙ ap (λ (r : List ℕ). qs0Byte (a .s .n) (a .s .m) r (now (a .batching)) (now (a .table)) e) forms),
       qs1-are shape (now (a .leaves)) (now (a .key)) (now (a .batching)) (now (a .table)) (done .last .1 .0) (s .pre .0 .4 .table-is) wide′
-          (now (a .witness)) (blockAt (now (a .sums)) (wOf bits256 shape) 0) (s .pre .0 .2 .witness-spare)
+          (now (a .witness)) (blockAt (now (a .sums)) (wOf bits256 shape) 0)
           (first-is-u shape (now (a .leaves)) (now (a .sums)) (in-limits shape within .τ-least) (s .pre .0 .4 .sums-are))
           (λ e l.
           done .ensures .1 e l

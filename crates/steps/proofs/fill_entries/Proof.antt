@@ -56,7 +56,7 @@ fill-sums-requires : tie.Need-fill-sums-requires
 fill-sums-requires c κs =
     let s = c .before .before .before .before .before .before in
     let width : c .before .before .bytes-for .result ≡ bytesFor (kOf bits256 (shapeFor (s .args .s))) = c .before .before .bytes-for .ensures ∙ ap bytesFor (c .before .before .before .hashed-bits .ensures) in
-    (omega (arith, s .pre .2), simp length-take (omega (arith, k-fits (shapeFor (s .args .s)))))
+    (omega (arith, s .pre .2), simp length-take (omega (arith, k-fits (shapeFor (s .args .s)))), omega arith)
 
 same-length : tie.Need-same-length
 same-length c = search needs

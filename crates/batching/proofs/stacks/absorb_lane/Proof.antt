@@ -1,28 +1,34 @@
--- `batching::stacks::absorb_lane` meets its contract. The part that was lent is stack e, and the others stand outside it.
+-- `batching::stacks::absorb_lane` meets its contract. The parts that were lent are the stack and the side of e, and the others stand outside them.
 -- Assumes nothing.
 use borrow.Author.Needs.{needs}
 use Prim.Native.Nat.{ℕ, _+_, _*_, _-_, _≤_, _<_}
 use mathlib.Core.List.{List}
-use mathlib.Core.Path.{_≡_, sym, ap, ap₂, _∙_}
-use native.Mathlib.Nat.{add-sub-cancel-left}
+use mathlib.Core.Path.{_≡_, refl, sym, ap, ap₂, _∙_}
+use native.Mathlib.Nat.{add-sub-cancel-left, add-assoc}
 use native.Mathlib.Omega.{arith}
 use denote.Ref.{now}
-use lib.ListN.{length, length-take, length-drop}
-use lib.Bits.{bitXor}
+use lib.ListN.{length, take, drop, length-take, length-drop}
 use borrow.Rule.Slice.PartMut.{putMid}
+use lib.Bits.{bitXor}
 use Rattle.protocol.specs.Lists.{part, blockAt}
 use Rattle.strings.specs.Sums.{byteAt, bitOf, xorSum}
-use Rattle.strings.proofs.Rows.{row-byte, row-end, put-in, put-other}
-use Rattle.lanes.specs.Lanes.{lanes, laneAt}
+use Rattle.strings.proofs.Rows.{row-byte, put-in, put-other}
 use Rattle.chunks.specs.Chunks.{chunk, cellAt, Masks}
 use Rattle.choices.specs.Entries.{Weighed}
-use Rattle.columns.specs.Stacks.{stack, product, stackAt, stackOf}
+use Rattle.columns.specs.Stacks.{product, stackAt, stackOf}
+use Rattle.batching.specs.Batched.{most}
 use Rattle.batching.proofs.StackLaws.{stack-is}
 use Rattle.batching.proofs.stacks.absorb_lane.Statement.{statement}
 use Rattle.batching.proofs.stacks.absorb_lane.Tie as tie
 
 slice-aggregate-spread : tie.Need-slice-aggregate-spread
 slice-aggregate-spread c = search needs
+
+mul-spread : tie.Need-mul-spread
+mul-spread c = search needs
+
+add-spread : tie.Need-add-spread
+add-spread c = search needs
 
 spread-requires : tie.Need-spread-requires
 spread-requires c κs = search needs
@@ -39,6 +45,9 @@ fill-masks-requires c κs = search needs
 mul-at : tie.Need-mul-at
 mul-at c = search needs
 
+mul-beside : tie.Need-mul-beside
+mul-beside c = search needs
+
 add-absorb : tie.Need-add-absorb
 add-absorb c = search needs
 
@@ -51,6 +60,18 @@ part-absorb-start c = search needs
 part-absorb-end : tie.Need-part-absorb-end
 part-absorb-end c = search needs
 
+add-absorb-2 : tie.Need-add-absorb-2
+add-absorb-2 c = search needs
+
+sub-absorb-2 : tie.Need-sub-absorb-2
+sub-absorb-2 c = search needs
+
+part-absorb-start-2 : tie.Need-part-absorb-start-2
+part-absorb-start-2 c = search needs
+
+part-absorb-end-2 : tie.Need-part-absorb-end-2
+part-absorb-end-2 c = search needs
+
 mul-absorb : tie.Need-mul-absorb
 mul-absorb c = search needs
 
@@ -59,36 +80,59 @@ slice-aggregate-absorb c = search needs
 
 absorb-requires : tie.Need-absorb-requires
 absorb-requires c κs =
-    (search needs, search needs, c .before .before .before .before .before .before .before .before .before .before .before .before .before .pre .2, c .before .before .before .before .before .before .before .before .before .before .before .before .before .pre .3, search needs, search needs)
+    let pre = c .before .before .before .before .before .before .before .before .before .before .before .before .before .before .before .before .pre in
+    (search needs, search needs, search needs, pre .3, pre .4, search needs, search needs, search needs)
 
 same-length : tie.Need-same-length
 same-length c = search needs
 
+same-length-2 : tie.Need-same-length-2
+same-length-2 c = search needs
+
 returns : tie.Need-returns
 unfolding blockAt part
 returns c =
-    let a = c .before .before .before .before .before .before .before .before .before .before .before .before .before .before .before .before .args in
+    let a = c .before .before .before .before .before .before .before .before .before .before .before .before .before .before .before .before .before .before .before .before .before .args in
     let l = now (a .stacks) in
-    let at = a .e * stack in
-    let done = c .before .before .absorb in
+    let k = now (a .sides) in
+    let at = a .e * (15 * chunk) in
+    let beside = a .e * (8 * chunk) in
+    let done = c .before .before .before .before .absorb in
     let r = done .last .0 in
-    let v = c .before .before .before .before .before .before .before .before .before .before .spread .last .0 in
-    let e : at + stack - at ≡ stack = add-sub-cancel-left at stack in
-    let fits : at + stack ≤ length l = omega arith in
-    let long : length (blockAt l stack (a .e)) ≡ stack = simp (length-take, length-drop) (omega arith) in
-    let kept : length r ≡ stack = rw e at (done .kept .0) ∙ long in
-    let sums : ((S v : List ℕ) (χ : ℕ → ℕ) (m f z : ℕ) → Weighed S χ m (now (a .sums)) (now (a .offsets)) (a .groups) (a .e * 8) → Masks v (c .before .before .before .before .before .before .fill-masks .last .0) → byteAt v f < 256 → f < chunk → stackAt r f z ≡ bitXor (stackAt (blockAt l stack (a .e)) f z) (product (byteAt v f) (xorSum m (λ i. bitOf (cellAt S i f) z * χ i)))) =
-    rw e at (done .ensures) in
-    rw e (
-      (λ S χ m g j z weighed hg hj.
-          let inside : g * a .width + j < chunk = omega (arith, row-end g 4 (a .width) hg) in
-          let lane : byteAt v (g * a .width + j) ≡ laneAt (now (a .table)) (a .first + g) (a .e) = c .before .before .before .before .before .before .before .before .before .before .spread .ensures g j hg hj in
-          let small : byteAt v (g * a .width + j) < 256 = rw lane (c .before .before .before .before .before .before .before .before .before .before .before .before .shared-slice-known3 .given ((a .first + g) * lanes + a .e) .fits) in
-          stack-is (putMid at stack l r) r (a .e) (g * a .width + j) z inside (put-in at stack l r fits kept)
-          ∙ sums S v χ m (g * a .width + j) z weighed (c .before .before .before .before .before .before .fill-masks .ensures) small inside
-          ∙ ap₂ (λ (x y : ℕ). bitXor x (product y (xorSum m (λ i. bitOf (cellAt S i (g * a .width + j)) z * χ i))))
-          (sym (stack-is l (blockAt l stack (a .e)) (a .e) (g * a .width + j) z inside (λ b h. sym (row-byte l stack (a .e) b h)))) lane),
-      put-other (a .e) stack l r fits kept,
+    let s = done .last .1 .0 in
+    let spreads = c .before .before .before .before .before .before .before .before .before .before .before .before .before .spread in
+    let v = spreads .last .0 in
+    let known = c .before .before .before .before .before .before .before .before .before .before .before .before .before .before .before .before .shared-slice-known3 .given in
+    let e : at + 15 * chunk - at ≡ 15 * chunk = add-sub-cancel-left at (15 * chunk) in
+    let d : beside + 8 * chunk - beside ≡ 8 * chunk = add-sub-cancel-left beside (8 * chunk) in
+    let fits : at + 15 * chunk ≤ length l = c .before .before .before .before .before .before .before .before .before .before .before .before .before .before .before .before .before .before .before .before .before .pre .0 in
+    let fits′ : beside + 8 * chunk ≤ length k = c .before .before .before .before .before .before .before .before .before .before .before .before .before .before .before .before .before .before .before .before .before .pre .1 in
+    let long : length (blockAt l (15 * chunk) (a .e)) ≡ 15 * chunk = simp (length-take, length-drop) (omega arith) in
+    let long′ : length (blockAt k (8 * chunk) (a .e)) ≡ 8 * chunk = simp (length-take, length-drop) (omega arith) in
+    let kept : length r ≡ 15 * chunk = rw e at (done .kept .0) ∙ long in
+    let kept′ : length s ≡ 8 * chunk = rw d at (done .kept .1 .0) ∙ long′ in
+    let filled = c .before .before .before .before .before .before .before .before .before .fill-masks in
+    let sums : ((S v : List ℕ) (χ : ℕ → ℕ) (m f z : ℕ) → Weighed S χ m (now (a .sums)) (now (a .offsets)) (a .groups) (a .e * 8) → Masks v (filled .last .0) → byteAt v f < 256 → f < chunk → stackAt 15 r f z ≡ bitXor (stackAt 15 (blockAt l (15 * chunk) (a .e)) f z) (product (byteAt v f) (xorSum m (λ i. bitOf (cellAt S i f) z * χ i)))) =
+    rw e at (done .ensures .0) in
+    let asides : ((S : List ℕ) (χ : ℕ → ℕ) (m x f z : ℕ) → Weighed S χ m (now (a .sums)) (now (a .offsets)) (a .groups) (a .e * 8) → x < 2 → byteAt (now (a .mask)) f ≡ x * 255 → f < chunk → stackAt 8 s f z ≡ bitXor (stackAt 8 (blockAt k (8 * chunk) (a .e)) f z) (x * xorSum m (λ i. bitOf (cellAt S i f) z * χ i))) =
+    rw d at (done .ensures .1) in
+    rw (e, d) (
+      (λ S χ m h f z weighed hh hf.
+          let inside : h * 16 + f < chunk = omega arith in
+          let lane : byteAt v (h * 16 + f) ≡ byteAt (now (a .vectors)) (a .e * most + (a .first + f)) = spreads .ensures h f hh hf ∙ ap (byteAt (now (a .vectors))) (add-assoc (a .e * most) (a .first) f) in
+          let small : byteAt v (h * 16 + f) < 256 = rw lane (known ((a .e * most) + (a .first + f)) .fits) in
+          stack-is 15 (putMid at (15 * chunk) l r) r (a .e) (h * 16 + f) z inside (put-in at (15 * chunk) l r fits kept)
+          ∙ sums S v χ m (h * 16 + f) z weighed (filled .ensures) small inside
+          ∙ ap₂ (λ (x y : ℕ). bitXor x (product y (xorSum m (λ i. bitOf (cellAt S i (h * 16 + f)) z * χ i))))
+          (sym (stack-is 15 l (blockAt l (15 * chunk) (a .e)) (a .e) (h * 16 + f) z inside (λ b h. sym (row-byte l (15 * chunk) (a .e) b h)))) lane),
+      (
+        (λ S χ m x f z weighed hx mask hf.
+            stack-is 8 (putMid beside (8 * chunk) k s) s (a .e) f z hf (put-in beside (8 * chunk) k s fits′ kept′)
+            ∙ asides S χ m x f z weighed hx mask hf
+            ∙ ap (λ (y : ℕ). bitXor y (x * xorSum m (λ i. bitOf (cellAt S i f) z * χ i)))
+            (sym (stack-is 8 k (blockAt k (8 * chunk) (a .e)) (a .e) f z hf (λ b h. sym (row-byte k (8 * chunk) (a .e) b h))))),
+        (put-other (a .e) (15 * chunk) l r fits kept, put-other (a .e) (8 * chunk) k s fits′ kept′),
+      ),
     )
 
 pub absorb-lane-spec : {M : Type 1} → statement M
@@ -96,17 +140,25 @@ absorb-lane-spec =
     tie.close
     (tie.spec
     slice-aggregate-spread
+    mul-spread
+    add-spread
     spread-requires
     slice-aggregate-fill-masks
     slice-aggregate-fill-masks-2
     fill-masks-requires
     mul-at
+    mul-beside
     add-absorb
     sub-absorb
     part-absorb-start
     part-absorb-end
+    add-absorb-2
+    sub-absorb-2
+    part-absorb-start-2
+    part-absorb-end-2
     mul-absorb
     slice-aggregate-absorb
     absorb-requires
     same-length
+    same-length-2
     returns)

@@ -1,71 +1,33 @@
--- `batching::stacks::spread` meets its contract. The invariant: the parts below g are filled.
+-- `batching::stacks::spread` meets its contract: one half after the other.
 -- Assumes nothing.
 use borrow.Author.Needs.{needs}
-use Prim.Native.Nat.{ℕ, _+_, _*_, _-_, _≤_, _<_}
-use mathlib.Core.Path.{_≡_, refl, _∙_}
+use Prim.Native.Nat.{ℕ, zero, suc, _+_, _*_, _-_, _≤_, _<_}
+use mathlib.Core.List.{List}
+use mathlib.Core.Path.{_≡_, refl, sym, ap, ap₂, _∙_}
 use native.Mathlib.Omega.{arith}
 use denote.Ref.{now}
 use lib.ListN.{length}
 use Rattle.strings.specs.Sums.{byteAt}
-use Rattle.strings.proofs.Rows.{RowsAre, rows-more, row-end}
-use Rattle.lanes.specs.Lanes.{laneAt}
 use Rattle.batching.proofs.stacks.spread.Statement.{statement}
 use Rattle.batching.proofs.stacks.spread.Tie as tie
 
-abbrev Inv-loop : tie.InvT-loop
-Inv-loop v₀ table first n e w g₀ v g = (g ≤ 4) × (length v ≡ length v₀) × RowsAre (λ i j. laneAt table (first + i) e) v g w
+put-half-requires : tie.Need-put-half-requires
+put-half-requires c κs = search needs
 
-abbrev μ-loop : tie.MeasureT-loop
-μ-loop v₀ table first n e w g₀ v g = 4 - g
+put-half-requires-2 : tie.Need-put-half-requires-2
+put-half-requires-2 c κs = search needs
 
-loop-holds : tie.Need-loop-holds Inv-loop μ-loop
-loop-holds c =
-    (search needs, refl, λ i j h k. absurd (omega arith))
-
-add-lane-byte : tie.Need-add-lane-byte Inv-loop μ-loop
-add-lane-byte c = search needs
-
-lane-byte-requires : tie.Need-lane-byte-requires Inv-loop μ-loop
-lane-byte-requires c κs = search needs
-
-fill-part-requires : tie.Need-fill-part-requires Inv-loop μ-loop
-fill-part-requires c κs =
-    let a = c .before .before .before .before .before .before .args in
-    let l = c .before .before .before .loop in
-    omega (arith, l .inv .1, row-end (l .g) 4 (a .w) (omega arith))
-
-add-g : tie.Need-add-g Inv-loop μ-loop
-add-g c = search needs
-
-loop-less : tie.Need-loop-less Inv-loop μ-loop
-loop-less c = search needs
-
-loop-again : tie.Need-loop-again Inv-loop μ-loop
-loop-again c =
-    let a = c .before .before .before .before .before .before .before .before .before .args in
-    let l = c .before .before .before .before .before .before .loop in
-    let done = c .before .before .fill-part in
-    (omega arith, done .kept .0 ∙ l .inv .1, rows-more (λ i j. laneAt (now (a .table)) (a .first + i) (a .e)) (l .v) (done .last .0) (l .g) (a .w) (l .inv .2) (λ j h. done .ensures .0 j h ∙ c .before .before .before .lane-byte .ensures) (done .ensures .1))
-
-same-length : tie.Need-same-length Inv-loop μ-loop
+same-length : tie.Need-same-length
 same-length c = search needs
 
-returns : tie.Need-returns Inv-loop μ-loop
-returns c g j h k =
-    c .before .loop .inv .2 g j (omega arith) k
+returns : tie.Need-returns
+returns c zero f h k =
+    let first = c .before .before .before .before .before .before .put-half in
+    let second = c .before .before .put-half2 in
+    second .ensures .1 0 f (λ e. omega arith) k ∙ first .ensures .0 f k
+returns c (suc zero) f h k =
+    c .before .before .put-half2 .ensures .0 f k
+returns c (suc (suc q)) f h k = absurd (omega arith)
 
 pub spread-spec : {M : Type 1} → statement M
-spread-spec =
-    tie.close
-    (tie.spec
-    Inv-loop
-    μ-loop
-    loop-holds
-    add-lane-byte
-    lane-byte-requires
-    fill-part-requires
-    add-g
-    loop-less
-    loop-again
-    same-length
-    returns)
+spread-spec = tie.close (tie.spec put-half-requires put-half-requires-2 same-length returns)

@@ -69,8 +69,26 @@ mul-high-2 c = search needs
 add-high-3 : tie.Need-add-high-3
 add-high-3 c = search needs
 
+add-top : tie.Need-add-top
+add-top c = search needs
+
+shared-slice-read-top : tie.Need-shared-slice-read-top
+shared-slice-read-top c = search needs
+
+cast-top : tie.Need-cast-top
+cast-top c = search needs
+
+shr-top : tie.Need-shr-top
+shr-top c = search needs
+
+mul-top : tie.Need-mul-top
+mul-top c = search needs
+
 add-result : tie.Need-add-result
 add-result c = search needs
+
+add-result-2 : tie.Need-add-result-2
+add-result-2 c = search needs
 
 cast-result : tie.Need-cast-result
 cast-result c = search needs
@@ -104,6 +122,12 @@ choose-spec =
     shr-high-2
     mul-high-2
     add-high-3
+    add-top
+    shared-slice-read-top
+    cast-top
+    shr-top
+    mul-top
     add-result
+    add-result-2
     cast-result
     returns)

@@ -15,7 +15,7 @@ use Rattle.choices.proofs.offsets.fill_choices.Statement.{statement}
 use Rattle.choices.proofs.offsets.fill_choices.Tie as tie
 
 abbrev offset : List ℕ → ℕ → ℕ → ℕ → ℕ
-offset bytes p g x = (g * 16 + choice (byteAt bytes) p g) * 5
+offset bytes p g x = (g * 32 + choice (byteAt bytes) p g) * 2
 
 abbrev Inv-loop : tie.InvT-loop
 Inv-loop row₀ bytes p g₀ row g = (g ≤ length row₀) × (row ≡ changed (offset bytes p) row₀ g) × (length row ≡ length row₀)
@@ -41,7 +41,7 @@ mul-row-2 c = omega (arith, c .choose .ensures, choice-lt (byteAt (now (c .befor
 
 cast-row : tie.Need-cast-row Inv-loop μ-loop
 cast-row c =
-    let small : (c .before .before .loop .g * 16 + c .choose .result) * 5 < 65536 = omega (arith, c .choose .ensures, choice-lt (byteAt (now (c .before .before .before .before .before .args .bytes))) (c .before .before .before .before .before .args .p) (c .before .before .loop .g)) in
+    let small : (c .before .before .loop .g * 32 + c .choose .result) * 2 < 65536 = omega (arith, c .choose .ensures, choice-lt (byteAt (now (c .before .before .before .before .before .args .bytes))) (c .before .before .before .before .before .args .p) (c .before .before .loop .g)) in
     search (needs, small)
 
 mul-row-3 : tie.Need-mul-row-3 Inv-loop μ-loop
@@ -61,7 +61,7 @@ loop-again c =
     let a = c .before .before .before .before .before .args in
     let l = c .before .before .loop in (
       omega arith,
-      changed-more (offset (now (a .bytes)) (a .p)) (now (a .row)) (l .row) (l .g) _ (l .inv .1) (ap (λ (x : ℕ). (l .g * 16 + x) * 5) (c .choose .ensures)),
+      changed-more (offset (now (a .bytes)) (a .p)) (now (a .row)) (l .row) (l .g) _ (l .inv .1) (ap (λ (x : ℕ). (l .g * 32 + x) * 2) (c .choose .ensures)),
       simp length-set (l .inv .2),
     )
 

@@ -83,11 +83,11 @@ returns c =
     let fits : at + w ≤ length l = omega arith in
     let long : length (take w (drop at l)) ≡ w = simp (length-take, length-drop) (omega arith) in
     let kept : length r ≡ w = rw e at (done .kept .0) ∙ long in
-    let filled : (g : ℕ) → g < length (take w (drop at l)) → byteAt r g ≡ (g * 16 + choice (byteAt bytes) (a .r % 8) g) * 5 = rw e at (done .ensures) in
+    let filled : (g : ℕ) → g < length (take w (drop at l)) → byteAt r g ≡ (g * 32 + choice (byteAt bytes) (a .r % 8) g) * 2 = rw e at (done .ensures) in
     rw e (
       (λ g h.
           put-in at w l r fits kept g h ∙ filled g (omega (arith, long))
-          ∙ ap (λ (x : ℕ). (g * 16 + x) * 5) (choice-same (byteAt bytes) (byteAt (blockAt (now (a .chi)) (a .m) (a .r / 8))) (a .r % 8) g (λ i hi. padded bytes (now (a .chi)) (a .m) (a .r / 8) (c .before .before .before .before .before .before .copy-front .ensures .0) (c .before .before .before .before .before .before .copy-front .ensures .1) i (omega arith)))),
+          ∙ ap (λ (x : ℕ). (g * 32 + x) * 2) (choice-same (byteAt bytes) (byteAt (blockAt (now (a .chi)) (a .m) (a .r / 8))) (a .r % 8) g (λ i hi. padded bytes (now (a .chi)) (a .m) (a .r / 8) (c .before .before .before .before .before .before .copy-front .ensures .0) (c .before .before .before .before .before .before .copy-front .ensures .1) i (omega arith)))),
       put-other (a .r) w l r fits kept,
     )
 

@@ -16,39 +16,40 @@ use Rattle.choices.proofs.EntryLaws.{entry-top, entry-none}
 use Rattle.choices.proofs.sums.fill_group.Statement.{statement}
 use Rattle.choices.proofs.sums.fill_group.Tie as tie
 
-doubled : (s count : ℕ) → s < 4 → count ≡ 2 ^ s → (count ≤ 8) × (count * 2 ≡ 2 ^ (s + 1))
+doubled : (s count : ℕ) → s < 5 → count ≡ 2 ^ s → (count ≤ 16) × (count * 2 ≡ 2 ^ (s + 1))
 doubled zero count h e = (omega arith, omega arith)
 doubled (suc zero) count h e = (omega arith, omega arith)
 doubled (suc (suc zero)) count h e = (omega arith, omega arith)
 doubled (suc (suc (suc zero))) count h e = (omega arith, omega arith)
-doubled (suc (suc (suc (suc s)))) count h e = absurd (omega arith)
+doubled (suc (suc (suc (suc zero)))) count h e = (omega arith, omega arith)
+doubled (suc (suc (suc (suc (suc s))))) count h e = absurd (omega arith)
 
 -- the entries with one row more
-module _ (S old new row : List ℕ) (g s count : ℕ) (hs : s < 4) (is : count ≡ 2 ^ s)
-    (done : (v f : ℕ) → v < count → f < chunk → cellAt old (g * 16 + v) f ≡ entryByte S (g * 16 + v) f) (theRow : (f : ℕ) → f < chunk → byteAt row f ≡ cellAt S (g * 4 + s) f)
-    (made : (v f : ℕ) → v < count → f < chunk → cellAt new (g * 16 + count + v) f ≡ bitXor (cellAt old (g * 16 + v) f) (byteAt row f))
-    (kept : (q f : ℕ) → q < g * 16 + count → f < chunk → cellAt new q f ≡ cellAt old q f) where
-  more : (v f : ℕ) → v < count * 2 → f < chunk → cellAt new (g * 16 + v) f ≡ entryByte S (g * 16 + v) f
+module _ (S old new row : List ℕ) (g s count : ℕ) (hs : s < 5) (is : count ≡ 2 ^ s)
+    (done : (v f : ℕ) → v < count → f < chunk → cellAt old (g * 32 + v) f ≡ entryByte S (g * 32 + v) f) (theRow : (f : ℕ) → f < chunk → byteAt row f ≡ cellAt S (g * 5 + s) f)
+    (made : (v f : ℕ) → v < count → f < chunk → cellAt new (g * 32 + count + v) f ≡ bitXor (cellAt old (g * 32 + v) f) (byteAt row f))
+    (kept : (q f : ℕ) → q < g * 32 + count → f < chunk → cellAt new q f ≡ cellAt old q f) where
+  more : (v f : ℕ) → v < count * 2 → f < chunk → cellAt new (g * 32 + v) f ≡ entryByte S (g * 32 + v) f
   more v f h k = go (decLt v count)
     where
-      go : Dec (v < count) → cellAt new (g * 16 + v) f ≡ entryByte S (g * 16 + v) f
-      go (yes l) = kept (g * 16 + v) f (omega arith) k ∙ done v f l k
+      go : Dec (v < count) → cellAt new (g * 32 + v) f ≡ entryByte S (g * 32 + v) f
+      go (yes l) = kept (g * 32 + v) f (omega arith) k ∙ done v f l k
       go (no l) =
           let u = v - count in
           let low : u < 2 ^ s = omega (arith, is) in
-          let small : count ≤ 8 = doubled s count hs is .0 in
-          let at : g * 16 + v ≡ g * 16 + count + u = omega arith in
-          let half : (g * 16 + v) % 16 ≡ 2 ^ s + u = omega (arith, is) in
-          let base : g * 16 + v - (g * 16 + v) % 16 + u ≡ g * 16 + u = omega (arith, half) in
-          let four : (g * 16 + v) / 16 * 4 + s ≡ g * 4 + s = omega arith in
+          let small : count ≤ 16 = doubled s count hs is .0 in
+          let at : g * 32 + v ≡ g * 32 + count + u = omega arith in
+          let bits : (g * 32 + v) % 32 ≡ 2 ^ s + u = omega (arith, is) in
+          let base : g * 32 + v - (g * 32 + v) % 32 + u ≡ g * 32 + u = omega (arith, bits) in
+          let five : (g * 32 + v) / 32 * 5 + s ≡ g * 5 + s = omega arith in
           ap (λ (q : ℕ). cellAt new q f) at ∙ made u f (omega (arith, is)) k ∙ ap₂ bitXor (done u f (omega (arith, is)) k) (theRow f k)
-          ∙ sym (entry-top S (g * 16 + v) f s u hs low half ∙ ap₂ (λ (x y : ℕ). bitXor (entryByte S x f) (cellAt S y f)) base four)
+          ∙ sym (entry-top S (g * 32 + v) f s u hs low bits ∙ ap₂ (λ (x y : ℕ). bitXor (entryByte S x f) (cellAt S y f)) base five)
 
 abbrev Inv-loop : tie.InvT-loop
-Inv-loop sums₀ g n table count₀ s₀ sums count s = (s ≤ 4) × (count ≡ 2 ^ s) × (length sums ≡ length sums₀) × ((v f : ℕ) → v < count → f < chunk → cellAt sums (g * 16 + v) f ≡ entryByte table (g * 16 + v) f) × ((q f : ℕ) → q < g * 16 → f < chunk → cellAt sums q f ≡ cellAt sums₀ q f)
+Inv-loop sums₀ g n table count₀ s₀ sums count s = (s ≤ 5) × (count ≡ 2 ^ s) × (length sums ≡ length sums₀) × ((v f : ℕ) → v < count → f < chunk → cellAt sums (g * 32 + v) f ≡ entryByte table (g * 32 + v) f) × ((q f : ℕ) → q < g * 32 → f < chunk → cellAt sums q f ≡ cellAt sums₀ q f)
 
 abbrev μ-loop : tie.MeasureT-loop
-μ-loop sums₀ g n table count₀ s₀ sums count s = 4 - s
+μ-loop sums₀ g n table count₀ s₀ sums count s = 5 - s
 
 mul-store : tie.Need-mul-store Inv-loop μ-loop
 mul-store c = search needs
@@ -65,9 +66,9 @@ loop-holds c =
       refl,
       (λ v f h k.
           let none : v ≡ 0 = omega arith in
-          let first : a .g * 16 + v ≡ a .g * 16 = omega arith in
+          let first : a .g * 32 + v ≡ a .g * 32 = omega arith in
           ap (λ (q : ℕ). cellAt (stored .last .0) q f) first ∙ stored .ensures .0 f k ∙ getD-replicate chunk f 0 0 k
-          ∙ sym (ap (λ (q : ℕ). entryByte (now (a .table)) q f) first ∙ entry-none (now (a .table)) (a .g * 16) f (omega arith))),
+          ∙ sym (ap (λ (q : ℕ). entryByte (now (a .table)) q f) first ∙ entry-none (now (a .table)) (a .g * 32) f (omega arith))),
       (λ q f h k. refl),
     )
 
@@ -108,7 +109,7 @@ loop-again c =
       doubled (l .s) (l .count) hs (l .inv .1) .1,
       done .kept .0 ∙ l .inv .2,
       more (now (a .table)) (l .sums) (done .last .0) (added .last .0) (a .g) (l .s) (l .count) hs (l .inv .1) (l .inv .3)
-          (λ f h. added .ensures .1 f h ∙ ap (λ (x : ℕ). bitXor x (cellAt (now (a .table)) (a .g * 4 + l .s) f)) (getD-replicate chunk f 0 0 h) ∙ xor-zero-l _)
+          (λ f h. added .ensures .1 f h ∙ ap (λ (x : ℕ). bitXor x (cellAt (now (a .table)) (a .g * 5 + l .s) f)) (getD-replicate chunk f 0 0 h) ∙ xor-zero-l _)
           (done .ensures .0) (done .ensures .1),
       (λ q f h k. done .ensures .1 q f (omega arith) k ∙ l .inv .4 q f h k),
     )
@@ -119,8 +120,8 @@ same-length c = search needs
 returns : tie.Need-returns Inv-loop μ-loop
 returns c =
     let l = c .before .loop in
-    let end : l .s ≡ 4 = omega arith in
-    let all : l .count ≡ 16 = l .inv .1 ∙ ap (λ (x : ℕ). 2 ^ x) end in
+    let end : l .s ≡ 5 = omega arith in
+    let all : l .count ≡ 32 = l .inv .1 ∙ ap (λ (x : ℕ). 2 ^ x) end in
     ((λ v f h k. l .inv .3 v f (omega (arith, all)) k), λ q f h k. l .inv .4 q f h k ∙ c .before .before .before .before .store .ensures .1 q f (λ e. omega (arith, h, e)) k)
 
 pub fill-group-spec : {M : Type 1} → statement M

@@ -14,16 +14,16 @@ use Rattle.choices.proofs.sums.fill_sums.Statement.{statement}
 use Rattle.choices.proofs.sums.fill_sums.Tie as tie
 
 -- one group more
-tabled-more : (S old new : List ℕ) (g : ℕ) → Tabled S old (g * 16) → ((v f : ℕ) → v < 16 → f < chunk → cellAt new (g * 16 + v) f ≡ entryByte S (g * 16 + v) f)
-    → ((q f : ℕ) → q < g * 16 → f < chunk → cellAt new q f ≡ cellAt old q f) → Tabled S new ((g + 1) * 16)
-tabled-more S old new g tabled made kept q f h k = go (decLt q (g * 16))
+tabled-more : (S old new : List ℕ) (g : ℕ) → Tabled S old (g * 32) → ((v f : ℕ) → v < 32 → f < chunk → cellAt new (g * 32 + v) f ≡ entryByte S (g * 32 + v) f)
+    → ((q f : ℕ) → q < g * 32 → f < chunk → cellAt new q f ≡ cellAt old q f) → Tabled S new ((g + 1) * 32)
+tabled-more S old new g tabled made kept q f h k = go (decLt q (g * 32))
   where
-    go : Dec (q < g * 16) → cellAt new q f ≡ entryByte S q f
+    go : Dec (q < g * 32) → cellAt new q f ≡ entryByte S q f
     go (yes l) = kept q f l k ∙ tabled q f l k
-    go (no l) = let at : q ≡ g * 16 + (q - g * 16) = omega arith in rw at (made (q - g * 16) f (omega arith) k)
+    go (no l) = let at : q ≡ g * 32 + (q - g * 32) = omega arith in rw at (made (q - g * 32) f (omega arith) k)
 
 abbrev Inv-loop : tie.InvT-loop
-Inv-loop sums₀ groups n table g₀ sums g = (g ≤ groups) × (length sums ≡ length sums₀) × Tabled table sums (g * 16)
+Inv-loop sums₀ groups n table g₀ sums g = (g ≤ groups) × (length sums ≡ length sums₀) × Tabled table sums (g * 32)
 
 abbrev μ-loop : tie.MeasureT-loop
 μ-loop sums₀ groups n table g₀ sums g = groups - g

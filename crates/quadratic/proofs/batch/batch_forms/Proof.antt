@@ -1,28 +1,28 @@
--- `quadratic::batch::batch_forms` meets its contract: the offsets that the batching bytes choose, and the forms of the batched matrix and of the batched rows (`BatchLaws`).
+-- `quadratic::batch::batch_forms` meets its contract: the offsets that the batching bytes choose, the forms of the batched matrix, and the linear part
+-- (`BatchLaws`).
 -- Assumes nothing.
 use borrow.Author.Needs.{needs}
 use Prim.Native.Nat.{ℕ, _+_, _*_, _/_, _≤_, _<_}
-use mathlib.Core.Path.{_≡_, refl, sym, ap, _∙_}
+use mathlib.Core.Path.{_≡_, refl, sym, ap, ap₂, _∙_}
 use mathlib.Core.List.{List}
-use native.Mathlib.Nat.{mul-le-mul, one-mul}
+use native.Mathlib.Nat.{mul-le-mul}
 use native.Mathlib.Omega.{arith}
 use denote.Ref.{now}
-use lib.ListN.{length, replicate, getD-replicate}
+use lib.ListN.{length}
 use lib.Bits.{bitXor}
 use Rattle.protocol.specs.Strings.{bytesFor}
-use Rattle.strings.specs.Sums.{byteAt}
+use Rattle.strings.specs.Sums.{byteAt, selected}
 use Rattle.lanes.specs.Lanes.{lanes}
-use Rattle.quadratic.proofs.BatchLaws.{quad-is, lin-is, right-is}
+use Rattle.equations.specs.Equations.{rowOf}
+use Rattle.quadratic.specs.Batch.{batchByte}
+use Rattle.quadratic.proofs.BatchLaws.{form-is, polar-is, middle-is}
 use Rattle.quadratic.proofs.batch.batch_forms.Statement.{statement}
 use Rattle.quadratic.proofs.batch.batch_forms.Tie as tie
 
-one : (e : ℕ) → e < 48 → byteAt (replicate 48 1) (0 * 48 + e) ≡ 1
-one e h = let first : 0 * 48 + e ≡ e = omega arith in ap (byteAt (replicate 48 1)) first ∙ getD-replicate 48 e 1 0 h
-
-offsets-fit : (tau m : ℕ) → tau ≤ lanes → m ≤ 160 → tau * 8 * ((m + 7) / 8 * 2) ≤ 15360
+offsets-fit : (tau m : ℕ) → tau ≤ lanes → m ≤ 160 → tau * 8 * ((m + 9) / 10 * 2) ≤ 12288
 offsets-fit tau m h k =
     let t≤ : tau * 8 ≤ 384 = omega arith in
-    let g≤ : (m + 7) / 8 * 2 ≤ 40 = omega arith in
+    let g≤ : (m + 9) / 10 * 2 ≤ 32 = omega arith in
     omega (arith, mul-le-mul t≤ g≤)
 
 add-groups : tie.Need-add-groups
@@ -38,10 +38,10 @@ slice-aggregate-fill-offsets : tie.Need-slice-aggregate-fill-offsets
 slice-aggregate-fill-offsets c = search needs
 
 fill-offsets-requires : tie.Need-fill-offsets-requires
-unfolding bytesFor
 fill-offsets-requires c κs =
-    let pre = c .before .before .before .before .before .before .before .before .before .pre in
-    (refl, pre .0 .4, offsets-fit (c .before .before .before .before .before .before .before .before .before .args .tau) (c .before .before .before .before .before .before .before .before .before .args .m) (pre .0 .5) (pre .0 .4), pre .0 .8, omega (arith, pre .0 .5), pre .1 .2)
+    let pre = c .before .before .before .before .before .before .before .before .pre in
+    let a = c .before .before .before .before .before .before .before .before .args in
+    (refl, pre .3, offsets-fit (a .tau) (a .m) (pre .4) (pre .3), pre .7, omega (arith, pre .4), pre .12)
 
 slice-aggregate-add-forms : tie.Need-slice-aggregate-add-forms
 slice-aggregate-add-forms c = search needs
@@ -49,24 +49,17 @@ slice-aggregate-add-forms c = search needs
 add-forms-requires : tie.Need-add-forms-requires
 unfolding bytesFor
 add-forms-requires c κs =
-    let pre = c .before .before .before .before .before .before .before .before .before .before .before .before .before .before .pre in
-    (pre .0 .0, pre .0 .2, pre .0 .6, pre .0 .3, pre .0 .9, refl, omega (arith, c .before .before .before .before .fill-offsets .kept .0, offsets-fit (c .before .before .before .before .before .before .before .before .before .before .before .before .before .before .args .tau) (c .before .before .before .before .before .before .before .before .before .before .before .before .before .before .args .m) (pre .0 .5) (pre .0 .4)), c .before .before .before .before .fill-offsets .ensures .1, pre .0 .4, pre .0 .5, omega (arith, pre .0 .3), pre .0 .9, pre .1 .0, pre .1 .1, pre .1 .2, pre .1 .3)
+    let pre = c .before .before .before .before .before .before .before .before .before .before .before .before .before .pre in
+    let a = c .before .before .before .before .before .before .before .before .before .before .before .before .before .args in
+    let chosen = c .before .before .before .before .fill-offsets in
+    (pre .0, pre .1, pre .5, refl, pre .2, pre .12, pre .3, pre .13, pre .4, refl, omega (arith, chosen .kept .0, offsets-fit (a .tau) (a .m) (pre .4) (pre .3)), chosen .ensures .1, pre .8, pre .9, pre .10, pre .11)
 
-slice-aggregate-add-forms-2 : tie.Need-slice-aggregate-add-forms-2
-slice-aggregate-add-forms-2 c = search needs
-
-slice-aggregate-add-forms-3 : tie.Need-slice-aggregate-add-forms-3
-slice-aggregate-add-forms-3 c = search needs
-
-slice-aggregate-add-forms-4 : tie.Need-slice-aggregate-add-forms-4
-slice-aggregate-add-forms-4 c = search needs
-
-add-forms-requires-2 : tie.Need-add-forms-requires-2
+add-linear-requires : tie.Need-add-linear-requires
 unfolding bytesFor
-add-forms-requires-2 c κs =
-    let pre = c .before .before .before .before .before .before .before .before .before .before .before .before .before .before .before .before .before .before .before .before .before .before .before .pre in
-    let a = c .before .before .before .before .before .before .before .before .before .before .before .before .before .before .before .before .before .before .before .before .before .before .before .args in
-    (pre .0 .1, refl, pre .0 .7 ∙ ap (λ (v : ℕ). a .m * v) (sym (one-mul ((a .n + 7) / 8))), omega arith, refl, refl, omega (arith, c .before .before .before .before .before .before .before .before .before .before .before .before .before .fill-offsets .kept .0, offsets-fit (a .tau) (a .m) (pre .0 .5) (pre .0 .4)), c .before .before .before .before .before .before .before .before .before .before .before .before .before .fill-offsets .ensures .1, pre .0 .4, pre .0 .5, omega (arith, pre .0 .3), pre .0 .9, pre .1 .0, pre .1 .1, pre .1 .2, pre .1 .3)
+add-linear-requires c κs =
+    let pre = c .before .before .before .before .before .before .before .before .before .before .before .before .before .before .before .before .before .before .before .pre in
+    let formed = c .before .before .before .before .before .add-forms in
+    (formed .kept .1 .0 ∙ pre .1, refl, pre .2, pre .3, pre .4, pre .6, pre .7, pre .8)
 
 same-length : tie.Need-same-length
 same-length c = search needs
@@ -74,26 +67,23 @@ same-length c = search needs
 same-length-2 : tie.Need-same-length-2
 same-length-2 c = search needs
 
-same-length-3 : tie.Need-same-length-3
-same-length-3 c = search needs
-
 returns : tie.Need-returns
 unfolding bytesFor
 returns c =
-    let a = c .before .before .before .before .before .before .before .before .before .before .before .before .before .before .before .before .before .before .before .before .before .before .before .before .before .before .before .args in
-    let pre = c .before .before .before .before .before .before .before .before .before .before .before .before .before .before .before .before .before .before .before .before .before .before .before .before .before .before .before .pre in
+    let pre = c .before .before .before .before .before .before .before .before .before .before .before .before .before .before .before .before .before .before .before .before .before .before .pre in
+    let a = c .before .before .before .before .before .before .before .before .before .before .before .before .before .before .before .before .before .before .before .before .before .before .args in
+    let chosen = c .before .before .before .before .before .before .before .before .before .before .before .before .before .fill-offsets in
+    let formed = c .before .before .before .before .before .before .before .before .add-forms in
+    let added = c .before .before .add-linear in
     let T = now (a .table) in
     let χ = now (a .chi) in
-    let small : (k : ℕ) → byteAt χ k < 256 = λ k. c .before .before .before .before .before .before .before .before .before .before .before .before .before .before .before .before .before .before .before .before .shared-slice-known4 .given k .fits in
-    let bytes : (k : ℕ) → byteAt T k < 256 = λ k. c .before .before .before .before .before .before .before .before .before .before .before .before .before .before .before .before .before .before .before .shared-slice-known5 .given k .fits in
-    let chosen = c .before .before .before .before .before .before .before .before .before .before .before .before .before .before .before .before .before .fill-offsets .ensures .0 in (
-      (λ e h. c .before .before .before .before .before .before .before .before .before .before .before .before .add-forms .ensures .0 χ e small chosen h ∙ ap (bitXor (byteAt (now (a .quad)) e)) (quad-is (a .n) (a .m) e T χ (pre .0 .9) (now (a .a)))),
-      (
-        (λ e h.
-            c .before .before .before .add-forms2 .ensures .0 χ e small chosen h
-            ∙ ap (bitXor (byteAt (now (a .lin)) e)) (lin-is (a .n) (a .m) e T χ (pre .0 .9) bytes (now (a .rows)) (replicate 48 1) (one e (omega (arith, pre .0 .5))))),
-        (λ x e is h. c .before .before .before .before .before .before .before .before .before .before .before .before .add-forms .ensures .1 χ e small chosen h ∙ ap (bitXor (byteAt (now (a .right)) e)) (right-is (a .n) (a .m) e T χ (pre .0 .9) bytes (now (a .a)) (now (a .xs)) x (pre .0 .6) is)),
-      ),
+    let small : (k : ℕ) → byteAt χ k < 256 = λ k. c .before .before .before .before .before .before .before .before .before .before .before .before .before .before .before .before .shared-slice-known4 .given k .fits in
+    let bytes : (k : ℕ) → byteAt T k < 256 = λ k. c .before .before .before .before .before .before .before .before .before .before .before .before .before .before .before .shared-slice-known5 .given k .fits in (
+      (λ e h. formed .ensures .0 χ e small (chosen .ensures .0) h ∙ ap (bitXor (byteAt (now (a .quad)) e)) (form-is (a .n) (a .m) e (now (a .a)) T χ)),
+      (λ e h.
+          added .ensures e h
+          ∙ ap (λ (v : ℕ). bitXor v (batchByte (a .m) χ e (λ i. selected (a .n) (rowOf (a .n) (now (a .b)) i) T lanes e))) (formed .ensures .1 χ e small (chosen .ensures .0) h ∙ ap (bitXor (byteAt (now (a .lin)) e)) (polar-is (a .n) (a .m) e (now (a .a)) T χ bytes (byteAt (now (a .xs))) (pre .10)))
+          ∙ middle-is (a .n) (a .m) e (now (a .a)) T χ bytes (byteAt (now (a .xs))) (pre .10) (now (a .b)) (byteAt (now (a .lin)) e)),
     )
 
 pub batch-forms-spec : {M : Type 1} → statement M
@@ -107,11 +97,7 @@ batch-forms-spec =
     fill-offsets-requires
     slice-aggregate-add-forms
     add-forms-requires
-    slice-aggregate-add-forms-2
-    slice-aggregate-add-forms-3
-    slice-aggregate-add-forms-4
-    add-forms-requires-2
+    add-linear-requires
     same-length
     same-length-2
-    same-length-3
     returns)

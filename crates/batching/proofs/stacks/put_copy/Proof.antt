@@ -1,0 +1,62 @@
+-- `batching::stacks::put_copy` meets its contract. The part that was lent is copy h, and the others stand outside it.
+-- Assumes nothing.
+use borrow.Author.Needs.{needs}
+use Prim.Native.Nat.{ℕ, _+_, _*_, _-_, _≤_, _<_}
+use mathlib.Core.List.{List}
+use mathlib.Core.Path.{_≡_, refl, sym, ap, ap₂, _∙_}
+use native.Mathlib.Nat.{add-sub-cancel-left}
+use native.Mathlib.Omega.{arith}
+use denote.Ref.{now}
+use lib.ListN.{length, take, drop, length-take, length-drop}
+use Rattle.strings.specs.Sums.{byteAt}
+use Rattle.chunks.specs.Chunks.{chunk}
+use Rattle.strings.proofs.Rows.{put-in, put-other}
+use Rattle.batching.proofs.stacks.put_copy.Statement.{statement}
+use Rattle.batching.proofs.stacks.put_copy.Tie as tie
+
+mul-at : tie.Need-mul-at
+mul-at c = search needs
+
+add-copy-chunk : tie.Need-add-copy-chunk
+add-copy-chunk c = search needs
+
+sub-copy-chunk : tie.Need-sub-copy-chunk
+sub-copy-chunk c = search needs
+
+part-copy-chunk-start : tie.Need-part-copy-chunk-start
+part-copy-chunk-start c = search needs
+
+part-copy-chunk-end : tie.Need-part-copy-chunk-end
+part-copy-chunk-end c = search needs
+
+copy-chunk-requires : tie.Need-copy-chunk-requires
+copy-chunk-requires c κs = search needs
+
+same-length : tie.Need-same-length
+same-length c = search needs
+
+returns : tie.Need-returns
+returns c =
+    let a = c .before .before .before .before .before .args in
+    let l = now (a .v) in
+    let at = a .h * chunk in
+    let done = c .before .before .copy-chunk in
+    let r = done .last .0 in
+    let e : at + chunk - at ≡ chunk = add-sub-cancel-left at chunk in
+    let fits : at + chunk ≤ length l = omega arith in
+    let long : length (take chunk (drop at l)) ≡ chunk = simp (length-take, length-drop) (omega arith) in
+    let kept : length r ≡ chunk = rw e at (done .kept .0) ∙ long in
+    rw e ((λ i h. put-in at chunk l r fits kept i h ∙ done .ensures i h), put-other (a .h) chunk l r fits kept)
+
+pub put-copy-spec : {M : Type 1} → statement M
+put-copy-spec =
+    tie.close
+    (tie.spec
+    mul-at
+    add-copy-chunk
+    sub-copy-chunk
+    part-copy-chunk-start
+    part-copy-chunk-end
+    copy-chunk-requires
+    same-length
+    returns)

@@ -1,0 +1,49 @@
+-- Two byte columns of one matrix, that is sixteen columns of bits, on their way into the cells.
+--   Paired w M C rows pairs == word r of pairs has the bytes of row r in the byte columns C and, where there is one, C + 1
+--   TurnedIn w from M t == as TurnedAt, for the bytes that M has
+--   Mirrored n w M C t == bit z of byte r of t is entry (8C + z, r) of M, for the rows of the sixteens before the column's own
+--   Reflected n w M C t == the same, and 0 in the column's own sixteen: what is added to the column's entries
+--   Joined pairs first last r x y == x and y are the two bytes of row r, with those of first and last added
+--   Put m i pairs first last J cells == matrix i of m has the joined bytes, in the sixteens below J;  Kept m i old new == the other matrices' cells are as they were
+--   FoldedAt n w m i M J cells == the cells of matrix i of m hold the folded entries of panel J of M (Folds)
+-- Assumes nothing.
+use mathlib.Core.Path.{_≡_}
+use mathlib.Core.Bool.{cond}
+use mathlib.Core.List.{List}
+use Prim.Native.Nat.{ℕ, _+_, _*_, _/_, _%_, _≤_, _<_}
+use lib.Bits.{bitXor}
+use lib.Dec.{ltb}
+use lib.ListN.{length}
+use Rattle.strings.specs.Sums.{byteAt, bitOf}
+use Rattle.chunks.specs.Chunks.{chunk, cellAt}
+use Rattle.folds.specs.Folds.{entry, foldedBit}
+
+abbrev pub Paired : ℕ → List ℕ → ℕ → ℕ → List ℕ → Type 0
+Paired w M C rows pairs =
+    (r : ℕ) → r < rows → (byteAt pairs r % 256 ≡ byteAt M (r * w + C)) × (C + 1 < w → byteAt pairs r / 256 ≡ byteAt M (r * w + (C + 1)))
+
+abbrev pub TurnedIn : ℕ → ℕ → List ℕ → List ℕ → Type 0
+TurnedIn w from M t =
+    (r b : ℕ) → r < 128 → b < 8 → from + b * w + r / 8 < length M → bitOf (byteAt t r) b ≡ bitOf (byteAt M (from + b * w + r / 8)) (r % 8)
+
+abbrev pub Mirrored : ℕ → ℕ → List ℕ → ℕ → List ℕ → Type 0
+Mirrored n w M C t = (r z : ℕ) → r < C / 2 * 16 → z < 8 → C * 8 + z < n → bitOf (byteAt t r) z ≡ entry w M (C * 8 + z) r
+
+abbrev pub Reflected : ℕ → ℕ → List ℕ → ℕ → List ℕ → Type 0
+Reflected n w M C t =
+    (r z : ℕ) → r < C / 2 * 16 + 16 → z < 8 → C * 8 + z < n → bitOf (byteAt t r) z ≡ cond (ltb (r / 16) (C / 2)) (entry w M (C * 8 + z) r) 0
+
+abbrev pub Joined : List ℕ → List ℕ → List ℕ → ℕ → ℕ → ℕ → Type 0
+Joined pairs first last r x y = (x ≡ bitXor (byteAt pairs r % 256) (byteAt first r)) × (y ≡ bitXor (byteAt pairs r / 256) (byteAt last r))
+
+abbrev pub Put : ℕ → ℕ → List ℕ → List ℕ → List ℕ → ℕ → List ℕ → Type 0
+Put m i pairs first last J cells =
+    (q f : ℕ) → q < J → f < 16 → Joined pairs first last (q * 16 + f) (cellAt cells (q * m + i) f) (cellAt cells (q * m + i) (16 + f))
+
+abbrev pub Kept : ℕ → ℕ → List ℕ → List ℕ → Type 0
+Kept m i old new = (q x e : ℕ) → x < m → (x ≡ i → ⊥) → e < chunk → cellAt new (q * m + x) e ≡ cellAt old (q * m + x) e
+
+abbrev pub FoldedAt : ℕ → ℕ → ℕ → ℕ → List ℕ → ℕ → List ℕ → Type 0
+FoldedAt n w m i M J cells =
+    (q h f z : ℕ) → q ≤ J → h < 2 → f < 16 → z < 8 → q * 16 + f < n → J * 16 + (h * 8 + z) < n
+    → bitOf (cellAt cells (q * m + i) (h * 16 + f)) z ≡ foldedBit w M (q * 16 + f) (J * 16 + (h * 8 + z))

@@ -1,0 +1,95 @@
+// Eight rows of bits turned into columns of bytes, sixteen bytes of each row at a time: lengths are constants, so that the loops are of whole registers.
+ghost use mathlib.Core.Path.{_≡_};
+ghost use Prim.Native.Nat.{ℕ, _+_, _*_, _/_, _%_, _<_, _≤_};
+ghost use lib.ListN.{length};
+ghost use Rattle.strings.specs.Sums.{byteAt};
+ghost use Rattle.folds.specs.Turns.{Step, Exchanged, Spread, Turned, TurnedAt};
+use chunks::cells::copy_front;
+
+pub const SIXTEEN: usize = 16;
+// The bytes of eight rows of sixteen, and of four.
+pub const EIGHT_ROWS: usize = 128;
+
+const HALF: usize = 64;
+
+// The rows' first half and last half exchange the bits s places apart. Callers give s and mask as constants.
+fn exchange(out: &mut [u8], rows: &[u8], s: usize, mask: u8)
+    requires { ⌜ (s < 8) × Step s mask × (length (now rows) ≡ 128) × (length (now out) ≡ 128) ⌝ }
+    ensures { λ _. ⌜ Exchanged s (now (rows .entry)) 64 (now (out .exit)) ⌝ }
+{
+    let mut j = 0;
+    while j < HALF {
+        let a = rows[j];
+        let b = rows[HALF + j];
+        let moved = ((a >> s) ^ b) & mask;
+        out[j] = a ^ (moved << s);
+        out[HALF + j] = b ^ moved;
+        j += 1;
+    }
+}
+
+// Byte j of the first half and byte j of the last, side by side.
+fn merge(out: &mut [u8], rows: &[u8])
+    requires { ⌜ (length (now rows) ≡ 128) × (128 ≤ length (now out)) ⌝ }
+    ensures { λ _. ⌜ ((i : ℕ) → i < 128 → byteAt (now (out .exit)) i ≡ byteAt (now (rows .entry)) (i % 2 * 64 + i / 2)) ⌝ }
+{
+    let mut j = 0;
+    while j < HALF {
+        out[2 * j] = rows[j];
+        out[2 * j + 1] = rows[HALF + j];
+        j += 1;
+    }
+}
+
+// A pass. In one loop the machine would take half registers only.
+fn spread(out: &mut [u8], rows: &[u8], s: usize, mask: u8)
+    requires { ⌜ (s < 8) × Step s mask × (length (now rows) ≡ 128) × (128 ≤ length (now out)) ⌝ }
+    ensures { λ _. ⌜ Spread s 64 (now (rows .entry)) 128 (now (out .exit)) ⌝ }
+{
+    let mut between = [0u8; EIGHT_ROWS];
+    exchange(&mut between, rows, s, mask);
+    merge(out, &between);
+}
+
+// Byte r of out becomes column r of the eight rows. Each pass moves one bit of a row's number from a byte's place to a bit's place.
+fn turn(out: &mut [u8], rows: &[u8])
+    requires { ⌜ (length (now rows) ≡ 128) × (128 ≤ length (now out)) ⌝ }
+    ensures { λ _. ⌜ Turned 16 (now (rows .entry)) (now (out .exit)) ⌝ }
+{
+    let mut one = [0u8; EIGHT_ROWS];
+    let mut two = [0u8; EIGHT_ROWS];
+    spread(&mut one, rows, 4, 15);
+    spread(&mut two, &one, 2, 51);
+    spread(out, &two, 1, 85);
+}
+
+// Row z of sixteen bytes becomes that of src from `from` on.
+fn copy_row(rows: &mut [u8], z: usize, src: &[u8], from: usize)
+    requires { ⌜ (z * 16 + 16 ≤ length (now rows)) × (from + 16 ≤ length (now src)) ⌝ }
+    ensures { λ _. ⌜ ((f : ℕ) → f < 16 → byteAt (now (rows .exit)) (z * 16 + f) ≡ byteAt (now (src .entry)) (from + f)) ⌝ }
+    ensures { λ _. ⌜ ((q f : ℕ) → (q ≡ z → ⊥) → f < 16 → byteAt (now (rows .exit)) (q * 16 + f) ≡ byteAt (now (rows .entry)) (q * 16 + f)) ⌝ }
+{
+    let at = z * SIXTEEN;
+    copy_front(&mut rows[at..at + SIXTEEN], src, from, SIXTEEN);
+}
+
+fn copy_rows(rows: &mut [u8], src: &[u8], from: usize, width: usize)
+    requires { ⌜ (length (now rows) ≡ 128) × (from + 7 * width + 16 ≤ length (now src)) ⌝ }
+    ensures { λ _. ⌜ ((z f : ℕ) → z < 8 → f < 16 → byteAt (now (rows .exit)) (z * 16 + f) ≡ byteAt (now (src .entry)) (from + z * width + f)) ⌝ }
+{
+    let mut z = 0;
+    while z < 8 {
+        copy_row(rows, z, src, from + z * width);
+        z += 1;
+    }
+}
+
+// Sixteen bytes of each of eight rows, which stand `width` bytes apart in src, the first at `from`.
+pub fn turn_rows(out: &mut [u8], src: &[u8], from: usize, width: usize)
+    requires { ⌜ (from + 7 * width + 16 ≤ length (now src)) × (128 ≤ length (now out)) ⌝ }
+    ensures { λ _. ⌜ TurnedAt width from (now (src .entry)) (now (out .exit)) ⌝ }
+{
+    let mut rows = [0u8; EIGHT_ROWS];
+    copy_rows(&mut rows, src, from, width);
+    turn(out, &rows);
+}
