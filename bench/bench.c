@@ -405,7 +405,7 @@ static void bench(struct sizes sizes, int repetitions, FILE *history, const char
 /* The second, and n, m and tau changed one at a time. */
 enum { SHAPES = 5, BASE = 1 };
 static const struct sizes shapes[SHAPES] = {
-    { 40, 160, 16, 64 }, { 80, 160, 16, 64 }, { 160, 160, 16, 64 }, { 80, 80, 16, 64 }, { 80, 160, 48, 64 },
+    { 40, 160, 16, 80 }, { 80, 160, 16, 80 }, { 160, 160, 16, 80 }, { 80, 80, 16, 80 }, { 80, 160, 48, 80 },
 };
 
 /* What is compared: each C program by the better of its two compilers. */
@@ -463,11 +463,11 @@ static void print_shapes(double taken[SHAPES][BY])
             printf("%13.4f x %4.2f", taken[i][b], taken[i][b] / taken[BASE][b]);
         printf("%12.2f%15.2f\n", taken[i][BY_LIBRARY] / taken[i][BY_C], taken[i][BY_LIBRARY] / taken[i][BY_PLAIN]);
     }
-    printf("The library sums the matrices for each repetition, so that its times grow with tau. It takes four rows at a\n"
-           "time in chunks that hold four rows of 160 bits: smaller rows leave them part empty, so below n = 160 its forms\n"
-           "grow with n and not with n^2; and leaves of less than 16 bytes (n = 40) are summed in a slower way. In C and\n"
-           "plain a row costs n/4 look-ups and one product; C has 16 repetitions to a register, and plain 48 side by side,\n"
-           "whatever tau is: there the forms cost the same for fewer.\n");
+    printf("what n adds from 80 to 160, over what it adds from 40 to 80 (4 for a constant and n^2, 2 for a constant and n):");
+    for (int b = 0; b < BY; b++)
+        printf(" %s %.2f", by_names[b], (taken[2][b] - taken[1][b]) / (taken[1][b] - taken[0][b]));
+    printf("\nA part of each time does not grow: reading and hashing for all three, and for m and tau also what is made once for\n"
+           "all repetitions (the library folds the matrices and sums them by fives) or once for sixteen of them (C).\n");
 }
 
 /* ---- The plot ----------------------------------------------------------------------------- */
