@@ -1,7 +1,7 @@
 -- A sum over three indices of products, each under a bit, whichever index is summed first: the forms of the batched matrix are the batched forms.
 -- Assumes nothing.
-use mathlib.Core.Path.{_≡_, refl, sym, ap, ap₂, _∙_}
-use Prim.Native.Nat.{ℕ, zero, suc, _+_, _*_, _-_, _<_}
+use mathlib.Core.Path.{_≡_, sym, ap, _∙_}
+use Prim.Native.Nat.{ℕ, zero, suc, _*_, _-_, _<_}
 use native.Mathlib.Nat.{zero-mul, one-mul}
 use native.Mathlib.Omega.{arith}
 use Rattle.algebra.specs.Ring.{Ring}
@@ -10,7 +10,7 @@ use Rattle.algebra.specs.Coded.{Coded, mulByte}
 use Rattle.algebra.proofs.RingLaws.{ring}
 use Rattle.field.specs.Gf256.{gf256}
 use Rattle.strings.specs.Sums.{xorSum}
-use Rattle.strings.proofs.SumLaws.{sum-same, sum-lt}
+use Rattle.strings.proofs.SumLaws.{sum-same}
 use Rattle.chunks.proofs.BitSumLaws.{sum-swap}
 use Rattle.columns.specs.Stacks.{product}
 use Rattle.columns.proofs.ProductLaws.{product-sum, product-bits, product-comm, product-bit}

@@ -1,17 +1,17 @@
 -- What the forms, the batched sums and the masks are in 01's terms, where the table holds a vector f in the lane of repetition e; and so QS0 and QS1.
 -- Assumes nothing.
-use mathlib.Core.Path.{_≡_, refl, sym, ap, ap₂, _∙_}
+use mathlib.Core.Path.{_≡_, sym, ap, ap₂, _∙_}
 use mathlib.Core.Bool.{cond}
 use mathlib.Core.List.{List}
-use Prim.Native.Nat.{ℕ, zero, suc, _+_, _*_, _<_}
+use Prim.Native.Nat.{ℕ, _+_, _*_, _<_}
 use native.Mathlib.Omega.{arith}
 use lib.Bits.{bitXor}
 use Rattle.algebra.specs.Ring.{Ring}
 use Rattle.algebra.specs.Field.{Field}
 use Rattle.algebra.specs.Coded.{Coded, mulByte, powByte}
-use Rattle.algebra.specs.Sum.{sum, form, power}
+use Rattle.algebra.specs.Sum.{sum, power}
 use Rattle.algebra.proofs.RingLaws.{ring}
-use Rattle.algebra.proofs.SumLaws.{sum-ext, sum-add}
+use Rattle.algebra.proofs.SumLaws.{sum-add}
 use Rattle.field.specs.Gf256.{gf256, maskElement}
 use Rattle.protocol.specs.Lists.{blockAt}
 use Rattle.protocol.specs.Strings.{bytesFor, bit}

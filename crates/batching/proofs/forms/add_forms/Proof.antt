@@ -1,7 +1,7 @@
 -- `batching::forms::add_forms` meets its contract. The invariant: what the first panels give is added. What all of them come to is `FoldLaws`.
 -- Assumes nothing.
 use borrow.Author.Needs.{needs}
-use Prim.Native.Nat.{ℕ, _+_, _*_, _-_, _/_, _%_, _≤_, _<_}
+use Prim.Native.Nat.{ℕ, _+_, _*_, _-_, _≤_, _<_}
 use mathlib.Core.List.{List}
 use mathlib.Core.Path.{_≡_, refl, sym, ap, _∙_}
 use native.Mathlib.Omega.{arith}
@@ -13,7 +13,7 @@ use Rattle.strings.proofs.SumLaws.{sum-step}
 use Rattle.lanes.specs.Lanes.{lanes, laneAt}
 use Rattle.choices.specs.Entries.{Chosen}
 use Rattle.columns.specs.Stacks.{product}
-use Rattle.batching.specs.Batched.{most, leftSum, formSum}
+use Rattle.batching.specs.Batched.{most, leftSum}
 use Rattle.batching.proofs.FoldLaws.{form-is, polar-is}
 use Rattle.batching.proofs.StackLaws.{lane-past}
 use Rattle.batching.proofs.forms.add_forms.Statement.{statement}

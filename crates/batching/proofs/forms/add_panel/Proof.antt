@@ -11,10 +11,10 @@ use lib.ListN.{length, replicate}
 use lib.Bits.{bitXor, xor-zero-l}
 use Rattle.strings.specs.Sums.{byteAt, xorSum}
 use Rattle.strings.proofs.SumLaws.{sum-same}
-use Rattle.lanes.specs.Lanes.{lanes, laneAt}
+use Rattle.lanes.specs.Lanes.{laneAt}
 use Rattle.chunks.specs.Chunks.{chunk}
 use Rattle.choices.specs.Entries.{Chosen}
-use Rattle.columns.specs.Stacks.{product, stackOf, foldOf}
+use Rattle.columns.specs.Stacks.{product, foldOf}
 use Rattle.batching.specs.Batched.{most, cellSum, leftSum}
 use Rattle.batching.proofs.FormLaws.{product-scale}
 use Rattle.batching.proofs.StackLaws.{stack-none, lane-past}

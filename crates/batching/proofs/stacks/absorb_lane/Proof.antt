@@ -3,11 +3,11 @@
 use borrow.Author.Needs.{needs}
 use Prim.Native.Nat.{ℕ, _+_, _*_, _-_, _≤_, _<_}
 use mathlib.Core.List.{List}
-use mathlib.Core.Path.{_≡_, refl, sym, ap, ap₂, _∙_}
+use mathlib.Core.Path.{_≡_, sym, ap, ap₂, _∙_}
 use native.Mathlib.Nat.{add-sub-cancel-left, add-assoc}
 use native.Mathlib.Omega.{arith}
 use denote.Ref.{now}
-use lib.ListN.{length, take, drop, length-take, length-drop}
+use lib.ListN.{length, length-take, length-drop}
 use borrow.Rule.Slice.PartMut.{putMid}
 use lib.Bits.{bitXor}
 use Rattle.protocol.specs.Lists.{part, blockAt}
@@ -15,7 +15,7 @@ use Rattle.strings.specs.Sums.{byteAt, bitOf, xorSum}
 use Rattle.strings.proofs.Rows.{row-byte, put-in, put-other}
 use Rattle.chunks.specs.Chunks.{chunk, cellAt, Masks}
 use Rattle.choices.specs.Entries.{Weighed}
-use Rattle.columns.specs.Stacks.{product, stackAt, stackOf}
+use Rattle.columns.specs.Stacks.{product, stackAt}
 use Rattle.batching.specs.Batched.{most}
 use Rattle.batching.proofs.StackLaws.{stack-is}
 use Rattle.batching.proofs.stacks.absorb_lane.Statement.{statement}

@@ -12,7 +12,6 @@ use denote.Ref.{now}
 use lib.ListN.{length}
 use lib.Bits.{bitXor}
 use Rattle.strings.specs.Sums.{byteAt, bitOf, xorSum}
-use Rattle.strings.proofs.Rows.{row-end}
 use Rattle.chunks.specs.Chunks.{chunk, cellAt}
 use Rattle.choices.specs.Entries.{Weighed}
 use Rattle.columns.specs.Stacks.{product, stackOf}

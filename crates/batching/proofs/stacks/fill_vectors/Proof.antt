@@ -1,13 +1,11 @@
 -- `batching::stacks::fill_vectors` meets its contract. The invariant: the first e vectors are there.
 -- Assumes nothing.
 use borrow.Author.Needs.{needs}
-use Prim.Native.Nat.{ℕ, zero, suc, _+_, _*_, _-_, _≤_, _<_}
-use mathlib.Core.List.{List}
-use mathlib.Core.Path.{_≡_, refl, sym, ap, ap₂, _∙_}
+use Prim.Native.Nat.{_-_, _≤_}
+use mathlib.Core.Path.{_≡_, refl, _∙_}
 use native.Mathlib.Omega.{arith}
 use denote.Ref.{now}
 use lib.ListN.{length}
-use Rattle.strings.specs.Sums.{byteAt}
 use Rattle.strings.proofs.Rows.{RowsAre, rows-more, row-end}
 use Rattle.lanes.specs.Lanes.{laneAt}
 use Rattle.batching.specs.Batched.{most}

@@ -1,7 +1,7 @@
 -- `batching::stacks::lane_byte` meets its contract. Past the last coordinate the table reads 0.
 -- Assumes nothing.
 use borrow.Author.Needs.{needs}
-use Prim.Native.Nat.{ℕ, _+_, _*_, _≤_}
+use Prim.Native.Nat.{_+_, _*_, _≤_}
 use mathlib.Core.Path.{sym}
 use denote.Ref.{now}
 use lib.ListN.{length, List·getD-eq-default}

@@ -1,14 +1,12 @@
 -- `batching::stacks::put_half` meets its contract. The part that was lent is half h, and the others stand outside it.
 -- Assumes nothing.
 use borrow.Author.Needs.{needs}
-use Prim.Native.Nat.{ℕ, _+_, _*_, _-_, _≤_, _<_}
-use mathlib.Core.List.{List}
-use mathlib.Core.Path.{_≡_, refl, sym, ap, ap₂, _∙_}
+use Prim.Native.Nat.{_+_, _*_, _-_, _≤_}
+use mathlib.Core.Path.{_≡_, _∙_}
 use native.Mathlib.Nat.{add-sub-cancel-left}
 use native.Mathlib.Omega.{arith}
 use denote.Ref.{now}
 use lib.ListN.{length, take, drop, length-take, length-drop}
-use Rattle.strings.specs.Sums.{byteAt}
 use Rattle.strings.proofs.Rows.{put-in, put-other}
 use Rattle.batching.proofs.stacks.put_half.Statement.{statement}
 use Rattle.batching.proofs.stacks.put_half.Tie as tie

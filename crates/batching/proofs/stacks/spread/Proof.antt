@@ -1,13 +1,9 @@
 -- `batching::stacks::spread` meets its contract: one half after the other.
 -- Assumes nothing.
 use borrow.Author.Needs.{needs}
-use Prim.Native.Nat.{ℕ, zero, suc, _+_, _*_, _-_, _≤_, _<_}
-use mathlib.Core.List.{List}
-use mathlib.Core.Path.{_≡_, refl, sym, ap, ap₂, _∙_}
+use Prim.Native.Nat.{zero, suc, _-_}
+use mathlib.Core.Path.{_∙_}
 use native.Mathlib.Omega.{arith}
-use denote.Ref.{now}
-use lib.ListN.{length}
-use Rattle.strings.specs.Sums.{byteAt}
 use Rattle.batching.proofs.stacks.spread.Statement.{statement}
 use Rattle.batching.proofs.stacks.spread.Tie as tie
 

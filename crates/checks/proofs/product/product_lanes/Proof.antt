@@ -1,13 +1,12 @@
 -- `checks::product::product_lanes` meets its contract: what the first n coordinates of the table give is what the table gives (`PrefixLaws`).
 -- Assumes nothing.
 use borrow.Author.Needs.{needs}
-use Prim.Native.Nat.{ℕ, zero, suc, _+_, _*_, _/_, _≤_, _<_}
+use Prim.Native.Nat.{ℕ, zero, suc, _+_, _*_, _<_}
 use mathlib.Core.Path.{_≡_, refl, sym, ap, ap₂, _∙_}
-use mathlib.Core.List.{List}
 use native.Mathlib.Omega.{arith}
 use denote.Ref.{now}
 use lib.Dec.{lit<}
-use lib.ListN.{length, replicate, take, length-take, getD-replicate}
+use lib.ListN.{replicate, take, length-take, getD-replicate}
 use lib.Bits.{bitXor}
 use Rattle.algebra.specs.Coded.{mulByte}
 use Rattle.field.specs.Gf256.{gf256}
@@ -21,7 +20,6 @@ use Rattle.quadratic.specs.Batch.{batchByte}
 use Rattle.equations.proofs.RowLaws.{zeros}
 use Rattle.quadratic.proofs.BatchLaws.{middle-none}
 use Rattle.quadratic.proofs.PrefixLaws.{form-prefix, selected-prefix}
-use Rattle.checks.specs.Checks.{valueByte}
 use Rattle.checks.proofs.product.product_lanes.Statement.{statement}
 use Rattle.checks.proofs.product.product_lanes.Tie as tie
 

@@ -1,13 +1,12 @@
 -- `chunks::masks::fill_mask_at` meets its contract. The part that was lent is mask b, and the others stand outside it.
 -- Assumes nothing.
 use borrow.Author.Needs.{needs}
-use Prim.Native.Nat.{ℕ, _+_, _*_, _-_, _≤_, _<_}
+use Prim.Native.Nat.{_+_, _*_, _-_, _≤_}
 use mathlib.Core.Path.{_≡_, _∙_}
 use native.Mathlib.Nat.{add-sub-cancel-left}
 use native.Mathlib.Omega.{arith}
 use denote.Ref.{now}
 use lib.ListN.{length, take, drop, length-take, length-drop}
-use Rattle.strings.specs.Sums.{byteAt}
 use Rattle.strings.proofs.Rows.{put-in, put-other}
 use Rattle.chunks.specs.Chunks.{chunk}
 use Rattle.chunks.proofs.masks.fill_mask_at.Statement.{statement}

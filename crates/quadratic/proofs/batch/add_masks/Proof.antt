@@ -1,7 +1,6 @@
 -- `quadratic::batch::add_masks` meets its contract: the masks by lane, and one byte for every lane.
 -- Assumes nothing.
 use borrow.Author.Needs.{needs}
-use Prim.Native.Nat.{ℕ, _<_}
 use mathlib.Core.Path.{ap, _∙_}
 use native.Mathlib.Omega.{arith}
 use denote.Ref.{now}

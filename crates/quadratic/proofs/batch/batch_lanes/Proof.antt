@@ -2,8 +2,8 @@
 -- are those of the table (`PrefixLaws`).
 -- Assumes nothing.
 use borrow.Author.Needs.{needs}
-use Prim.Native.Nat.{ℕ, _+_, _*_, _/_, _≤_, _<_}
-use mathlib.Core.Path.{_≡_, refl, sym, ap, ap₂, _∙_}
+use Prim.Native.Nat.{ℕ, _*_, _≤_, _<_}
+use mathlib.Core.Path.{_≡_, sym, ap, ap₂, _∙_}
 use mathlib.Core.List.{List}
 use native.Mathlib.Decide.{decLt}
 use native.Mathlib.Omega.{arith}
@@ -11,7 +11,7 @@ use denote.Ref.{now}
 use lib.ListN.{length, take, length-take}
 use lib.Bits.{bitXor, xor-zero-l}
 use lib.Dec.{lit<}
-use Rattle.protocol.specs.Strings.{bytesFor, bit}
+use Rattle.protocol.specs.Strings.{bit}
 use Rattle.protocol.proofs.StringLaws.{bit-lt}
 use Rattle.strings.specs.Sums.{byteAt}
 use Rattle.lanes.specs.Lanes.{lanes, maskLane, maskBits}

@@ -1,15 +1,11 @@
--- `batching::stacks::double` meets its contract: one copy after the other.
+-- `planes::double` meets its contract: one copy after the other.
 -- Assumes nothing.
 use borrow.Author.Needs.{needs}
-use Prim.Native.Nat.{ℕ, zero, suc, _+_, _*_, _-_, _≤_, _<_}
-use mathlib.Core.List.{List}
-use mathlib.Core.Path.{_≡_, refl, sym, ap, ap₂, _∙_}
+use Prim.Native.Nat.{zero, suc, _-_}
+use mathlib.Core.Path.{_∙_}
 use native.Mathlib.Omega.{arith}
-use denote.Ref.{now}
-use lib.ListN.{length}
-use Rattle.strings.specs.Sums.{byteAt}
-use Rattle.batching.proofs.stacks.double.Statement.{statement}
-use Rattle.batching.proofs.stacks.double.Tie as tie
+use Rattle.planes.proofs.double.Statement.{statement}
+use Rattle.planes.proofs.double.Tie as tie
 
 put-copy-requires : tie.Need-put-copy-requires
 put-copy-requires c κs = search needs

@@ -1,7 +1,7 @@
--- `batching::stacks::absorb_plane` meets its contract. The invariant: the masks below 2·g are added, each to its own plane.
+-- `planes::absorb_plane` meets its contract. The invariant: the masks below 2·g are added, each to its own plane.
 -- Assumes nothing.
 use borrow.Author.Needs.{needs}
-use Prim.Native.Nat.{ℕ, zero, suc, _+_, _*_, _-_, _/_, _%_, _≤_, _<_}
+use Prim.Native.Nat.{ℕ, _+_, _*_, _-_, _%_, _≤_, _<_}
 use mathlib.Core.List.{List}
 use mathlib.Core.Path.{_≡_, refl, sym, ap, ap₂, _∙_}
 use native.Mathlib.Decide.{decLt}
@@ -13,10 +13,10 @@ use Rattle.field.proofs.ProductLaws.{mask-times}
 use Rattle.strings.specs.Sums.{byteAt, bitOf}
 use Rattle.strings.proofs.Rows.{row-byte}
 use Rattle.strings.proofs.Meaning.{bitOf-lt, bitOf-xor, times-bit}
-use Rattle.chunks.specs.Chunks.{chunk, pair, cellAt, Masks}
-use Rattle.batching.proofs.StackLaws.{plane-added}
-use Rattle.batching.proofs.stacks.absorb_plane.Statement.{statement}
-use Rattle.batching.proofs.stacks.absorb_plane.Tie as tie
+use Rattle.chunks.specs.Chunks.{chunk, pair, cellAt}
+use Rattle.planes.proofs.PlaneLaws.{plane-added}
+use Rattle.planes.proofs.absorb_plane.Statement.{statement}
+use Rattle.planes.proofs.absorb_plane.Tie as tie
 
 split : (i g : ℕ) (P : Type 0) → (i < 2 * g → P) → (2 * g ≤ i → P) → P
 split i g P low high = go (decLt i (2 * g))

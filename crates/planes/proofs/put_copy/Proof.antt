@@ -1,18 +1,16 @@
--- `batching::stacks::put_copy` meets its contract. The part that was lent is copy h, and the others stand outside it.
+-- `planes::put_copy` meets its contract. The part that was lent is copy h, and the others stand outside it.
 -- Assumes nothing.
 use borrow.Author.Needs.{needs}
-use Prim.Native.Nat.{ℕ, _+_, _*_, _-_, _≤_, _<_}
-use mathlib.Core.List.{List}
-use mathlib.Core.Path.{_≡_, refl, sym, ap, ap₂, _∙_}
+use Prim.Native.Nat.{_+_, _*_, _-_, _≤_}
+use mathlib.Core.Path.{_≡_, _∙_}
 use native.Mathlib.Nat.{add-sub-cancel-left}
 use native.Mathlib.Omega.{arith}
 use denote.Ref.{now}
 use lib.ListN.{length, take, drop, length-take, length-drop}
-use Rattle.strings.specs.Sums.{byteAt}
 use Rattle.chunks.specs.Chunks.{chunk}
 use Rattle.strings.proofs.Rows.{put-in, put-other}
-use Rattle.batching.proofs.stacks.put_copy.Statement.{statement}
-use Rattle.batching.proofs.stacks.put_copy.Tie as tie
+use Rattle.planes.proofs.put_copy.Statement.{statement}
+use Rattle.planes.proofs.put_copy.Tie as tie
 
 mul-at : tie.Need-mul-at
 mul-at c = search needs

@@ -1,21 +1,17 @@
--- `batching::stacks::absorb_side` meets its contract: one plane is changed.
+-- `planes::absorb_side` meets its contract: one plane is changed.
 -- Assumes nothing.
 use borrow.Author.Needs.{needs}
-use Prim.Native.Nat.{ℕ, zero, suc, _+_, _*_, _-_, _≤_, _<_}
-use mathlib.Core.List.{List}
-use mathlib.Core.Path.{_≡_, refl, sym, ap, ap₂, _∙_}
+use Prim.Native.Nat.{_-_}
+use mathlib.Core.Path.{ap, _∙_}
 use native.Mathlib.Omega.{arith}
 use denote.Ref.{now}
-use lib.ListN.{length}
-use native.Mathlib.Nat.{mul-assoc, mul-comm, one-mul}
 use lib.Bits.{bitXor, bitAnd}
 use Rattle.field.proofs.ProductLaws.{mask-times}
-use Rattle.strings.specs.Sums.{byteAt, bitOf}
-use Rattle.chunks.specs.Chunks.{chunk, cellAt}
-use Rattle.columns.specs.Stacks.{alpha, stackAt}
-use Rattle.batching.proofs.StackLaws.{side-added}
-use Rattle.batching.proofs.stacks.absorb_side.Statement.{statement}
-use Rattle.batching.proofs.stacks.absorb_side.Tie as tie
+use Rattle.strings.specs.Sums.{byteAt}
+use Rattle.chunks.specs.Chunks.{cellAt}
+use Rattle.planes.proofs.PlaneLaws.{side-added}
+use Rattle.planes.proofs.absorb_side.Statement.{statement}
+use Rattle.planes.proofs.absorb_side.Tie as tie
 
 xor-and-row-requires : tie.Need-xor-and-row-requires
 xor-and-row-requires c κs = search needs
