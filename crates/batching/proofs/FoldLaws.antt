@@ -21,7 +21,7 @@ use Rattle.folds.specs.Folds.{entry, foldedBit}
 use Rattle.columns.specs.Stacks.{product}
 use Rattle.columns.proofs.ProductLaws.{product-comm, product-zero}
 use Rattle.batching.specs.Batched.{batchedByte, leftSum, formSum}
-use Rattle.batching.proofs.FormLaws.{product-outer, inner}
+use Rattle.batching.proofs.FormLaws.{product-outer, product-rows}
 
 -- ---- one matrix
 
@@ -131,7 +131,7 @@ module _ (N n m : ℕ) (E : ℕ → ℕ → ℕ → ℕ) (χ : ℕ → ℕ) (bit
   unfolding weight
   between-terms y W =
       sum-same N _ _ (λ J l. sum-same 16 _ (λ s. xorSum ((J + 1) * 16) (λ ρ. xorSum m (λ i. folded (E i) ρ (J * 16 + s) * product (y (J * 16 + s)) (product (W ρ) (χ i)))))
-      (λ s k. inner 0 ((J + 1) * 16) 0 y W χ E bits (y (J * 16 + s)) m χ (λ ρ i. folded (E i) ρ (J * 16 + s)) (λ ρ i. folded-lt (E i) (bits i) ρ (J * 16 + s))))
+      (λ s k. product-rows ((J + 1) * 16) W (y (J * 16 + s)) m χ (λ ρ i. folded (E i) ρ (J * 16 + s)) (λ ρ i. folded-lt (E i) (bits i) ρ (J * 16 + s))))
       ∙ to-front N m (λ J. (J + 1) * 16) (λ J s ρ i. folded (E i) ρ (J * 16 + s) * product (y (J * 16 + s)) (product (W ρ) (χ i)))
 
   straight-terms : (y W : ℕ → ℕ) → ((c : ℕ) → n ≤ c → y c ≡ 0) → ((ρ : ℕ) → n ≤ ρ → W ρ ≡ 0)
@@ -144,7 +144,7 @@ module _ (N n m : ℕ) (E : ℕ → ℕ → ℕ → ℕ) (χ : ℕ → ℕ) (bit
       ∙ sum-short n (N * 16) (λ ρ. xorSum n (λ c. E i ρ c * weight y W i ρ c)) most (λ ρ j h.
       sum-same n _ (λ c. 0) (λ c k. ap (λ x. E i ρ c * x) (ap (λ x. product (y c) (product x (χ i))) (none ρ j) ∙ ap (product (y c)) (product-zero (χ i)) ∙ product-comm (y c) 0 ∙ product-zero (y c)) ∙ mul-zero (E i ρ c)) ∙ sum-none n)
       ∙ sum-same n _ (λ ρ. xorSum n (λ c. E i ρ c * product (χ i) (product (W ρ) (y c)))) (λ ρ k. sum-same n _ _ (λ c j. ap (λ x. E i ρ c * x) (product-outer (y c) (W ρ) (χ i))))
-      ∙ sym (inner 0 n 0 y W χ E bits (χ i) n y (E i) (bits i)))
+      ∙ sym (product-rows n W (χ i) n y (E i) (bits i)))
 
   -- a form
   pub quad-folded : (y : ℕ → ℕ) → ((c : ℕ) → n ≤ c → y c ≡ 0) → between N m E χ y y ≡ straight n m E χ y y

@@ -1,4 +1,4 @@
--- A sum over three indices of products, each under a bit, whichever index is summed first: the forms of the batched matrix are the batched forms.
+-- Laws of products of three factors; a bit as an element; and a sum over rows of products, each under a bit.
 -- Assumes nothing.
 use mathlib.Core.Path.{_≡_, sym, ap, _∙_}
 use Prim.Native.Nat.{ℕ, zero, suc, _*_, _-_, _<_}
@@ -11,7 +11,6 @@ use Rattle.algebra.proofs.RingLaws.{ring}
 use Rattle.field.specs.Gf256.{gf256}
 use Rattle.strings.specs.Sums.{xorSum}
 use Rattle.strings.proofs.SumLaws.{sum-same}
-use Rattle.chunks.proofs.BitSumLaws.{sum-swap}
 use Rattle.columns.specs.Stacks.{product}
 use Rattle.columns.proofs.ProductLaws.{product-sum, product-bits, product-comm, product-bit}
 
@@ -53,22 +52,10 @@ product-scale zero a h k = product-comm 0 a ∙ ap (product a) (sym (zero-mul 0)
 product-scale (suc zero) a h k = product-one a k ∙ sym (one-mul a)
 product-scale (suc (suc q)) a h k = absurd (omega arith)
 
-module _ (K n m : ℕ) (y W χ : ℕ → ℕ) (a : ℕ → ℕ → ℕ → ℕ) (bits : (i ρ c : ℕ) → a i ρ c < 2) where
-  -- a bit at each place, and the factors of its row and of the two other indices
-  pub inner : (x : ℕ) (k : ℕ) (f : ℕ → ℕ) (q : ℕ → ℕ → ℕ) → ((ρ j : ℕ) → q ρ j < 2)
-      → product x (xorSum n (λ ρ. product (W ρ) (xorSum k (λ j. q ρ j * f j)))) ≡ xorSum n (λ ρ. xorSum k (λ j. q ρ j * product x (product (W ρ) (f j))))
-  inner x k f q h =
-      product-sum x n (λ ρ. product (W ρ) (xorSum k (λ j. q ρ j * f j)))
-      ∙ sum-same n _ _ (λ ρ l.
-      ap (product x) (sym (product-bits (W ρ) k (q ρ) f (h ρ))) ∙ sym (product-bits x k (q ρ) (λ j. product (W ρ) (f j)) (h ρ)))
-
-  pub batch-first : xorSum K (λ c. product (y c) (xorSum n (λ ρ. product (W ρ) (xorSum m (λ i. a i ρ c * χ i)))))
-      ≡ xorSum m (λ i. product (χ i) (xorSum n (λ ρ. product (W ρ) (xorSum K (λ c. a i ρ c * y c)))))
-  batch-first =
-      sum-same K _ (λ c. xorSum n (λ ρ. xorSum m (λ i. a i ρ c * product (y c) (product (W ρ) (χ i))))) (λ c l. inner (y c) m χ (λ ρ i. a i ρ c) (λ ρ i. bits i ρ c))
-      ∙ sum-swap K n (λ c ρ. xorSum m (λ i. a i ρ c * product (y c) (product (W ρ) (χ i))))
-      ∙ sum-same n _ (λ ρ. xorSum m (λ i. xorSum K (λ c. a i ρ c * product (y c) (product (W ρ) (χ i))))) (λ ρ l. sum-swap K m (λ c i. a i ρ c * product (y c) (product (W ρ) (χ i))))
-      ∙ sum-swap n m (λ ρ i. xorSum K (λ c. a i ρ c * product (y c) (product (W ρ) (χ i))))
-      ∙ sum-same m _ _ (λ i l.
-      sum-same n _ (λ ρ. xorSum K (λ c. a i ρ c * product (χ i) (product (W ρ) (y c)))) (λ ρ k. sum-same K _ _ (λ c j. ap (λ x. a i ρ c * x) (product-outer (y c) (W ρ) (χ i))))
-      ∙ sym (inner (χ i) K y (a i) (bits i)))
+-- a bit at each place, and the factors of its row and of the two other indices
+pub product-rows : (n : ℕ) (W : ℕ → ℕ) (x k : ℕ) (f : ℕ → ℕ) (q : ℕ → ℕ → ℕ) → ((ρ j : ℕ) → q ρ j < 2)
+    → product x (xorSum n (λ ρ. product (W ρ) (xorSum k (λ j. q ρ j * f j)))) ≡ xorSum n (λ ρ. xorSum k (λ j. q ρ j * product x (product (W ρ) (f j))))
+product-rows n W x k f q h =
+    product-sum x n (λ ρ. product (W ρ) (xorSum k (λ j. q ρ j * f j)))
+    ∙ sum-same n _ _ (λ ρ l.
+    ap (product x) (sym (product-bits (W ρ) k (q ρ) f (h ρ))) ∙ sym (product-bits x k (q ρ) (λ j. product (W ρ) (f j)) (h ρ)))

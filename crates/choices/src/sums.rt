@@ -10,7 +10,7 @@ ghost use Rattle.choices.specs.Entries.{entryByte, Tabled};
 use chunks::CHUNK;
 
 // The entries of the table of sums for five rows, one for each value of five bits.
-const HALF: usize = 32;
+const ENTRIES: usize = 32;
 
 // The bytes that offsets count.
 pub const UNIT: usize = 16;
@@ -86,13 +86,13 @@ fn fill_group(sums: &mut [u8], g: usize, n: usize, table: &[u8])
     ensures { λ _. ⌜ ((q f : ℕ) → q < g * 32 → f < chunk → cellAt (now (sums .exit)) q f ≡ cellAt (now (sums .entry)) q f) ⌝ }
 {
     let zero = [0u8; CHUNK];
-    store(sums, g * HALF, &zero);
+    store(sums, g * ENTRIES, &zero);
     let mut count = 1;
     let mut s = 0;
     while s < 5 {
         let mut row = [0u8; CHUNK];
         add_row(&mut row, g * 5 + s, n, table);
-        fill_next(sums, g * HALF, count, &row);
+        fill_next(sums, g * ENTRIES, count, &row);
         count *= 2;
         s += 1;
     }

@@ -1,3 +1,4 @@
 pub mod ColumnLaws
 pub mod PanelLaws
+pub mod PassLaws
 pub mod TurnLaws

@@ -7,7 +7,7 @@ use native.Mathlib.Omega.{arith}
 use denote.Ref.{now}
 use lib.ListN.{length, length-set}
 use Rattle.folds.specs.Turns.{Exchanged}
-use Rattle.folds.proofs.TurnLaws.{exchanged-more}
+use Rattle.folds.proofs.PassLaws.{exchanged-more}
 use Rattle.folds.proofs.turns.exchange.Statement.{statement}
 use Rattle.folds.proofs.turns.exchange.Tie as tie
 

@@ -7,7 +7,7 @@ use native.Mathlib.Omega.{arith}
 use denote.Ref.{now}
 use lib.ListN.{length, length-set}
 use Rattle.strings.specs.Sums.{byteAt}
-use Rattle.folds.proofs.TurnLaws.{merged-more}
+use Rattle.folds.proofs.PassLaws.{merged-more}
 use Rattle.folds.proofs.turns.merge.Statement.{statement}
 use Rattle.folds.proofs.turns.merge.Tie as tie
 

@@ -2,7 +2,7 @@
 -- Assumes nothing.
 use borrow.Author.Needs.{needs}
 use denote.Ref.{now}
-use Rattle.folds.proofs.TurnLaws.{spread}
+use Rattle.folds.proofs.PassLaws.{spread}
 use Rattle.folds.proofs.turns.spread.Statement.{statement}
 use Rattle.folds.proofs.turns.spread.Tie as tie
 
