@@ -1,24 +1,20 @@
--- The verifier's answer, from the first repetition that fails either check.
+-- The answer to a question that is asked of every index below a bound, from the first that fails it.
 -- Assumes nothing.
-use mathlib.Core.Path.{_≡_, _∙_}
+use mathlib.Core.Path.{_≡_, ap, _∙_}
 use mathlib.Core.Bool.{Bool}
 use mathlib.Core.List.{[], _∷_}
-use Prim.Native.Nat.{ℕ, _≤_, _<_}
+use Prim.Native.Nat.{ℕ}
+use native.Mathlib.Omega.{arith}
+use lib.Dec.{leb}
 use Rattle.protocol.specs.Lists.{allBelow, firstNot}
-use Rattle.protocol.specs.Answers.{accepted, refused, Question, question, ask}
-use Rattle.protocol.proofs.AnswerLaws.{ask-none, ask-no, ask-yes}
-use Rattle.checks.proofs.FirstLaws.{first-below, first-all}
+use Rattle.protocol.specs.Answers.{Answer, question, ask}
+use Rattle.protocol.proofs.TestLaws.{leb-yes, leb-le, bool-iff, all-at}
+use Rattle.repetitions.proofs.FirstLaws.{first-none, first-all}
 
--- asked of every index, a question's place is the first that fails
-abbrev pub each : ℕ → (ℕ → Bool) → ℕ → Question
-each n p number = question (allBelow n p) number (firstNot n p)
+-- the first that fails is past the end where all hold
+first-past : (n : ℕ) (p : ℕ → Bool) → leb n (firstNot n p) ≡ allBelow n p
+first-past n p = bool-iff _ _ (λ h. first-all n p (leb-le _ _ h)) (λ h. leb-yes n (firstNot n p) (omega (arith, first-none n p (all-at n p h))))
 
-module _ (n : ℕ) (p r : ℕ → Bool) (i j : ℕ) where
-  pub first-refused : firstNot n p < n → ask (each n p i ∷ each n r j ∷ []) ≡ refused i (firstNot n p)
-  first-refused h = ask-no (each n p i) (each n r j ∷ []) (first-below n p h)
-
-  pub second-refused : n ≤ firstNot n p → firstNot n r < n → ask (each n p i ∷ each n r j ∷ []) ≡ refused j (firstNot n r)
-  second-refused g h = ask-yes (each n p i) (each n r j ∷ []) (first-all n p g) ∙ ask-no (each n r j) [] (first-below n r h)
-
-  pub both-hold : n ≤ firstNot n p → n ≤ firstNot n r → ask (each n p i ∷ each n r j ∷ []) ≡ accepted
-  both-hold g h = ask-yes (each n p i) (each n r j ∷ []) (first-all n p g) ∙ ask-yes (each n r j) [] (first-all n r h) ∙ ask-none
+pub asked-of-each : (n : ℕ) (p : ℕ → Bool) (i first : ℕ) {r : Answer} → first ≡ firstNot n p → r ≡ ask (question (leb n first) i first ∷ [])
+    → r ≡ ask (question (allBelow n p) i (firstNot n p) ∷ [])
+asked-of-each n p i first e h = h ∙ ap (λ (k : ℕ). ask (question (leb n k) i k ∷ [])) e ∙ ap (λ (b : Bool). ask (question b i (firstNot n p) ∷ [])) (first-past n p)

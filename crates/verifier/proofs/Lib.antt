@@ -1,3 +1,2 @@
-pub mod CheckMeaning
 pub mod GivenLaws
 pub mod AnswerLaws

@@ -1,23 +1,15 @@
 -- What the verifier knows once its questions on form got a yes.
---   ProofForm s proof == of the proof;  VerifyFacts == of everything that it is lent
---   Opened s Δ opened proof table == the lanes of the table are W_e of every repetition
+--   VerifyFacts == of everything that it is lent
 -- Assumes nothing.
 use mathlib.Core.Path.{_≡_}
-use mathlib.Core.Bool.{true}
 use mathlib.Core.List.{List}
 use Prim.Native.Nat.{ℕ, _*_}
 use lib.ListN.{length}
-use Rattle.protocol.specs.Frames.{framed}
 use Rattle.protocol.specs.Binary.{bits256}
 use Rattle.protocol.specs.Shape.{Shape, wOf}
-use Rattle.protocol.specs.Sections.{lengths, sectionsIn}
-use Rattle.lanes.specs.Lanes.{lanes}
-use Rattle.opened.specs.Opened.{OpenedTableIs}
 use Rattle.steps.specs.Loaded.{HashForm}
 use Rattle.steps.specs.Facts.{KeyFacts}
-
-abbrev pub ProofForm : Shape → List ℕ → Type 0
-ProofForm s proof = framed (lengths bits256 s) proof ≡ true
+use Rattle.checks.specs.Given.{ProofForm}
 
 pub record VerifyFacts (s : Shape) (key Δ H′ χ opened proof : List ℕ) : Type 0 where
   pub of-key : KeyFacts s key
@@ -26,7 +18,3 @@ pub record VerifyFacts (s : Shape) (key Δ H′ χ opened proof : List ℕ) : Ty
   pub of-batching : length χ ≡ s .τ * s .m
   pub of-opened : length opened ≡ s .τ * 255 * wOf bits256 s
   pub of-proof : ProofForm s proof
-
-pub record Opened (s : Shape) (Δ opened proof table : List ℕ) : Type 0 where
-  pub table-length : length table ≡ 8 * wOf bits256 s * lanes
-  pub table-is : OpenedTableIs table opened Δ (sectionsIn bits256 s proof .C) (s .τ) (wOf bits256 s)

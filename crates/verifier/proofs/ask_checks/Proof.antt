@@ -1,25 +1,23 @@
--- `verifier::ask_checks` meets its contract: the first repetition that fails either check is the place, and 14 comes before 15.
+-- `verifier::ask_checks` meets its contract: the answer to 14, and where that is accepted, the answer to 15.
 -- Assumes nothing.
 use borrow.Author.Needs.{needs}
-use Prim.Native.Nat.{ℕ, _+_, _*_, _-_, _≤_, _<_}
-use mathlib.Core.Path.{_≡_, refl, sym, ap, subst, _∙_}
+use Prim.Native.Nat.{ℕ}
+use mathlib.Core.Path.{_≡_, subst, _∙_}
 use mathlib.Core.Bool.{Bool}
-use mathlib.Core.List.{List}
+use mathlib.Core.List.{[], _∷_}
 use native.Mathlib.Omega.{arith}
 use denote.Ref.{now}
 use lib.Dec.{lit<}
-use lib.ListN.{length}
-use Rattle.protocol.specs.Lists.{firstNot}
 use Rattle.protocol.specs.Binary.{bits256}
-use Rattle.protocol.specs.Shape.{Shape, wOf}
-use Rattle.protocol.specs.Answers.{refused}
-use Rattle.protocol.specs.Questions.{consistentIn, productIn}
+use Rattle.protocol.specs.Shape.{Shape}
+use Rattle.protocol.specs.Questions.{consistentIn, productIn, q14, q15}
 use Rattle.format.specs.Sizes.{shapeFor}
+use Rattle.format.proofs.AskLaws.{then-ask, go-on, stop-at}
 use Rattle.format.proofs.SizeLaws.{in-limits, w-most}
 use Rattle.steps.specs.Facts.{KeyFacts}
-use Rattle.verifier.specs.Given.{Opened}
-use Rattle.verifier.proofs.AnswerLaws.{first-refused, second-refused, both-hold}
-use Rattle.verifier.proofs.GivenLaws.{section-lengths, opened-is}
+use Rattle.checks.proofs.GivenLaws.{section-lengths}
+use Rattle.verifier.proofs.AnswerLaws.{asked-of-each}
+use Rattle.verifier.proofs.GivenLaws.{opened-is}
 use Rattle.verifier.proofs.ask_checks.Statement.{statement}
 use Rattle.verifier.proofs.ask_checks.Tie as tie
 
@@ -47,13 +45,16 @@ check-consistency-requires c κs =
     let load = c .before .before .before .before .before .load-opened in
     ((facts .of-key .in-range, facts .of-hash, facts .of-proof, facts .of-challenge, opened-is (shapeFor (a .s)) (now (a .delta)) (now (a .opened)) (now (a .proof)) (load .last .0) (now (c .before .before .before .before .before .before .proof-section .result)) (c .before .before .before .before .before .before .before .before .leaf-bytes .result) (c .before .before .before .before .before .before .before .before .leaf-bytes .ensures) (c .before .before .before .before .before .before .proof-section .ensures .0) (load .kept .0 ∙ s .pre .1 .0) (load .ensures)), (s .pre .1 .1, s .pre .1 .2))
 
-cast-refuse : tie.Need-cast-refuse
-cast-refuse c =
-    let s = c .before .before .before .before .before .before .before .before .before .before .before .before .before .before .before .before .before .before .before .before .before .before .before .before in
-    omega (arith, c .if1 .taken, in-limits (shapeFor (s .args .s)) (s .pre .0 .1 .of-key .in-range) .τ-most)
+answer-requires : tie.Need-answer-requires
+answer-requires c κs =
+    let s = c .before .before .before .before .before .before .before .before .before .before .before .before .before .before .before .before .before .before .before .before .before .before .before in
+    omega (arith, in-limits (shapeFor (s .args .s)) (s .pre .0 .1 .of-key .in-range) .τ-most)
 
-refuse-requires : tie.Need-refuse-requires
-refuse-requires c κs = search needs
+enum-told : tie.Need-enum-told
+enum-told c = search needs
+
+enum-told-2 : tie.Need-enum-told-2
+enum-told-2 c = search needs
 
 same-length : tie.Need-same-length
 same-length c = search needs
@@ -66,27 +67,25 @@ same-length-3 c = search needs
 
 returns : tie.Need-returns
 returns c =
-    let a = c .before .before .before .before .before .before .before .before .before .before .before .before .before .before .before .before .before .before .before .before .before .before .before .before .before .args in
+    let a = c .before .before .before .before .before .before .before .before .before .before .before .before .before .before .before .before .before .before .before .before .before .before .before .before .before .before .args in
     let shape = shapeFor (a .s) in
+    let first = q14 bits256 shape (now (a .delta)) (now (a .matrix)) (now (a .opened)) (now (a .proof)) in
+    let second = q15 bits256 shape (now (a .key)) (now (a .delta)) (now (a .batching)) (now (a .opened)) (now (a .proof)) in
     let p : ℕ → Bool = consistentIn bits256 shape (now (a .delta)) (now (a .matrix)) (now (a .opened)) (now (a .proof)) in
-    let r : ℕ → Bool = productIn bits256 shape (now (a .key)) (now (a .delta)) (now (a .batching)) (now (a .opened)) (now (a .proof)) in
-    c .refuse .ensures ∙ ap (refused 14) (c .before .before .before .before .before .before .check-consistency .ensures) ∙ sym (first-refused (a .s .tau) p r 14 15 (omega (arith, c .before .if1 .taken, c .before .before .before .before .before .before .check-consistency .ensures)))
+    then-ask (first ∷ []) (second ∷ []) (asked-of-each (a .s .tau) p 14 (c .before .before .before .before .before .before .before .check-consistency .result) (c .before .before .before .before .before .before .before .check-consistency .ensures) (c .before .before .answer .ensures)) (stop-at _ (c .enum-told2 .given .1))
 
 check-product-requires : tie.Need-check-product-requires
 check-product-requires c κs =
-    let s = c .before .before .before .before .before .before .before .before .before .before .before .before .before .before .before .before .before .before .before .before .before .before .before .before .before in
+    let s = c .before .before .before .before .before .before .before .before .before .before .before .before .before .before .before .before .before .before .before .before .before .before .before .before .before .before .before in
     let a = s .args in
     let facts = s .pre .0 .1 in
-    let load = c .before .before .before .before .before .before .before .before .before .before .before .before .load-opened in
-    (subst (λ (z : Shape). KeyFacts z (now (a .key))) (s .pre .0 .0) (facts .of-key), s .pre .0 .0, facts .of-proof, facts .of-challenge, facts .of-batching, opened-is (shapeFor (a .s)) (now (a .delta)) (now (a .opened)) (now (a .proof)) (load .last .0) (now (c .before .before .before .before .before .before .before .before .before .before .before .before .before .proof-section .result)) (c .before .before .before .before .before .before .before .before .before .before .before .before .before .before .before .leaf-bytes .result) (c .before .before .before .before .before .before .before .before .before .before .before .before .before .before .before .leaf-bytes .ensures) (c .before .before .before .before .before .before .before .before .before .before .before .before .before .proof-section .ensures .0) (load .kept .0 ∙ s .pre .1 .0) (load .ensures))
+    let load = c .before .before .before .before .before .before .before .before .before .before .before .before .before .before .load-opened in
+    (subst (λ (z : Shape). KeyFacts z (now (a .key))) (s .pre .0 .0) (facts .of-key), s .pre .0 .0, facts .of-proof, facts .of-challenge, facts .of-batching, opened-is (shapeFor (a .s)) (now (a .delta)) (now (a .opened)) (now (a .proof)) (load .last .0) (now (c .before .before .before .before .before .before .before .before .before .before .before .before .before .before .before .proof-section .result)) (c .before .before .before .before .before .before .before .before .before .before .before .before .before .before .before .before .before .leaf-bytes .result) (c .before .before .before .before .before .before .before .before .before .before .before .before .before .before .before .before .before .leaf-bytes .ensures) (c .before .before .before .before .before .before .before .before .before .before .before .before .before .before .before .proof-section .ensures .0) (load .kept .0 ∙ s .pre .1 .0) (load .ensures))
 
-cast-refuse-2 : tie.Need-cast-refuse-2
-cast-refuse-2 c =
-    let s = c .before .before .before .before .before .before .before .before .before .before .before .before .before .before .before .before .before .before .before .before .before .before .before .before .before .before .before .before .before in
-    omega (arith, c .if2 .taken, in-limits (shapeFor (s .args .s)) (s .pre .0 .1 .of-key .in-range) .τ-most)
-
-refuse-requires-2 : tie.Need-refuse-requires-2
-refuse-requires-2 c κs = search needs
+answer-requires-2 : tie.Need-answer-requires-2
+answer-requires-2 c κs =
+    let s = c .before .before .before .before .before .before .before .before .before .before .before .before .before .before .before .before .before .before .before .before .before .before .before .before .before .before .before .before .before .before in
+    omega (arith, in-limits (shapeFor (s .args .s)) (s .pre .0 .1 .of-key .in-range) .τ-most)
 
 same-length-4 : tie.Need-same-length-4
 same-length-4 c = search needs
@@ -99,28 +98,14 @@ same-length-6 c = search needs
 
 returns-2 : tie.Need-returns-2
 returns-2 c =
-    let a = c .before .before .before .before .before .before .before .before .before .before .before .before .before .before .before .before .before .before .before .before .before .before .before .before .before .before .before .before .before .before .args in
+    let a = c .before .before .before .before .before .before .before .before .before .before .before .before .before .before .before .before .before .before .before .before .before .before .before .before .before .before .before .before .before .before .before .args in
     let shape = shapeFor (a .s) in
+    let first = q14 bits256 shape (now (a .delta)) (now (a .matrix)) (now (a .opened)) (now (a .proof)) in
+    let second = q15 bits256 shape (now (a .key)) (now (a .delta)) (now (a .batching)) (now (a .opened)) (now (a .proof)) in
     let p : ℕ → Bool = consistentIn bits256 shape (now (a .delta)) (now (a .matrix)) (now (a .opened)) (now (a .proof)) in
     let r : ℕ → Bool = productIn bits256 shape (now (a .key)) (now (a .delta)) (now (a .batching)) (now (a .opened)) (now (a .proof)) in
-    c .refuse2 .ensures ∙ ap (refused 15) (c .before .before .before .before .check-product .ensures) ∙ sym (second-refused (a .s .tau) p r 14 15 (omega (arith, c .before .before .before .before .before .before .if1 .left, c .before .before .before .before .before .before .before .before .before .before .before .check-consistency .ensures)) (omega (arith, c .before .if2 .taken, c .before .before .before .before .check-product .ensures)))
-
-same-length-7 : tie.Need-same-length-7
-same-length-7 c = search needs
-
-same-length-8 : tie.Need-same-length-8
-same-length-8 c = search needs
-
-same-length-9 : tie.Need-same-length-9
-same-length-9 c = search needs
-
-returns-3 : tie.Need-returns-3
-returns-3 c =
-    let a = c .before .before .before .before .before .before .before .before .before .before .before .before .before .before .before .before .before .before .before .before .before .before .before .before .before .before .before .before .before .args in
-    let shape = shapeFor (a .s) in
-    let p : ℕ → Bool = consistentIn bits256 shape (now (a .delta)) (now (a .matrix)) (now (a .opened)) (now (a .proof)) in
-    let r : ℕ → Bool = productIn bits256 shape (now (a .key)) (now (a .delta)) (now (a .batching)) (now (a .opened)) (now (a .proof)) in
-    sym (both-hold (a .s .tau) p r 14 15 (omega (arith, c .before .before .before .before .before .if1 .left, c .before .before .before .before .before .before .before .before .before .before .check-consistency .ensures)) (omega (arith, c .if2 .left, c .before .before .before .check-product .ensures)))
+    then-ask (first ∷ []) (second ∷ []) (asked-of-each (a .s .tau) p 14 (c .before .before .before .before .before .before .before .before .before .before .before .before .check-consistency .result) (c .before .before .before .before .before .before .before .before .before .before .before .before .check-consistency .ensures) (c .before .before .before .before .before .before .before .answer .ensures))
+    (go-on (c .before .before .before .before .before .enum-told .given .1) (asked-of-each (a .s .tau) r 15 (c .before .before .before .check-product .result) (c .before .before .before .check-product .ensures) (c .answer2 .ensures)))
 
 pub ask-checks-spec : {M : Type 1} → statement M
 ask-checks-spec =
@@ -130,20 +115,16 @@ ask-checks-spec =
     proof-section-requires
     load-opened-requires
     check-consistency-requires
-    cast-refuse
-    refuse-requires
+    answer-requires
+    enum-told
+    enum-told-2
     same-length
     same-length-2
     same-length-3
     returns
     check-product-requires
-    cast-refuse-2
-    refuse-requires-2
+    answer-requires-2
     same-length-4
     same-length-5
     same-length-6
-    returns-2
-    same-length-7
-    same-length-8
-    same-length-9
-    returns-3)
+    returns-2)

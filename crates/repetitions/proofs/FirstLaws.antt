@@ -1,0 +1,36 @@
+-- The first index that fails a test, from what a loop knows that looks for it; and two tests that agree below the bound.
+-- Assumes nothing.
+use mathlib.Core.Path.{_≡_, refl, sym, ap, ap₂, _∙_}
+use mathlib.Core.Bool.{Bool, true, false, false≢true}
+use Prim.Native.Nat.{ℕ, zero, suc, _≤_, _<_}
+use native.Mathlib.Omega.{arith}
+use Rattle.protocol.specs.Lists.{allBelow, firstNot}
+use Rattle.protocol.proofs.TestLaws.{all-at, all-of, first-before}
+
+pub first-at : (n : ℕ) (p : ℕ → Bool) (i : ℕ) → i < n → ((k : ℕ) → k < i → p k ≡ true) → p i ≡ false → firstNot n p ≡ i
+unfolding firstNot
+first-at zero p i l before fails = absurd (omega arith)
+first-at (suc n) p zero l before fails = rw (fails, firstNot)
+first-at (suc n) p (suc i) l before fails = rw (before 0 (omega arith), firstNot) (ap suc (first-at n (λ k. p (suc k)) i (omega arith) (λ k h. before (suc k) (omega arith)) fails))
+
+pub first-none : (n : ℕ) (p : ℕ → Bool) → ((k : ℕ) → k < n → p k ≡ true) → firstNot n p ≡ n
+unfolding firstNot
+first-none zero p all = refl
+first-none (suc n) p all = rw (all 0 (omega arith), firstNot) (ap suc (first-none n (λ k. p (suc k)) (λ k h. all (suc k) (omega arith))))
+
+pub first-congr : (n : ℕ) (p r : ℕ → Bool) → ((k : ℕ) → k < n → p k ≡ r k) → firstNot n p ≡ firstNot n r
+unfolding firstNot
+first-congr zero p r same = refl
+first-congr (suc n) p r same =
+    ap₂ (λ (b : Bool) (k : ℕ). elim b as (λ x. ℕ) [ true ↦ suc k | false ↦ 0 ]) (same 0 (omega arith)) (first-congr n (λ k. p (suc k)) (λ k. r (suc k)) (λ k h. same (suc k) (omega arith)))
+
+-- a test that fails below the bound fails for all
+pub all-not : (n : ℕ) (p : ℕ → Bool) (i : ℕ) → i < n → p i ≡ false → allBelow n p ≡ false
+all-not n p i l fails = go (allBelow n p) refl
+  where
+    go : (b : Bool) → allBelow n p ≡ b → allBelow n p ≡ false
+    go true h = absurd (false≢true (sym fails ∙ all-at n p h i l))
+    go false h = h
+
+pub first-all : (n : ℕ) (p : ℕ → Bool) → n ≤ firstNot n p → allBelow n p ≡ true
+first-all n p h = all-of n p (λ i l. first-before n p i (omega (arith, h, l)))

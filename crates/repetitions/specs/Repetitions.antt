@@ -1,0 +1,25 @@
+-- The two checks of each repetition on bytes, as the code makes them.
+--   rowConsistent hashed v u δ t == the consistency check of one repetition: hashed, of t entries, is v + δ·u
+--   firstInconsistent == the first repetition whose rows of t entries do not pass it, or their number
+--   firstDiffering == the first repetition whose left side of the product check is not QS0 + QS1·δ, or their number
+-- Assumes nothing.
+use mathlib.Core.Bool.{Bool}
+use mathlib.Core.List.{List}
+use Prim.Native.Nat.{ℕ, _*_}
+use lib.Dec.{eqb}
+use lib.ListN.{length}
+use lib.Bits.{bitXor}
+use Rattle.algebra.specs.Coded.{mulByte}
+use Rattle.field.specs.Gf256.{gf256}
+use Rattle.protocol.specs.Lists.{allBelow, firstNot, blockAt}
+use Rattle.protocol.specs.Strings.{bit}
+use Rattle.strings.specs.Sums.{byteAt}
+
+abbrev pub rowConsistent : List ℕ → List ℕ → List ℕ → ℕ → ℕ → Bool
+rowConsistent hashed v u δ t = allBelow t (λ ρ. eqb (byteAt hashed ρ) (bitXor (byteAt v ρ) (δ * bit u ρ)))
+
+abbrev pub firstInconsistent : List ℕ → List ℕ → List ℕ → List ℕ → ℕ → ℕ
+firstInconsistent hashed v u Δ t = firstNot (length Δ) (λ e. rowConsistent (blockAt hashed t e) (blockAt v t e) u (byteAt Δ e) t)
+
+abbrev pub firstDiffering : List ℕ → List ℕ → List ℕ → List ℕ → ℕ
+firstDiffering left qs0 qs1 Δ = firstNot (length Δ) (λ e. eqb (byteAt left e) (bitXor (byteAt qs0 e) (mulByte gf256 (byteAt qs1 e) (byteAt Δ e))))
