@@ -1,5 +1,5 @@
 -- What the two checks are given.
---   ProofForm s proof == the proof's questions on form got a yes
+--   ProofForm s proof == the proof is its sections, each of its length (question 12)
 --   Opened s Δ opened proof table == the lanes of the table are W_e of every repetition
 -- Assumes nothing.
 use mathlib.Core.Path.{_≡_}
