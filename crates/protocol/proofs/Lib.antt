@@ -1,6 +1,5 @@
 pub mod Computing
 pub mod SmallSitting
-pub mod SecondSitting
 pub mod Edges
 pub mod Agreement
 pub mod TestLaws
@@ -20,4 +19,3 @@ pub mod HonestLaws
 pub mod Published
 pub mod Theorems
 pub mod Demands
-pub mod SittingFactors

@@ -1,12 +1,16 @@
--- The small sitting's bytes and answers, computed on the definitions.
+-- The small sitting's key, bytes and answers, computed on the definitions.
 -- Assumes nothing.
 use mathlib.Core.Path.{_≡_, refl, ap, _∙_}
 use mathlib.Core.List.{List, [], _∷_}
 use Rattle.protocol.specs.Frames.{frame, count4}
 use Rattle.protocol.specs.Sections.{Sections, bytesOf}
 use Rattle.protocol.specs.Prover.{sectionsOf, proofOf}
-use Rattle.protocol.specs.SmallSitting.{bits16, key, witness, leaves, H′, χ, Δ, proof, opened, SmallBytes, SmallProof, SmallReplies}
+use Rattle.protocol.specs.SmallSitting.{bits16, key, witness, leaves, H′, χ, Δ, proof, opened, SmallKey, SmallBytes, SmallProof, SmallReplies}
 use Rattle.protocol.proofs.Computing.{computing}
+
+pub small-key : SmallKey
+unfolding computing key
+small-key = record { row-1-2 = refl; linear-1 = refl; constants-are = refl }
 
 pub small-bytes : SmallBytes
 unfolding computing key witness leaves H′ χ
@@ -28,4 +32,4 @@ small-proof = ap (λ s. bytesOf (sectionsOf bits16 s leaves key witness H′ χ)
 
 pub small-replies : SmallReplies
 unfolding computing key witness leaves H′ χ Δ proof opened
-small-replies = record { opening-is = refl; accepts = refl; C-changed = refl; Ṽ-changed = refl; first-named = refl; fourteen-first = refl }
+small-replies = record { opening-is = refl; accepts = refl; first-named = refl; fourteen-first = refl; candidate-is = refl; candidate-changed = refl }

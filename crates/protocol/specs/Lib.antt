@@ -20,5 +20,4 @@ pub mod Check
 pub mod Statements
 pub mod Demands
 pub mod SmallSitting
-pub mod SecondSitting
 pub mod Edges

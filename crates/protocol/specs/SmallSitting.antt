@@ -1,23 +1,29 @@
 -- A sitting over GF(16), n = 9, m = 2, τ = 2, t = 2, and what the definitions must give for it. proofs/SmallSitting computes each statement.
 -- The theorems leave the layout open: with χ(e, i) read at i, or every A_i read in matrix 0, all of them still hold. These bytes fix it.
+-- An edit of the definitions re-proves this crate, so what is slow to compute stands above it: a second sitting and changed proofs in the crate `changed`, larger sittings in `sittings`.
 -- The data and the expected results are sitting 0 of the vectors sittings-degree4.rsp, made from the papers by other hands.
 --   bits16 == bits over GF(16);  changed str i x == str with byte i xor x;  sizes == the sizes that the key's header has
 --   key, witness, leaves, H′, χ, Δ == what is lent;  proof, opened == the proof and the opened leaves that are expected
---   reply p == the word of the verifier's answer to the proof p;  factors p == the factors of its two repetitions
+--   row s key i ρ == row ρ of A_i as a key of sizes s has it;  linear s key i == b_i;  constants s key == y
+--   reply p == the word of the verifier's answer to the proof p
 -- Assumes nothing.
 use mathlib.Core.Path.{_≡_}
 use mathlib.Core.List.{List, [], _∷_}
 use Prim.Native.Nat.{ℕ}
 use lib.Bits.{bitXor}
 use lib.ListN.{getD, set}
+use Rattle.algebra.specs.Coded.{Coded}
 use Rattle.field.specs.Gf16.{gf16}
+use Rattle.protocol.specs.Lists.{table}
 use Rattle.protocol.specs.Alphabet.{Alphabet}
 use Rattle.protocol.specs.Binary.{binary}
 use Rattle.protocol.specs.Shape.{Shape, shapeOf}
+use Rattle.protocol.specs.Key.{aSym, bSym, ySym}
 use Rattle.protocol.specs.Prover.{cSection, dSection, ũSection, ṼSection, qs0Section, qs1Section, proofOf}
 use Rattle.protocol.specs.Answers.{accepted, word}
 use Rattle.protocol.specs.Calls.{verifyAnswer}
-use Rattle.protocol.specs.Counting.{opening, acceptedCount, factor}
+use Rattle.protocol.specs.Counting.{opening}
+use Rattle.protocol.specs.Statements.{candidateBytes}
 
 abbrev pub bits16 : Alphabet
 bits16 = binary gf16
@@ -76,6 +82,21 @@ opened =
     ∷ 0xA9 ∷ 0x41 ∷ 0x21 ∷ 0x2C ∷ 0x9A ∷ 0x53 ∷ 0xB7 ∷ 0x0B ∷ 0xE5 ∷ 0x7C ∷ 0xE3 ∷ 0x1E ∷ 0xB4 ∷ 0x45 ∷ 0xA3 ∷ 0x24
     ∷ 0x8F ∷ 0x12 ∷ 0x82 ∷ 0x23 ∷ 0x7B ∷ 0x54 ∷ 0x78 ∷ 0x2D ∷ 0x66 ∷ 0x05 ∷ 0xFF ∷ 0x4D ∷ 0x06 ∷ 0x4B ∷ []
 
+abbrev pub row : Shape → List ℕ → ℕ → ℕ → List ℕ
+row s key i ρ = table (s .n) (λ c. bits16 .K .byte (aSym bits16 s key i ρ c))
+
+abbrev pub linear : Shape → List ℕ → ℕ → List ℕ
+linear s key i = table (s .n) (λ c. bits16 .K .byte (bSym bits16 s key i c))
+
+abbrev pub constants : Shape → List ℕ → List ℕ
+constants s key = table (s .m) (λ i. bits16 .K .byte (ySym bits16 s key i))
+
+-- The key read back. A and its transpose give the same forms fᵀA·f, so that no answer tells them apart.
+pub record SmallKey : Type 0 where
+  pub row-1-2 : row sizes key 1 2 ≡ 1 ∷ 0 ∷ 0 ∷ 1 ∷ 1 ∷ 1 ∷ 0 ∷ 1 ∷ 0 ∷ []
+  pub linear-1 : linear sizes key 1 ≡ 0 ∷ 0 ∷ 0 ∷ 1 ∷ 0 ∷ 0 ∷ 0 ∷ 1 ∷ 1 ∷ []
+  pub constants-are : constants sizes key ≡ 1 ∷ 1 ∷ []
+
 -- The prover's bytes, section by section and whole.
 pub record SmallBytes : Type 0 where
   pub header-is : shapeOf key ≡ sizes
@@ -96,17 +117,10 @@ reply p = word (verifyAnswer bits16 key Δ H′ χ opened p)
 pub record SmallReplies : Type 0 where
   pub opening-is : opening bits16 sizes leaves Δ ≡ opened
   pub accepts : verifyAnswer bits16 key Δ H′ χ opened proof ≡ accepted
-  pub C-changed : reply (changed proof 4 1) ≡ 983041
-  pub Ṽ-changed : reply (changed proof 21 1) ≡ 917504
   -- row 0 of Ṽ in both repetitions: the first is named
   pub first-named : reply (changed (changed proof 21 1) 23 1) ≡ 917504
   -- QS0 in repetition 0, Ṽ in repetition 1: 14 is asked of every repetition before 15 is of any
   pub fourteen-first : reply (changed (changed proof 29 1) 23 1) ≡ 917505
-
-abbrev pub factors : List ℕ → List ℕ
-factors p = factor bits16 key leaves H′ χ p 0 ∷ factor bits16 key leaves H′ χ p 1 ∷ []
-
--- A byte of d changed: in each repetition two challenges still pass, so that four strings are accepted. The other changed proofs are in the crate `sittings`.
-pub record SmallFactors : Type 0 where
-  pub d-factors : factors (changed proof 10 1) ≡ 2 ∷ 2 ∷ []
-  pub d-count : acceptedCount bits16 key leaves H′ χ (changed proof 10 1) ≡ 4
+  -- the candidate witness of repetition 1, of the proof and of the proof with a byte of C changed
+  pub candidate-is : candidateBytes bits16 key leaves proof 1 ≡ witness
+  pub candidate-changed : candidateBytes bits16 key leaves (changed proof 4 1) 1 ≡ changed witness 0 1

@@ -4,5 +4,4 @@ pub mod FullSums
 pub mod FullSitting
 pub mod FullChecks
 pub mod FullFactors
-pub mod ChangedProofs
 pub mod CountedSitting

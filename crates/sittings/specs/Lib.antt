@@ -1,3 +1,2 @@
-pub mod ChangedProofs
 pub mod CountedSitting
 pub mod FullSitting

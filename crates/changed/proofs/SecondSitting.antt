@@ -2,12 +2,12 @@
 -- Assumes nothing.
 use mathlib.Core.Path.{_≡_, refl, ap, _∙_}
 use mathlib.Core.List.{List, [], _∷_}
 use Rattle.protocol.specs.Frames.{frame, count4}
 use Rattle.protocol.specs.Sections.{Sections, bytesOf}
 use Rattle.protocol.specs.Prover.{sectionsOf, proofOf}
 use Rattle.protocol.specs.SmallSitting.{bits16}
-use Rattle.protocol.specs.SecondSitting.{key, witness, leaves, H′, χ, Δ, proof, opened, SecondKey, SecondBytes, SecondProof, SecondReplies}
+use Rattle.changed.specs.SecondSitting.{key, witness, leaves, H′, χ, Δ, proof, opened, SecondKey, SecondBytes, SecondProof, SecondReplies}
 use Rattle.protocol.proofs.Computing.{computing}
 
 pub second-key : SecondKey
 unfolding computing key

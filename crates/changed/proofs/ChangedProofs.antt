@@ -1,12 +1,19 @@
 -- The changed proofs, computed: the replies on the definitions, the factors from the coefficients of the checks.
 -- Assumes nothing.
-use mathlib.Core.Path.{refl}
+use mathlib.Core.Path.{_≡_, refl, ap, _∙_}
+use mathlib.Core.Bool.{true}
+use Prim.Native.Nat.{_*_}
 use lib.Dec.{lit<}
+use lib.ListN.{getD}
+use Rattle.protocol.specs.Frames.{num2}
+use Rattle.protocol.specs.Calls.{wellFormed}
+use Rattle.protocol.specs.Counting.{acceptedCount}
 use Rattle.protocol.specs.SmallSitting.{bits16, changed, key, leaves, H′, χ, Δ, opened, proof}
-use Rattle.protocol.specs.SecondSitting.{key as key₂, leaves as leaves₂, H′ as H₂, χ as χ₂, Δ as Δ₂, opened as opened₂, proof as proof₂}
+use Rattle.changed.specs.SecondSitting.{key as key₂, leaves as leaves₂, H′ as H₂, χ as χ₂, Δ as Δ₂, opened as opened₂, proof as proof₂}
 use Rattle.protocol.proofs.Computing.{computing}
-use Rattle.protocol.proofs.SittingFactors.{both}
-use Rattle.sittings.specs.ChangedProofs.{Small, Second, ChangedProofs}
+use Rattle.protocol.proofs.Theorems.{forgery-count}
+use Rattle.changed.proofs.SittingFactors.{both}
+use Rattle.changed.specs.ChangedProofs.{Small, Second, ChangedProofs}
 
 C-1 : Small 4 1 983041 16 2
 unfolding computing key leaves H′ χ Δ opened proof
@@ -19,6 +26,15 @@ C-2 = record { reply-is = refl; factors-are = both bits16 key leaves H′ χ ref
 d-1 : Small 10 1 983040 2 2
 unfolding computing key leaves H′ χ Δ opened proof
 d-1 = record { reply-is = refl; factors-are = both bits16 key leaves H′ χ refl (lit< tt) (changed proof 10 1) 2 2 refl refl }
+
+well-formed : wellFormed bits16 key leaves H′ χ (changed proof 10 1) ≡ true
+unfolding computing key leaves H′ χ proof
+well-formed = refl
+
+-- the product of the two factors
+d-1-count : acceptedCount bits16 key leaves H′ χ (changed proof 10 1) ≡ 4
+unfolding num2 key
+d-1-count = forgery-count bits16 key leaves H′ χ (changed proof 10 1) well-formed .count-is-product ∙ ap (λ l. getD l 0 0 * (getD l 1 0 * 1)) (d-1 .factors-are)
 
 d-2 : Small 10 2 983040 2 2
 unfolding computing key leaves H′ χ Δ opened proof
@@ -69,6 +85,7 @@ changed-proofs = record {
   C-1 = C-1;
   C-2 = C-2;
   d-1 = d-1;
+  d-1-count = d-1-count;
   d-2 = d-2;
   ũ-1 = ũ-1;
   ũ-2 = ũ-2;

@@ -1,13 +1,17 @@
 -- Proofs with one byte changed: the verifier's reply, and the factors of both repetitions. proofs/ChangedProofs computes each statement.
 -- The first twelve are the changed lines of sitting 0 of the vectors sittings-degree4.rsp; the rest, of SecondSitting, come from the rendering in Rust.
+--   factors p == the factors of both repetitions of SmallSitting's key, leaves, H′ and χ with the proof p
 --   Small i x r f g == of SmallSitting's proof with byte i xor x, the reply is r and the factors are f and g;  Second == the same of SecondSitting
 -- Assumes nothing.
 use mathlib.Core.Path.{_≡_}
 use mathlib.Core.List.{List, [], _∷_}
 use Prim.Native.Nat.{ℕ}
-use Rattle.protocol.specs.Counting.{factor}
-use Rattle.protocol.specs.SmallSitting.{bits16, changed, proof, reply, factors}
-use Rattle.protocol.specs.SecondSitting.{key as key₂, leaves as leaves₂, H′ as H₂, χ as χ₂, proof as proof₂, reply as reply₂}
+use Rattle.protocol.specs.Counting.{acceptedCount, factor}
+use Rattle.protocol.specs.SmallSitting.{bits16, changed, key, leaves, H′, χ, proof, reply}
+use Rattle.changed.specs.SecondSitting.{key as key₂, leaves as leaves₂, H′ as H₂, χ as χ₂, proof as proof₂, reply as reply₂}
+
+abbrev pub factors : List ℕ → List ℕ
+factors p = factor bits16 key leaves H′ χ p 0 ∷ factor bits16 key leaves H′ χ p 1 ∷ []
 
 pub record Small (i x r f g : ℕ) : Type 0 where
   pub reply-is : reply (changed proof i x) ≡ r
@@ -21,6 +25,8 @@ pub record ChangedProofs : Type 0 where
   pub C-1 : Small 4 1 983041 16 2
   pub C-2 : Small 4 2 983041 16 2
   pub d-1 : Small 10 1 983040 2 2
+  -- in each repetition two challenges still pass, so that four strings are accepted
+  pub d-1-count : acceptedCount bits16 key leaves H′ χ (changed proof 10 1) ≡ 4
   pub d-2 : Small 10 2 983040 2 2
   pub ũ-1 : Small 16 1 917504 1 1
   pub ũ-2 : Small 16 2 917504 1 1

@@ -1,22 +1,17 @@
 -- A second sitting over GF(16), n = 9, m = 3, τ = 2, t = 5: all sizes differ, so that no stride can stand for another. proofs/SecondSitting computes each statement.
 -- The data and the expected results come from a rendering of the papers in Rust, written by other hands and apart from these definitions.
---   key, witness, leaves, H′, χ, Δ, proof, opened, sizes, reply == as in SmallSitting
---   row i ρ == row ρ of A_i as the key has it;  linear i == b_i;  constants == y
+--   key, witness, leaves, H′, χ, Δ, proof, opened, sizes, reply == as in SmallSitting of the crate protocol
 -- Assumes nothing.
 use mathlib.Core.Path.{_≡_}
 use mathlib.Core.List.{List, [], _∷_}
 use Prim.Native.Nat.{ℕ}
-use Rattle.algebra.specs.Coded.{Coded}
-use Rattle.protocol.specs.Lists.{table}
-use Rattle.protocol.specs.Alphabet.{Alphabet}
 use Rattle.protocol.specs.Shape.{Shape, shapeOf}
-use Rattle.protocol.specs.Key.{aSym, bSym, ySym}
 use Rattle.protocol.specs.Prover.{cSection, dSection, ũSection, ṼSection, qs0Section, qs1Section, proofOf}
 use Rattle.protocol.specs.Answers.{accepted, word}
 use Rattle.protocol.specs.Calls.{verifyAnswer}
 use Rattle.protocol.specs.Counting.{opening}
 use Rattle.protocol.specs.Statements.{candidateBytes}
-use Rattle.protocol.specs.SmallSitting.{bits16, changed}
+use Rattle.protocol.specs.SmallSitting.{bits16, changed, row, linear, constants}
 
 abbrev pub sizes : Shape
 sizes = record { n = 9; m = 3; τ = 2; t = 5 }
@@ -70,22 +65,13 @@ opened =
     ∷ 0xE2 ∷ 0x3C ∷ 0x02 ∷ 0xBF ∷ 0x44 ∷ 0x01 ∷ 0x82 ∷ 0x58 ∷ 0x00 ∷ 0x54 ∷ 0xD7 ∷ 0x00 ∷ 0x46 ∷ 0xDB ∷ 0x00 ∷ 0x27 ∷ 0x9A ∷ 0x03 ∷ 0xF1 ∷ 0xC9 ∷ 0x02 ∷ 0x34 ∷ 0xAF ∷ 0x02
     ∷ 0x3A ∷ 0xA8 ∷ 0x01 ∷ 0xB8 ∷ 0x89 ∷ 0x00 ∷ 0x7B ∷ 0x92 ∷ 0x00 ∷ 0xF5 ∷ 0xA5 ∷ 0x03 ∷ 0xDD ∷ 0x7D ∷ 0x03 ∷ 0xC3 ∷ 0x10 ∷ 0x02 ∷ 0x6A ∷ 0x6E ∷ 0x01 ∷ []
 
-abbrev pub row : ℕ → ℕ → List ℕ
-row i ρ = table 9 (λ c. bits16 .K .byte (aSym bits16 sizes key i ρ c))
-
-abbrev pub linear : ℕ → List ℕ
-linear i = table 9 (λ c. bits16 .K .byte (bSym bits16 sizes key i c))
-
-abbrev pub constants : List ℕ
-constants = table 3 (λ i. bits16 .K .byte (ySym bits16 sizes key i))
-
--- The key read back. A and its transpose give the same forms fᵀA·f, so that no answer tells them apart.
+-- The key read back.
 pub record SecondKey : Type 0 where
   pub header-is : shapeOf key ≡ sizes
-  pub row-1-2 : row 1 2 ≡ 0 ∷ 0 ∷ 0 ∷ 1 ∷ 1 ∷ 0 ∷ 1 ∷ 0 ∷ 0 ∷ []
-  pub row-2-8 : row 2 8 ≡ 1 ∷ 0 ∷ 0 ∷ 1 ∷ 1 ∷ 1 ∷ 1 ∷ 1 ∷ 0 ∷ []
-  pub linear-2 : linear 2 ≡ 0 ∷ 0 ∷ 0 ∷ 1 ∷ 1 ∷ 1 ∷ 0 ∷ 1 ∷ 1 ∷ []
-  pub constants-are : constants ≡ 0 ∷ 1 ∷ 1 ∷ []
+  pub row-1-2 : row sizes key 1 2 ≡ 0 ∷ 0 ∷ 0 ∷ 1 ∷ 1 ∷ 0 ∷ 1 ∷ 0 ∷ 0 ∷ []
+  pub row-2-8 : row sizes key 2 8 ≡ 1 ∷ 0 ∷ 0 ∷ 1 ∷ 1 ∷ 1 ∷ 1 ∷ 1 ∷ 0 ∷ []
+  pub linear-2 : linear sizes key 2 ≡ 0 ∷ 0 ∷ 0 ∷ 1 ∷ 1 ∷ 1 ∷ 0 ∷ 1 ∷ 1 ∷ []
+  pub constants-are : constants sizes key ≡ 0 ∷ 1 ∷ 1 ∷ []
 
 -- The prover's bytes, section by section and whole.
 pub record SecondBytes : Type 0 where

@@ -1,0 +1,3 @@
+pub mod SecondSitting
+pub mod SittingFactors
+pub mod ChangedProofs

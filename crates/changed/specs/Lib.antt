@@ -1,0 +1,2 @@
+pub mod SecondSitting
+pub mod ChangedProofs
