@@ -91,7 +91,7 @@ linear s key i = table (s .n) (λ c. bits16 .K .byte (bSym bits16 s key i c))
 abbrev pub constants : Shape → List ℕ → List ℕ
 constants s key = table (s .m) (λ i. bits16 .K .byte (ySym bits16 s key i))
 
--- The key read back. A and its transpose give the same forms fᵀA·f, so that no answer tells them apart.
+-- The key read back, beside the bits of its bytes. A and its transpose give the same forms fᵀA·f, so that no answer tells them apart.
 pub record SmallKey : Type 0 where
   pub row-1-2 : row sizes key 1 2 ≡ 1 ∷ 0 ∷ 0 ∷ 1 ∷ 1 ∷ 1 ∷ 0 ∷ 1 ∷ 0 ∷ []
   pub linear-1 : linear sizes key 1 ≡ 0 ∷ 0 ∷ 0 ∷ 1 ∷ 0 ∷ 0 ∷ 0 ∷ 1 ∷ 1 ∷ []
@@ -121,6 +121,6 @@ pub record SmallReplies : Type 0 where
   pub first-named : reply (changed (changed proof 21 1) 23 1) ≡ 917504
   -- QS0 in repetition 0, Ṽ in repetition 1: 14 is asked of every repetition before 15 is of any
   pub fourteen-first : reply (changed (changed proof 29 1) 23 1) ≡ 917505
-  -- the candidate witness of repetition 1, of the proof and of the proof with a byte of C changed
+  -- the candidate witness of repetition 1: that of an honest proof is the witness, and a bit of C changed changes that bit
   pub candidate-is : candidateBytes bits16 key leaves proof 1 ≡ witness
   pub candidate-changed : candidateBytes bits16 key leaves (changed proof 4 1) 1 ≡ changed witness 0 1
