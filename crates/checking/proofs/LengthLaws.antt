@@ -13,7 +13,7 @@ use lib.Seq.{drop-drop, getD-drop, take-suc-set}
 use Rattle.protocol.specs.Frames.{num2, num4, framed, framedLength}
 use Rattle.protocol.specs.Reader.{between, missing, sectionAt}
 use Rattle.protocol.specs.Check.{lengthsIn}
-use Rattle.format.proofs.SectionLaws.{section-is, follow-missing, follow-next, follow-end}
+use Rattle.sections.proofs.SectionLaws.{section-is, follow-missing, follow-next, follow-end}
 
 num4-drop : (s : List ℕ) (d k : ℕ) → num4 (drop d s) k ≡ num4 s (d + k)
 unfolding num4 num2

@@ -11,7 +11,7 @@ use Rattle.protocol.specs.Binary.{bits256}
 use Rattle.protocol.specs.Calls.{verifyAnswer}
 use Rattle.protocol.specs.Check.{answered, unread, lengthsIn, readable, checkOf}
 use Rattle.protocol.proofs.TestLaws.{leb-yes, leb-no, both-true}
-use Rattle.format.proofs.SectionLaws.{and-no}
+use Rattle.sections.proofs.SectionLaws.{and-no}
 use Rattle.checking.specs.Checked.{verifyParts}
 
 not-readable : (s : List ℕ) → readable 6 65536 s ≡ false → unread ≡ checkOf bits256 s

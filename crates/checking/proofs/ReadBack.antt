@@ -15,7 +15,7 @@ use Rattle.protocol.specs.Calls.{verifyAnswer}
 use Rattle.protocol.specs.Check.{answered, lengthsIn, checkOf}
 use Rattle.protocol.proofs.TestLaws.{leb-le}
 use Rattle.protocol.proofs.FrameLaws.{Short, count-back, frame-skip, frame-framed, frame-section, length-frame}
-use Rattle.format.proofs.SectionLaws.{framed-length}
+use Rattle.sections.proofs.SectionLaws.{framed-length}
 use Rattle.checking.specs.ReadBack.{six, ReadBack, TooLong, LeftOver, CutShort}
 use Rattle.checking.proofs.OutcomeLaws.{too-long, not-framed, read-whole, same-answer}
 

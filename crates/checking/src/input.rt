@@ -9,10 +9,10 @@ ghost use Rattle.protocol.specs.Check.{lengthsIn, checkOf};
 ghost use Rattle.format.specs.Verdict.{answerOf};
 ghost use Rattle.checking.specs.Checked.{checkedOf, verifyParts};
 use super::Checked;
-use format::Span;
 use format::Verdict;
-use format::sections::find;
-use format::sections::section_no;
+use sections::Span;
+use sections::find;
+use sections::section_no;
 
 // The most bytes that are taken, counts included.
 const MOST: usize = 65536;

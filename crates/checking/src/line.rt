@@ -24,7 +24,7 @@ fn put_word(out: &mut [u8], word: &[u8]) -> usize
     ensures { λ r. ⌜ r ≡ length (now (word .entry)) ⌝ }
     ensures put { λ r. ⌜ take r (now (out .exit)) ≡ now (word .entry) ⌝ }
 {
-    strings::copy_into(&mut out[..word.len()], word);
+    copies::copy_into(&mut out[..word.len()], word);
     word.len()
 }
 

@@ -25,7 +25,7 @@ use Rattle.protocol.proofs.StringLaws.{bit-lt}
 use Rattle.strings.specs.Sums.{byteAt}
 use Rattle.strings.proofs.Meaning.{byte-times}
 use Rattle.lanes.specs.Lanes.{lanes, laneAt}
-use Rattle.format.proofs.SectionLaws.{section-part}
+use Rattle.sections.proofs.SectionLaws.{section-part}
 use Rattle.tables.proofs.SumsMeaning.{byteOf}
 use Rattle.vole.proofs.SectionLaws.{in-width}
 use Rattle.opened.proofs.OpenedMeaning.{table-w}

@@ -6,11 +6,11 @@ ghost use Rattle.protocol.specs.Answers.{written};
 ghost use Rattle.protocol.specs.Calls.{hashAnswer, TestReply, CommitReply, BatchReply, ProveReply};
 ghost use Rattle.format.specs.Verdict.{answerOf};
 use format::Verdict;
+use proving::write_proof;
 use steps::witness::solved;
 use writing::write_batch;
 use writing::write_commit;
 use writing::write_hash;
-use writing::write_proof;
 
 // The second step (01): hash with H′. It takes no witness, and writes the sections ũ and Ṽ.
 pub fn hash(key: &[u8], leaves: &[u8], matrix: &[u8], out: &mut [u8]) -> Verdict

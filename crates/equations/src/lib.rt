@@ -51,7 +51,7 @@ fn equation_error(
     ensures { λ r. ⌜ ((xs : List ℕ) → ((c : ℕ) → byteAt xs c ≡ bit (now (x .entry)) c) → ((k : ℕ) → k < (n + 3) / 4 → Spread xs (bytesFor n) (now (masks .entry)) k) → r ≡ errorBit n (now (matrix .entry)) (now (row .entry)) y (now (x .entry))) ⌝ }
 {
     masked::witness_row(space, matrix, row, masks, n);
-    strings::row_product(space, x) ^ y
+    parity::row_product(space, x) ^ y
 }
 
 // errors[i] = the error of equation i. Every equation is looked at, whatever the others gave.

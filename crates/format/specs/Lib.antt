@@ -1,4 +1,2 @@
 pub mod Verdict
-pub mod Span
 pub mod Sizes
-pub mod Reading

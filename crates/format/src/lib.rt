@@ -1,14 +1,12 @@
-// The answers of the calls, and where a section stands, in the forms that 01 names.
+// The answers of the calls, in the forms that 01 names.
 pub mod numbers;
-pub mod sections;
 pub mod sizes;
-pub mod spare;
 
 pub use sizes::Sizes;
 ghost use mathlib.Core.Path.{_≡_};
 ghost use mathlib.Core.List.{[], _∷_};
 ghost use Prim.Native.Nat.{_<_};
-ghost use Rattle.protocol.specs.Answers.{refused, question, ask, word};
+ghost use Rattle.protocol.specs.Answers.{refused, question, ask};
 ghost use Rattle.format.specs.Verdict.{numberFor, answerOf, andThen};
 
 // Why a call refuses: one case for each question of 01.
@@ -40,12 +38,6 @@ pub struct Refusal {
 pub enum Verdict {
     Accepted,
     Refused(Refusal),
-}
-
-// Where a section's bytes start and end, or that it is not there whole.
-pub enum Span {
-    At { start: usize, end: usize },
-    Missing,
 }
 
 // The number that 01 gives a question.
@@ -89,17 +81,4 @@ pub fn also(so_far: Verdict, yes: bool, reason: Reason) -> Verdict
         return Verdict::Accepted;
     }
     refuse(reason, 0)
-}
-
-// What the schools' server receives: number × 65,536 + place, 0 for accepted.
-pub fn word_of(verdict: Verdict) -> u32
-    ensures { λ r. ⌜ r ≡ word (answerOf verdict) ⌝ }
-{
-    match verdict {
-        Verdict::Accepted => 0,
-        Verdict::Refused(refusal) => {
-            let reason = refusal.reason;
-            number(reason) * 65536 + refusal.place as u32
-        }
-    }
 }

@@ -6,12 +6,10 @@ ghost use lib.ListN.{length};
 ghost use Rattle.protocol.specs.Strings.{bytesFor};
 ghost use Rattle.protocol.specs.Binary.{bits256};
 ghost use Rattle.protocol.specs.Shape.{shapeOf, within, limits, kOf, lOf, wOf};
-ghost use Rattle.protocol.specs.Frames.{framedLength};
 ghost use Rattle.protocol.specs.Key.{keyLengths};
 ghost use Rattle.protocol.specs.Sections.{lengths, commitLengths, hashLengths, batchLengths};
 ghost use Rattle.format.specs.Sizes.{shapeFor};
 use super::numbers::number2;
-use super::sections::framed_length;
 use field::Gf256;
 
 // n variables, m equations, τ repetitions, t hash rows.
@@ -173,40 +171,4 @@ pub fn proof_lengths(s: Sizes) -> [usize; 6]
     let second = hash_lengths(s);
     let tau = s.tau;
     [first[0], first[1], second[0], second[1], tau, tau]
-}
-
-// What the first step writes, counts included.
-pub fn commit_bytes(s: Sizes) -> usize
-    requires { ⌜ limits (shapeFor s) ≡ true ⌝ }
-    ensures { λ r. ⌜ r ≡ framedLength (commitLengths bits256 (shapeFor s)) ⌝ }
-{
-    let lengths = commit_lengths(s);
-    framed_length(&lengths)
-}
-
-// What the second step writes, counts included.
-pub fn hash_bytes(s: Sizes) -> usize
-    requires { ⌜ limits (shapeFor s) ≡ true ⌝ }
-    ensures { λ r. ⌜ r ≡ framedLength (hashLengths bits256 (shapeFor s)) ⌝ }
-{
-    let lengths = hash_lengths(s);
-    framed_length(&lengths)
-}
-
-// What the third step writes, counts included.
-pub fn batch_bytes(s: Sizes) -> usize
-    requires { ⌜ limits (shapeFor s) ≡ true ⌝ }
-    ensures { λ r. ⌜ r ≡ framedLength (batchLengths bits256 (shapeFor s)) ⌝ }
-{
-    let lengths = batch_lengths(s);
-    framed_length(&lengths)
-}
-
-// A whole proof, counts included.
-pub fn proof_bytes(s: Sizes) -> usize
-    requires { ⌜ limits (shapeFor s) ≡ true ⌝ }
-    ensures { λ r. ⌜ r ≡ framedLength (lengths bits256 (shapeFor s)) ⌝ }
-{
-    let lengths = proof_lengths(s);
-    framed_length(&lengths)
 }

@@ -22,7 +22,7 @@ fn put_section(out: &mut [u8], section: &[u8])
     ensures { λ _. ⌜ now (out .exit) ≡ frame (now (section .entry) ∷ []) ⌝ }
 {
     put_count(&mut out[..4], section.len());
-    strings::copy_into(&mut out[4..], section);
+    copies::copy_into(&mut out[4..], section);
 }
 
 // Two sections, one after the other.

@@ -1,159 +1,17 @@
 // The vectors of all repetitions side by side: byte c·LANES + e of a table is coordinate c of the vector of repetition e.
-// A table, and what is computed from it, is secret: no branch and no index goes by it. Rows of bits that are looked up are public.
+// A table, and what is computed from it, is secret: no branch and no index goes by it.
 ghost use mathlib.Core.Path.{_≡_};
-ghost use mathlib.Core.List.{List};
-ghost use Prim.Native.Nat.{ℕ, _+_, _*_, _/_, _%_, _<_, _≤_};
+ghost use Prim.Native.Nat.{ℕ, _+_, _*_, _<_, _≤_};
 ghost use lib.ListN.{length};
 ghost use lib.Bits.{bitXor};
 ghost use Rattle.algebra.specs.Coded.{mulByte};
-ghost use Rattle.field.specs.Gf256.{gf256, maskElement};
-ghost use Rattle.strings.specs.Sums.{byteAt, bitOf, xorSum, selected};
-ghost use Rattle.lanes.specs.Lanes.{lanes, laneAt, entryByte, Tabled, lookedUp, maskLane, maskBits};
+ghost use Rattle.field.specs.Gf256.{gf256};
+ghost use Rattle.strings.specs.Sums.{byteAt};
+ghost use Rattle.lanes.specs.Lanes.{lanes, maskLane, maskBits};
 use field::Gf256;
 
 // As many as a key may have repetitions (01: 1..48). Lanes from a key's own number on hold anything.
 pub const LANES: usize = 48;
-
-// The entries of the table of sums for four coordinates, one for each value of half a byte of a row; and for the eight of a byte.
-const HALF: usize = 16;
-
-pub const PER_BYTE: usize = 32;
-
-fn wide(x: u8) -> usize
-    ensures { λ r. ⌜ r ≡ x ⌝ }
-{
-    x as usize
-}
-
-// Adds coordinate c of the table to out. Coordinates from n on are 0.
-fn add_coordinate(out: &mut [u8], c: usize, n: usize, table: &[u8])
-    requires { ⌜ (length (now out) ≡ lanes) × (length (now table) ≡ n * lanes) ⌝ }
-    ensures { λ _. ⌜ ((e : ℕ) → e < lanes → byteAt (now (out .exit)) e ≡ bitXor (byteAt (now (out .entry)) e) (laneAt (now (table .entry)) c e)) ⌝ }
-{
-    if c < n {
-        strings::xor_into(out, strings::row_at(table, LANES, c));
-    }
-}
-
-fn store(sums: &mut [u8], k: usize, src: &[u8; LANES])
-    requires { ⌜ (k * lanes + lanes ≤ length (now sums)) × (length (now src) ≡ lanes) ⌝ }
-    ensures { λ _. ⌜ ((e : ℕ) → e < lanes → laneAt (now (sums .exit)) k e ≡ byteAt (now (src .entry)) e) ⌝ }
-    ensures { λ _. ⌜ ((q e : ℕ) → (q ≡ k → ⊥) → e < lanes → laneAt (now (sums .exit)) q e ≡ laneAt (now (sums .entry)) q e) ⌝ }
-{
-    let at = k * LANES;
-    copy_lanes(&mut sums[at..at + LANES], src);
-}
-
-// Entry `to` becomes entry `from` plus a coordinate.
-fn fill_entry(sums: &mut [u8], from: usize, to: usize, coordinate: &[u8; LANES])
-    requires { ⌜ (from * lanes + lanes ≤ length (now sums)) × (to * lanes + lanes ≤ length (now sums)) × (length (now coordinate) ≡ lanes) ⌝ }
-    ensures { λ _. ⌜ ((e : ℕ) → e < lanes → laneAt (now (sums .exit)) to e ≡ bitXor (laneAt (now (sums .entry)) from e) (byteAt (now (coordinate .entry)) e)) ⌝ }
-    ensures { λ _. ⌜ ((q e : ℕ) → (q ≡ to → ⊥) → e < lanes → laneAt (now (sums .exit)) q e ≡ laneAt (now (sums .entry)) q e) ⌝ }
-{
-    let mut sum = [0u8; LANES];
-    strings::xor_of(&mut sum, strings::row_at(sums, LANES, from), coordinate);
-    store(sums, to, &sum);
-}
-
-// The `count` entries from base on, each plus a coordinate, become the next as many.
-fn fill_next(sums: &mut [u8], base: usize, count: usize, coordinate: &[u8; LANES])
-    requires { ⌜ ((base + count + count) * lanes ≤ length (now sums)) × (length (now coordinate) ≡ lanes) ⌝ }
-    ensures { λ _. ⌜ ((v e : ℕ) → v < count → e < lanes → laneAt (now (sums .exit)) (base + count + v) e ≡ bitXor (laneAt (now (sums .entry)) (base + v) e) (byteAt (now (coordinate .entry)) e)) ⌝ }
-    ensures { λ _. ⌜ ((q e : ℕ) → q < base + count → e < lanes → laneAt (now (sums .exit)) q e ≡ laneAt (now (sums .entry)) q e) ⌝ }
-{
-    let mut v = 0;
-    while v < count {
-        fill_entry(sums, base + v, base + count + v, coordinate);
-        v += 1;
-    }
-}
-
-// The sixteen sums of four coordinates: with each coordinate the sums so far are doubled.
-fn fill_group(sums: &mut [u8], g: usize, n: usize, table: &[u8])
-    requires { ⌜ ((g * 16 + 16) * lanes ≤ length (now sums)) × (length (now table) ≡ n * lanes) ⌝ }
-    ensures { λ _. ⌜ ((v e : ℕ) → v < 16 → e < lanes → laneAt (now (sums .exit)) (g * 16 + v) e ≡ entryByte (now (table .entry)) (g * 16 + v) e) ⌝ }
-    ensures { λ _. ⌜ ((q e : ℕ) → q < g * 16 → e < lanes → laneAt (now (sums .exit)) q e ≡ laneAt (now (sums .entry)) q e) ⌝ }
-{
-    let zero = [0u8; LANES];
-    store(sums, g * HALF, &zero);
-    let mut count = 1;
-    let mut s = 0;
-    while s < 4 {
-        let mut coordinate = [0u8; LANES];
-        add_coordinate(&mut coordinate, g * 4 + s, n, table);
-        fill_next(sums, g * HALF, count, &coordinate);
-        count *= 2;
-        s += 1;
-    }
-}
-
-// The first entries of the table of sums: sixteen for each four of the n coordinates. Made once, they serve every row of every matrix.
-pub fn fill_sums(sums: &mut [u8], count: usize, n: usize, table: &[u8])
-    requires { ⌜ (count * lanes ≤ length (now sums)) × (length (now table) ≡ n * lanes) × (count % 16 ≡ 0) ⌝ }
-    ensures { λ _. ⌜ Tabled (now (table .entry)) (now (sums .exit)) count ⌝ }
-{
-    let groups = count / HALF;
-    let mut g = 0;
-    while g < groups {
-        fill_group(sums, g, n, table);
-        g += 1;
-    }
-}
-
-// dst[e] ^= sums[low + e] ^ sums[high + e], for each lane. The count is a constant, so that a caller's local array stays in registers.
-fn xor_entries(dst: &mut [u8; LANES], sums: &[u8], low: usize, high: usize)
-    requires { ⌜ (low + lanes ≤ length (now sums)) × (high + lanes ≤ length (now sums)) × (length (now dst) ≡ lanes) ⌝ }
-    ensures { λ _. ⌜ length (now (dst .exit)) ≡ lanes ⌝ }
-    ensures { λ _. ⌜ ((e : ℕ) → e < lanes → byteAt (now (dst .exit)) e ≡ bitXor (byteAt (now (dst .entry)) e) (bitXor (byteAt (now (sums .entry)) (low + e)) (byteAt (now (sums .entry)) (high + e)))) ⌝ }
-{
-    let mut e = 0;
-    while e < LANES {
-        dst[e] ^= sums[low + e] ^ sums[high + e];
-        e += 1;
-    }
-}
-
-// Adds the two entries that byte b of a row, x, chooses. The row is public, so the table may be indexed by it.
-fn add_chosen(dst: &mut [u8; LANES], b: usize, x: u8, sums: &[u8])
-    requires { ⌜ ((b * 32 + 32) * lanes ≤ length (now sums)) × (length (now dst) ≡ lanes) ⌝ }
-    ensures { λ _. ⌜ length (now (dst .exit)) ≡ lanes ⌝ }
-    ensures { λ _. ⌜ ((e : ℕ) → e < lanes → byteAt (now (dst .exit)) e ≡ bitXor (byteAt (now (dst .entry)) e) (bitXor (laneAt (now (sums .entry)) (b * 32 + x % 16) e) (laneAt (now (sums .entry)) (b * 32 + 16 + x / 16) e))) ⌝ }
-{
-    let first = b * PER_BYTE;
-    let low = wide(x % 16);
-    let high = wide(x / 16);
-    xor_entries(
-        dst,
-        sums,
-        (first + low) * LANES,
-        (first + HALF + high) * LANES,
-    );
-}
-
-fn copy_lanes(out: &mut [u8], src: &[u8; LANES])
-    requires { ⌜ length (now out) ≡ lanes ⌝ }
-    ensures { λ _. ⌜ ((e : ℕ) → e < lanes → byteAt (now (out .exit)) e ≡ byteAt (now (src .entry)) e) ⌝ }
-{
-    let mut e = 0;
-    while e < LANES {
-        out[e] = src[e];
-        e += 1;
-    }
-}
-
-// out[e] = Σ row(c)·T[c][e] over the n coordinates of the table T that was summed: two additions for eight coordinates.
-pub fn look_up_row(out: &mut [u8], row: &[u8], sums: &[u8])
-    requires { ⌜ (length (now out) ≡ lanes) × (length (now row) * 32 * lanes ≤ length (now sums)) ⌝ }
-    ensures { λ _. ⌜ ((table : List ℕ) (n e : ℕ) → Tabled table (now (sums .entry)) (length (now (row .entry)) * 32) → length table ≡ n * lanes → n ≤ length (now (row .entry)) * 8 → e < lanes → byteAt (now (out .exit)) e ≡ selected n (now (row .entry)) table lanes e) ⌝ }
-{
-    let mut sum = [0u8; LANES];
-    let mut b = 0;
-    while b < row.len() {
-        add_chosen(&mut sum, b, row[b], sums);
-        b += 1;
-    }
-    copy_lanes(out, &sum);
-}
 
 // acc[e] ^= f[e]·t[e] in GF(256), for each lane. Both factors vary with e, so that no mask is the same for a whole loop and could become a branch.
 pub fn accumulate(acc: &mut [u8], f: &[u8], t: &[u8])

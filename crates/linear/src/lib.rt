@@ -8,10 +8,11 @@ ghost use Rattle.algebra.specs.Coded.{mulByte};
 ghost use Rattle.field.specs.Gf256.{gf256};
 ghost use Rattle.protocol.specs.Strings.{bytesFor};
 ghost use Rattle.strings.specs.Sums.{byteAt, selected};
-ghost use Rattle.lanes.specs.Lanes.{lanes, Tabled};
+ghost use Rattle.lanes.specs.Lanes.{lanes};
+ghost use Rattle.lookups.specs.Entries.{Tabled};
 ghost use Rattle.linear.specs.Linear.{linearByte};
 use lanes::LANES;
-use lanes::PER_BYTE;
+use lookups::PER_BYTE;
 
 // As many variables as a key may have (01: 1..160).
 const VARIABLES: usize = 160;
@@ -39,7 +40,7 @@ fn add_row(lin: &mut [u8], row: &[u8], i: usize, m: usize, chi: &[u8], tau: usiz
     let mut weights = [0u8; LANES];
     let mut products = [0u8; LANES];
     batching_bytes(&mut weights, i, m, chi, tau);
-    lanes::look_up_row(&mut products, row, sums);
+    lookups::look_up_row(&mut products, row, sums);
     lanes::accumulate(lin, &weights, &products);
 }
 
@@ -78,6 +79,6 @@ pub fn add_linear(
     ensures { λ _. ⌜ ((e : ℕ) → e < tau → byteAt (now (lin .exit)) e ≡ bitXor (byteAt (now (lin .entry)) e) (linearByte m m (now (chi .entry)) (now (rows .entry)) width n (now (table .entry)) e)) ⌝ }
 {
     let mut sums = [0u8; SUMS];
-    lanes::fill_sums(&mut sums, width * PER_BYTE, n, table);
+    lookups::fill_sums(&mut sums, width * PER_BYTE, n, table);
     add_rows(lin, rows, width, m, chi, tau, &sums);
 }

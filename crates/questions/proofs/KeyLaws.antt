@@ -14,7 +14,7 @@ use Rattle.protocol.specs.Answers.{Question, accepted, ask}
 use Rattle.protocol.proofs.TestLaws.{leb-le}
 use Rattle.protocol.proofs.AnswerLaws.{ask-accepts, all-yes}
 use Rattle.questions.specs.Asking.{keyQuestions, KeyForm}
-use Rattle.format.proofs.SectionLaws.{framed-length}
+use Rattle.sections.proofs.SectionLaws.{framed-length}
 
 -- a part that goes up to the end
 pub rest-is : (key : List ℕ) (at : ℕ) → take (length key - at) (drop at key) ≡ drop at key

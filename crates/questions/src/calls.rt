@@ -24,11 +24,11 @@ use format::Reason;
 use format::Verdict;
 use format::also;
 use format::sizes::Sizes;
-use format::sizes::batch_bytes;
-use format::sizes::commit_bytes;
-use format::sizes::hash_bytes;
-use format::sizes::proof_bytes;
 use format::sizes::sizes_of;
+use sections::outputs::batch_bytes;
+use sections::outputs::commit_bytes;
+use sections::outputs::hash_bytes;
+use sections::outputs::proof_bytes;
 
 fn commit_inputs(leaves: &[u8], witness: &[u8], out_len: usize, s: Sizes) -> Verdict
     requires { ⌜ limits (shapeFor s) ≡ true ⌝ }

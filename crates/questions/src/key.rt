@@ -16,15 +16,15 @@ use format::Reason;
 use format::Verdict;
 use format::also;
 use format::refuse;
-use format::sections::framed_length;
-use format::sections::section_no;
-use format::sections::sections_form;
 use format::sizes::Sizes;
 use format::sizes::in_limits;
 use format::sizes::key_lengths;
 use format::sizes::sizes_of;
-use format::spare::row_spare;
-use format::spare::rows_spare;
+use sections::framed_length;
+use sections::section_no;
+use sections::sections_form;
+use spare::row_spare;
+use spare::rows_spare;
 
 // The bytes of n, m, τ, t.
 const HEADER: usize = 8;

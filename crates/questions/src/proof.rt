@@ -15,14 +15,14 @@ ghost use Rattle.format.specs.Verdict.{answerOf, andThen};
 use format::Reason;
 use format::Verdict;
 use format::also;
-use format::sections::framed_length;
-use format::sections::sections_form;
 use format::sizes::Sizes;
 use format::sizes::leaf_bits;
 use format::sizes::proof_lengths;
-use format::spare::row_spare;
-use format::spare::rows_spare;
 use reader::read_section;
+use sections::framed_length;
+use sections::sections_form;
+use spare::row_spare;
+use spare::rows_spare;
 
 // The places of the sections C, d, ũ, Ṽ, QS0, QS1.
 pub const C: usize = 0;

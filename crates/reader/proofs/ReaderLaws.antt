@@ -13,8 +13,8 @@ use Rattle.algebra.proofs.CountLaws.{and-right}
 use Rattle.protocol.specs.Lists.{part}
 use Rattle.protocol.specs.Frames.{num4, framed, sectionNo, framedLength}
 use Rattle.protocol.specs.Answers.{accepted}
-use Rattle.format.specs.Reading.{Reads}
-use Rattle.format.proofs.SectionLaws.{whole, section-end, section-part, length-part, framed-length}
+use Rattle.sections.specs.Reading.{Reads}
+use Rattle.sections.proofs.SectionLaws.{whole, section-end, section-part, length-part, framed-length}
 use Rattle.reader.specs.Taking.{answerOn, nextOn, bytesOn, answerAt, nextAt, bytesAt}
 
 -- what is left after i sections is the sections after them

@@ -4,11 +4,11 @@ ghost use Rattle.format.specs.Verdict.{answerOf};
 ghost use Rattle.reader.specs.Taking.{answerAt, nextAt, bytesAt};
 ghost use Rattle.reader.specs.Moved.{movedOn};
 use format::Reason;
-use format::Span;
 use format::Verdict;
 use format::refuse;
-use format::sections::find;
-use format::sections::section;
+use sections::Span;
+use sections::find;
+use sections::section;
 
 // The lent proof and how far it has been read.
 pub struct Reader<'a> {

@@ -22,8 +22,8 @@ use Rattle.protocol.proofs.BinaryLaws.{bits256-lawful}
 use Rattle.protocol.proofs.HonestLaws.{bounds-of, exact, sections-back}
 use Rattle.protocol.proofs.Theorems.{steps-are-whole}
 use Rattle.protocol.proofs.Demands.{accepts-exactly-when, honest-proof-accepted}
-use Rattle.format.specs.Reading.{Reads}
-use Rattle.format.proofs.ReadingLaws.{proof-read}
+use Rattle.sections.specs.Reading.{Reads}
+use Rattle.sections.proofs.ReadingLaws.{proof-read}
 use Rattle.solfadrus.specs.Told.{Told, Writes}
 use Rattle.solfadrus.specs.Demands.{EveryAnswerListed, RefusedKeeps, AcceptedWrites, RefusedWhenFails, VerifierAcceptsExactly, WrittenIsAccepted, StepsMakeWhole, ReadsBack}
 

@@ -19,7 +19,7 @@ use Rattle.protocol.specs.Questions.{consistentIn, productIn}
 use Rattle.protocol.specs.Calls.{hashAnswer, verifyAnswer, TestReply, CommitReply, BatchReply, ProveReply, testForm, commitForm, batchForm, proveForm, verifyForm}
 use Rattle.protocol.specs.Counting.{opening}
 use Rattle.protocol.specs.Statements.{SomeFails}
-use Rattle.format.specs.Reading.{Reads}
+use Rattle.sections.specs.Reading.{Reads}
 use Rattle.solfadrus.specs.Told.{Told, Writes}
 
 abbrev pub Listed : Shape → ℕ → Type 0

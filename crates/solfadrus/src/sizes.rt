@@ -100,7 +100,7 @@ pub extern "C" fn mq_commit_size(n: usize, m: usize, tau: usize, t: usize) -> us
 {
     let s = Sizes { n, m, tau, t };
     if format::sizes::in_limits(s) {
-        format::sizes::commit_bytes(s)
+        sections::outputs::commit_bytes(s)
     } else {
         0
     }
@@ -112,7 +112,7 @@ pub extern "C" fn mq_hash_size(n: usize, m: usize, tau: usize, t: usize) -> usiz
 {
     let s = Sizes { n, m, tau, t };
     if format::sizes::in_limits(s) {
-        format::sizes::hash_bytes(s)
+        sections::outputs::hash_bytes(s)
     } else {
         0
     }
@@ -124,7 +124,7 @@ pub extern "C" fn mq_batch_size(n: usize, m: usize, tau: usize, t: usize) -> usi
 {
     let s = Sizes { n, m, tau, t };
     if format::sizes::in_limits(s) {
-        format::sizes::batch_bytes(s)
+        sections::outputs::batch_bytes(s)
     } else {
         0
     }
@@ -136,7 +136,7 @@ pub extern "C" fn mq_proof_size(n: usize, m: usize, tau: usize, t: usize) -> usi
 {
     let s = Sizes { n, m, tau, t };
     if format::sizes::in_limits(s) {
-        format::sizes::proof_bytes(s)
+        sections::outputs::proof_bytes(s)
     } else {
         0
     }

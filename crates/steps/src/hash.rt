@@ -4,7 +4,8 @@ ghost use Prim.Native.Nat.{ℕ, _+_, _*_, _<_, _≤_};
 ghost use lib.ListN.{length, take};
 ghost use lib.Bits.{bitXor};
 ghost use Rattle.strings.specs.Sums.{byteAt, selected};
-ghost use Rattle.lanes.specs.Lanes.{lanes, laneAt, Tabled};
+ghost use Rattle.lanes.specs.Lanes.{lanes, laneAt};
+ghost use Rattle.lookups.specs.Entries.{Tabled};
 ghost use Rattle.steps.specs.Hashed.{hashLane};
 use lanes::LANES;
 
@@ -14,7 +15,7 @@ fn hash_row(out: &mut [u8], row: &[u8], identity: usize, table: &[u8], sums: &[u
     requires { ⌜ Tabled (take (length (now row) * 8 * lanes) (now table)) (now sums) (length (now row) * 32) ⌝ }
     ensures { λ _. ⌜ ((e : ℕ) → e < lanes → byteAt (now (out .exit)) e ≡ bitXor (selected (length (now (row .entry)) * 8) (now (row .entry)) (now (table .entry)) lanes e) (laneAt (now (table .entry)) identity e)) ⌝ }
 {
-    lanes::look_up_row(out, row, sums);
+    lookups::look_up_row(out, row, sums);
     strings::xor_into(out, strings::row_at(table, LANES, identity));
 }
 

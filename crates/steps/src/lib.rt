@@ -10,13 +10,19 @@ ghost use Rattle.protocol.specs.Strings.{bytesFor};
 ghost use Rattle.protocol.specs.Binary.{bits256};
 ghost use Rattle.protocol.specs.Shape.{shapeOf, limits, kOf, wOf};
 ghost use Rattle.protocol.specs.Prover.{cSection, dSection, ũSection, ṼSection, qs0Section, qs1Section};
-ghost use Rattle.lanes.specs.Lanes.{lanes, Tabled};
+ghost use Rattle.lanes.specs.Lanes.{lanes};
+ghost use Rattle.lookups.specs.Entries.{Tabled};
 ghost use Rattle.format.specs.Sizes.{shapeFor};
 ghost use Rattle.steps.specs.Loaded.{LeavesForm, HashForm, Loaded};
 ghost use Rattle.steps.specs.Facts.{KeyFacts, WitnessForm};
 use format::Sizes;
 use hash::hash_lanes;
 use lanes::LANES;
+
+// Room for the largest key: bytes of a leaf, bytes of a row of bits. Its repetitions are the lanes.
+pub const MOST_LEAF: usize = 41;
+
+pub const MOST_ROW: usize = 21;
 
 // C and d. The leaves are named by the contract only.
 pub fn fill_commit(
@@ -47,7 +53,7 @@ pub fn fill_entries(entries: &mut [u8], table: &[u8], s: Sizes)
 {
     let width = format::sizes::bytes_for(format::sizes::hashed_bits(s));
     let rows = width * 8;
-    lanes::fill_sums(entries, width * 32, rows, &table[..rows * LANES]);
+    lookups::fill_sums(entries, width * 32, rows, &table[..rows * LANES]);
 }
 
 // ũ and Ṽ.

@@ -6,4 +6,3 @@ pub mod Meaning
 pub mod Packed
 pub mod BitLaws
 pub mod ProductLaws
-pub mod WordLaws

@@ -1,12 +1,11 @@
-// Byte strings as the code walks them: sums in place, rows of a table, spare bits, and the product of two rows of bits.
+// Byte strings as the code walks them: sums in place, rows of a table, and single bits.
 ghost use mathlib.Core.Path.{_≡_};
 ghost use Prim.Native.Nat.{ℕ, _+_, _*_, _<_, _≤_};
 ghost use lib.ListN.{length};
 ghost use lib.Bits.{bitXor};
 ghost use Rattle.protocol.specs.Lists.{blockAt};
-ghost use Rattle.protocol.specs.Strings.{bytesFor, bit};
+ghost use Rattle.protocol.specs.Strings.{bit};
 ghost use Rattle.strings.specs.Sums.{byteAt};
-ghost use Rattle.strings.specs.Products.{shared, product, wordOf};
 
 // dst[i] ^= src[i], for each i.
 pub fn xor_into(dst: &mut [u8], src: &[u8])
@@ -55,18 +54,6 @@ pub fn clear(dst: &mut [u8])
     }
 }
 
-// dst becomes src.
-pub fn copy_into(dst: &mut [u8], src: &[u8])
-    requires { ⌜ length (now src) ≡ length (now dst) ⌝ }
-    ensures { λ _. ⌜ now (dst .exit) ≡ now (src .entry) ⌝ }
-{
-    let mut i = 0;
-    while i < src.len() {
-        dst[i] = src[i];
-        i += 1;
-    }
-}
-
 // Row i of a table, as that part of it.
 pub fn row_at(table: &[u8], width: usize, i: usize) -> &[u8]
     requires { ⌜ i * width + width ≤ length (now table) ⌝ }
@@ -102,74 +89,4 @@ pub fn xor_bit(s: &mut [u8], c: usize, q: u8)
     ensures { λ _. ⌜ ((d : ℕ) → (d ≡ c → ⊥) → bit (now (s .exit)) d ≡ bit (now (s .entry)) d) ⌝ }
 {
     s[c / 8] ^= q << (c % 8);
-}
-
-// Makes the spare bits of a string of n coordinates 0, by a mask: n alone decides whether there are any.
-pub fn clear_spare(s: &mut [u8], n: usize)
-    requires { ⌜ length (now s) ≡ bytesFor n ⌝ }
-    ensures { λ _. ⌜ ((c : ℕ) → c < n → bit (now (s .exit)) c ≡ bit (now (s .entry)) c) ⌝ }
-    ensures { λ _. ⌜ ((c : ℕ) → n ≤ c → c < length (now (s .entry)) * 8 → bit (now (s .exit)) c ≡ 0) ⌝ }
-{
-    if n % 8 != 0 {
-        s[n / 8] &= (1u8 << (n % 8)) - 1;
-    }
-}
-
-fn wide(x: u8) -> u64
-    ensures { λ r. ⌜ r ≡ x ⌝ }
-{
-    x as u64
-}
-
-// Eight bytes as one number, lowest first: one load.
-fn word_at(s: &[u8], at: usize) -> u64
-    requires { ⌜ at + 8 ≤ length (now s) ⌝ }
-    ensures { λ r. ⌜ r ≡ wordOf (now (s .entry)) at 8 ⌝ }
-{
-    wide(s[at])
-        | wide(s[at + 1]) << 8
-        | wide(s[at + 2]) << 16
-        | wide(s[at + 3]) << 24
-        | wide(s[at + 4]) << 32
-        | wide(s[at + 5]) << 40
-        | wide(s[at + 6]) << 48
-        | wide(s[at + 7]) << 56
-}
-
-// The ones that two rows share in their first words of eight bytes.
-fn shared_words(row: &[u8], x: &[u8], words: usize) -> u32
-    requires { ⌜ (length (now x) ≡ length (now row)) × (length (now row) ≤ 100000) × (words * 8 ≤ length (now row)) ⌝ }
-    ensures { λ r. ⌜ r ≡ shared (words * 8) (now (row .entry)) (now (x .entry)) ⌝ }
-{
-    let mut count = 0u32;
-    let mut i = 0;
-    while i < words {
-        count += u64::count_ones(word_at(row, i * 8) & word_at(x, i * 8));
-        i += 1;
-    }
-    count
-}
-
-// The ones that two rows share from byte `from` on.
-fn shared_bytes(row: &[u8], x: &[u8], from: usize) -> u32
-    requires { ⌜ (length (now x) ≡ length (now row)) × (length (now row) ≤ 100000) × (from ≤ length (now row)) ⌝ }
-    ensures { λ r. ⌜ r + shared from (now (row .entry)) (now (x .entry)) ≡ shared (length (now (row .entry))) (now (row .entry)) (now (x .entry)) ⌝ }
-{
-    let mut count = 0u32;
-    let mut i = from;
-    while i < row.len() {
-        count += u8::count_ones(row[i] & x[i]);
-        i += 1;
-    }
-    count
-}
-
-// The product of two rows of bits over GF(2), as 01 has it: the parity of the ones that they share, counted in words and then in bytes.
-pub fn row_product(row: &[u8], x: &[u8]) -> u8
-    requires { ⌜ (length (now x) ≡ length (now row)) × (length (now row) ≤ 100000) ⌝ }
-    ensures { λ r. ⌜ (r ≡ product (length (now (row .entry)) * 8) (now (row .entry)) (now (x .entry))) × (r < 2) ⌝ }
-{
-    let words = row.len() / 8;
-    let count = shared_words(row, x, words) + shared_bytes(row, x, words * 8);
-    (count % 2) as u8
 }

@@ -39,7 +39,7 @@ pub fn write_difference(out: &mut [u8], witness: &[u8], u: &[u8], n: usize)
 {
     let count = out.len();
     strings::xor_of(out, witness, &u[..count]);
-    strings::clear_spare(out, n);
+    copies::clear_spare(out, n);
 }
 
 // Row rho of H = [H′ | identity] times u: the product with row rho of H′, plus bit k + rho, where the identity has its 1.
@@ -49,7 +49,7 @@ fn hash_bit(matrix: &[u8], u: &[u8], k: usize, rho: usize) -> u8
 {
     let width = (k + 7) / 8;
     let row = strings::row_at(matrix, width, rho);
-    strings::row_product(row, &u[..width]) ^ strings::bit_at(u, k + rho)
+    parity::row_product(row, &u[..width]) ^ strings::bit_at(u, k + rho)
 }
 
 // 01's section ũ = H·u, of t bits, with H′ as the matrix.

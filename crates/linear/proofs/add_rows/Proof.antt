@@ -14,7 +14,8 @@ use Rattle.protocol.specs.Lists.{blockAt}
 use Rattle.strings.specs.Sums.{byteAt, xorSum, selected}
 use Rattle.strings.proofs.Rows.{row-end}
 use Rattle.strings.proofs.SumLaws.{sum-step}
-use Rattle.lanes.specs.Lanes.{lanes, Tabled}
+use Rattle.lanes.specs.Lanes.{lanes}
+use Rattle.lookups.specs.Entries.{Tabled}
 use Rattle.linear.specs.Linear.{linearByte}
 use Rattle.linear.proofs.add_rows.Statement.{statement}
 use Rattle.linear.proofs.add_rows.Tie as tie

@@ -2,7 +2,7 @@
 -- Assumes nothing.
 use mathlib.Core.Path.{ap, _∙_}
 use borrow.Author.Needs.{needs}
-use Rattle.format.proofs.SpanLaws.{found, not-found}
+use Rattle.sections.proofs.SpanLaws.{found, not-found}
 use Rattle.reader.specs.Taking.{answerOn, answerAt}
 use Rattle.reader.proofs.answer_at.Statement.{statement}
 use Rattle.reader.proofs.answer_at.Tie as tie

@@ -2,7 +2,7 @@
 -- Assumes nothing.
 use mathlib.Core.Path.{ap}
 use borrow.Author.Needs.{needs}
-use Rattle.format.proofs.SpanLaws.{found, not-found}
+use Rattle.sections.proofs.SpanLaws.{found, not-found}
 use Rattle.reader.specs.Taking.{nextOn, nextAt}
 use Rattle.reader.proofs.next_at.Statement.{statement}
 use Rattle.reader.proofs.next_at.Tie as tie

@@ -2,7 +2,7 @@
 -- Assumes nothing.
 use mathlib.Core.Path.{ap, _∙_}
 use borrow.Author.Needs.{needs}
-use Rattle.format.proofs.SpanLaws.{found, not-found, found-inside}
+use Rattle.sections.proofs.SpanLaws.{found, not-found, found-inside}
 use Rattle.reader.specs.Taking.{bytesOn, bytesAt}
 use Rattle.reader.proofs.section_at.Statement.{statement}
 use Rattle.reader.proofs.section_at.Tie as tie

@@ -13,7 +13,8 @@ use Rattle.protocol.specs.Shape.{Shape, kOf, lOf, wOf}
 use Rattle.protocol.proofs.ListLaws.{row-end}
 use Rattle.format.specs.Sizes.{shapeFor}
 use Rattle.format.proofs.SizeLaws.{in-limits, k-most, w-most, bytes-most}
-use Rattle.lanes.specs.Lanes.{lanes, Tabled}
+use Rattle.lanes.specs.Lanes.{lanes}
+use Rattle.lookups.specs.Entries.{Tabled}
 use Rattle.steps.proofs.FitLaws.{k-fits, l-fits}
 use borrow.Author.Needs.{needs}
 use Rattle.steps.proofs.fill_entries.Statement.{statement}

@@ -5,7 +5,7 @@ use native.Mathlib.Omega.{arith}
 use denote.Ref.{now}
 use Rattle.protocol.specs.Frames.{framedLength}
 use Rattle.protocol.specs.Check.{answered, lengthsIn}
-use Rattle.format.proofs.SectionLaws.{framed-length}
+use Rattle.sections.proofs.SectionLaws.{framed-length}
 use borrow.Author.Needs.{needs}
 use Rattle.checking.specs.Checked.{verifyParts}
 use Rattle.checking.proofs.OutcomeLaws.{too-long, not-framed, read-whole, was-no, was-yes}

@@ -10,7 +10,7 @@ use lib.ListN.{length, take, drop, length-set}
 use lib.Seq.{take-all}
 use Rattle.protocol.specs.Frames.{framed, framedLength}
 use Rattle.protocol.specs.Check.{lengthsIn}
-use Rattle.format.proofs.SpanLaws.{found, not-found, found-inside}
+use Rattle.sections.proofs.SpanLaws.{found, not-found, found-inside}
 use Rattle.checking.proofs.LengthLaws.{turn-first, turn-missing, turn-next, turn-end, lengths-more, end-more}
 use Rattle.checking.proofs.input.read_lengths.Statement.{statement}
 use Rattle.checking.proofs.input.read_lengths.Tie as tie

@@ -12,7 +12,7 @@ use Rattle.protocol.specs.Binary.{bits256}
 use Rattle.protocol.specs.Shape.{Shape}
 use Rattle.protocol.specs.Sections.{lengths}
 use Rattle.format.specs.Sizes.{shapeFor}
-use Rattle.format.proofs.SectionLaws.{length-up-to, framed-length}
+use Rattle.sections.proofs.SectionLaws.{length-up-to, framed-length}
 use Rattle.reader.specs.Taking.{bytesAt}
 use Rattle.reader.proofs.ReaderLaws.{section-read, section-length}
 use Rattle.questions.proofs.proof.proof_section.Statement.{statement}

@@ -13,7 +13,8 @@ use lib.ListN.{length, take}
 use lib.Bits.{bitXor}
 use Rattle.protocol.proofs.ListLaws.{row-end}
 use Rattle.strings.specs.Sums.{byteAt, selected}
-use Rattle.lanes.specs.Lanes.{lanes, laneAt, Tabled}
+use Rattle.lanes.specs.Lanes.{lanes, laneAt}
+use Rattle.lookups.specs.Entries.{Tabled}
 use Rattle.steps.specs.Hashed.{hashLane}
 use Rattle.steps.proofs.hash.hash_lanes.Statement.{statement}
 use Rattle.steps.proofs.hash.hash_lanes.Tie as tie

@@ -1,0 +1,2 @@
+pub mod ParityLaws
+pub mod WordLaws

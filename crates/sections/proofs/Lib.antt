@@ -1,0 +1,3 @@
+pub mod SectionLaws
+pub mod SpanLaws
+pub mod ReadingLaws
