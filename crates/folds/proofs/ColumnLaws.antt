@@ -22,7 +22,7 @@ use Rattle.strings.proofs.Meaning.{bitOf-xor, bitOf-zero}
 use Rattle.strings.proofs.Rows.{row-end, put-in}
 use Rattle.chunks.specs.Chunks.{chunk, cellAt}
 use Rattle.folds.specs.Folds.{entry, foldedBit}
-use Rattle.folds.specs.Turns.{TurnedAt}
+use Rattle.turns.specs.Turns.{TurnedAt}
 use Rattle.folds.specs.Columns.{Paired, TurnedIn, Mirrored, Reflected, Joined, Put, Kept, FoldedAt}
 
 -- what holds below n, and of n, holds below n + 1

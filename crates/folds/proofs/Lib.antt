@@ -1,4 +1,2 @@
 pub mod ColumnLaws
 pub mod PanelLaws
-pub mod PassLaws
-pub mod TurnLaws

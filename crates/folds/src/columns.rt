@@ -6,13 +6,13 @@ ghost use Rattle.protocol.specs.Strings.{bytesFor};
 ghost use Rattle.strings.specs.Sums.{byteAt, bitOf};
 ghost use Rattle.chunks.specs.Chunks.{chunk, cellAt};
 ghost use Rattle.folds.specs.Columns.{Paired, TurnedIn, Mirrored, Reflected, Joined, Put, Kept, FoldedAt};
-use super::turns::EIGHT_ROWS;
-use super::turns::SIXTEEN;
-use super::turns::turn_rows;
 use chunks::CHUNK;
 use chunks::cells::copy_front;
 use chunks::cells::least;
 use chunks::masks::fill_part;
+use turns::EIGHT_ROWS;
+use turns::SIXTEEN;
+use turns::turn_rows;
 
 // The most bytes that eight rows have, and the most rows.
 pub const ROWS: usize = 160;

@@ -10,7 +10,6 @@ use columns::load_matrix;
 use strings::row_at;
 
 mod columns;
-mod turns;
 
 // Panel J of each of m matrices. The kernels read it in the order of the cells: sixteen rows, then a matrix, then each of its two columns of bytes.
 pub fn load_panel(cells: &mut [u8], a: &[u8], n: usize, width: usize, m: usize, panel: usize)

@@ -1,10 +1,10 @@
--- `folds::turns::turn_rows` meets its contract: what is turned is a copy of the rows.
+-- `turns::turn_rows` meets its contract: what is turned is a copy of the rows.
 -- Assumes nothing.
 use borrow.Author.Needs.{needs}
 use denote.Ref.{now}
-use Rattle.folds.proofs.TurnLaws.{turned-at}
-use Rattle.folds.proofs.turns.turn_rows.Statement.{statement}
-use Rattle.folds.proofs.turns.turn_rows.Tie as tie
+use Rattle.turns.proofs.TurnLaws.{turned-at}
+use Rattle.turns.proofs.turn_rows.Statement.{statement}
+use Rattle.turns.proofs.turn_rows.Tie as tie
 
 slice-aggregate-copy-rows : tie.Need-slice-aggregate-copy-rows
 slice-aggregate-copy-rows c = search needs

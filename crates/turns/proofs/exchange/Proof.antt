@@ -1,4 +1,4 @@
--- `folds::turns::exchange` meets its contract. The invariant: the first j bytes of each half are exchanged.
+-- `turns::exchange` meets its contract. The invariant: the first j bytes of each half are exchanged.
 -- Assumes nothing.
 use borrow.Author.Needs.{needs}
 use Prim.Native.Nat.{_-_, _≤_}
@@ -6,10 +6,10 @@ use mathlib.Core.Path.{_≡_, refl}
 use native.Mathlib.Omega.{arith}
 use denote.Ref.{now}
 use lib.ListN.{length, length-set}
-use Rattle.folds.specs.Turns.{Exchanged}
-use Rattle.folds.proofs.PassLaws.{exchanged-more}
-use Rattle.folds.proofs.turns.exchange.Statement.{statement}
-use Rattle.folds.proofs.turns.exchange.Tie as tie
+use Rattle.turns.specs.Turns.{Exchanged}
+use Rattle.turns.proofs.PassLaws.{exchanged-more}
+use Rattle.turns.proofs.exchange.Statement.{statement}
+use Rattle.turns.proofs.exchange.Tie as tie
 
 abbrev Inv-loop : tie.InvT-loop
 Inv-loop out₀ rows s mask j₀ out j = (j ≤ 64) × (length out ≡ length out₀) × Exchanged s rows j out

@@ -1,4 +1,4 @@
--- `folds::turns::merge` meets its contract. The invariant: the first 2j bytes are merged.
+-- `turns::merge` meets its contract. The invariant: the first 2j bytes are merged.
 -- Assumes nothing.
 use borrow.Author.Needs.{needs}
 use Prim.Native.Nat.{ℕ, _+_, _*_, _-_, _/_, _%_, _≤_, _<_}
@@ -7,9 +7,9 @@ use native.Mathlib.Omega.{arith}
 use denote.Ref.{now}
 use lib.ListN.{length, length-set}
 use Rattle.strings.specs.Sums.{byteAt}
-use Rattle.folds.proofs.PassLaws.{merged-more}
-use Rattle.folds.proofs.turns.merge.Statement.{statement}
-use Rattle.folds.proofs.turns.merge.Tie as tie
+use Rattle.turns.proofs.PassLaws.{merged-more}
+use Rattle.turns.proofs.merge.Statement.{statement}
+use Rattle.turns.proofs.merge.Tie as tie
 
 abbrev Inv-loop : tie.InvT-loop
 Inv-loop out₀ rows j₀ out j = (j ≤ 64) × (length out ≡ length out₀) × ((i : ℕ) → i < 2 * j → byteAt out i ≡ byteAt rows (i % 2 * 64 + i / 2))

@@ -17,7 +17,7 @@ use Rattle.strings.specs.Sums.{byteAt, bitOf}
 use Rattle.strings.proofs.Meaning.{bitOf-lt, bitOf-xor, bitOf-zero}
 use Rattle.strings.proofs.BitLaws.{kept-bit}
 use Rattle.strings.proofs.XorLaws.{xor-assoc}
-use Rattle.folds.specs.Turns.{Step, moved, Exchanged, Spread}
+use Rattle.turns.specs.Turns.{Step, moved, Exchanged, Spread}
 
 -- ---- bits under a mask, and moved
 

@@ -1,10 +1,10 @@
--- `folds::turns::spread` meets its contract: an exchange, merged.
+-- `turns::spread` meets its contract: an exchange, merged.
 -- Assumes nothing.
 use borrow.Author.Needs.{needs}
 use denote.Ref.{now}
-use Rattle.folds.proofs.PassLaws.{spread}
-use Rattle.folds.proofs.turns.spread.Statement.{statement}
-use Rattle.folds.proofs.turns.spread.Tie as tie
+use Rattle.turns.proofs.PassLaws.{spread}
+use Rattle.turns.proofs.spread.Statement.{statement}
+use Rattle.turns.proofs.spread.Tie as tie
 
 slice-aggregate-exchange : tie.Need-slice-aggregate-exchange
 slice-aggregate-exchange c = search needs

@@ -1,4 +1,4 @@
--- `folds::turns::copy_rows` meets its contract. The invariant: the rows below z are copied.
+-- `turns::copy_rows` meets its contract. The invariant: the rows below z are copied.
 -- Assumes nothing.
 use borrow.Author.Needs.{needs}
 use Prim.Native.Nat.{_+_, _*_, _-_, _≤_}
@@ -8,8 +8,8 @@ use denote.Ref.{now}
 use lib.ListN.{length}
 use Rattle.strings.specs.Sums.{byteAt}
 use Rattle.strings.proofs.Rows.{RowsAre, rows-more, row-end}
-use Rattle.folds.proofs.turns.copy_rows.Statement.{statement}
-use Rattle.folds.proofs.turns.copy_rows.Tie as tie
+use Rattle.turns.proofs.copy_rows.Statement.{statement}
+use Rattle.turns.proofs.copy_rows.Tie as tie
 
 abbrev Inv-loop : tie.InvT-loop
 Inv-loop rows₀ src from width z₀ rows z = (z ≤ 8) × (length rows ≡ length rows₀) × RowsAre (λ i f. byteAt src (from + i * width + f)) rows z 16

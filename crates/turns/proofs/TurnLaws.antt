@@ -6,8 +6,8 @@ use Prim.Native.Nat.{ℕ, zero, suc, _+_, _*_, _-_, _/_, _%_, _≤_, _<_}
 use native.Mathlib.Nat.{mul-assoc, mul-comm, div-one}
 use native.Mathlib.Omega.{arith}
 use Rattle.strings.specs.Sums.{byteAt, bitOf}
-use Rattle.folds.specs.Turns.{Spread, Turned, TurnedAt}
-use Rattle.folds.proofs.PassLaws.{eight}
+use Rattle.turns.specs.Turns.{Spread, Turned, TurnedAt}
+use Rattle.turns.proofs.PassLaws.{eight}
 
 -- ---- three passes
 

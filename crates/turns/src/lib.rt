@@ -3,7 +3,7 @@ ghost use mathlib.Core.Path.{_≡_};
 ghost use Prim.Native.Nat.{ℕ, _+_, _*_, _/_, _%_, _<_, _≤_};
 ghost use lib.ListN.{length};
 ghost use Rattle.strings.specs.Sums.{byteAt};
-ghost use Rattle.folds.specs.Turns.{Step, Exchanged, Spread, Turned, TurnedAt};
+ghost use Rattle.turns.specs.Turns.{Step, Exchanged, Spread, Turned, TurnedAt};
 use chunks::cells::copy_front;
 
 pub const SIXTEEN: usize = 16;
@@ -52,7 +52,7 @@ fn spread(out: &mut [u8], rows: &[u8], s: usize, mask: u8)
 }
 
 // Byte r of out becomes column r of the eight rows. Each pass moves one bit of a row's number from a byte's place to a bit's place.
-fn turn(out: &mut [u8], rows: &[u8])
+pub fn turn(out: &mut [u8], rows: &[u8])
     requires { ⌜ (length (now rows) ≡ 128) × (128 ≤ length (now out)) ⌝ }
     ensures { λ _. ⌜ Turned 16 (now (rows .entry)) (now (out .exit)) ⌝ }
 {

@@ -1,13 +1,13 @@
--- `folds::turns::turn` meets its contract by its three passes.
+-- `turns::turn` meets its contract by its three passes.
 -- Assumes nothing.
 use borrow.Author.Needs.{needs}
 use mathlib.Core.Path.{refl}
 use mathlib.Core.Logic.{inl, inr}
 use native.Mathlib.Omega.{arith}
 use denote.Ref.{now}
-use Rattle.folds.proofs.TurnLaws.{turned}
-use Rattle.folds.proofs.turns.turn.Statement.{statement}
-use Rattle.folds.proofs.turns.turn.Tie as tie
+use Rattle.turns.proofs.TurnLaws.{turned}
+use Rattle.turns.proofs.turn.Statement.{statement}
+use Rattle.turns.proofs.turn.Tie as tie
 
 slice-aggregate-spread : tie.Need-slice-aggregate-spread
 slice-aggregate-spread c = search needs

@@ -1,4 +1,4 @@
--- `folds::turns::copy_row` meets its contract. The part that was lent is row z, and the others stand outside it.
+-- `turns::copy_row` meets its contract. The part that was lent is row z, and the others stand outside it.
 -- Assumes nothing.
 use borrow.Author.Needs.{needs}
 use Prim.Native.Nat.{_+_, _*_, _-_, _≤_}
@@ -8,8 +8,8 @@ use native.Mathlib.Omega.{arith}
 use denote.Ref.{now}
 use lib.ListN.{length, take, drop, length-take, length-drop}
 use Rattle.strings.proofs.Rows.{put-in, put-other}
-use Rattle.folds.proofs.turns.copy_row.Statement.{statement}
-use Rattle.folds.proofs.turns.copy_row.Tie as tie
+use Rattle.turns.proofs.copy_row.Statement.{statement}
+use Rattle.turns.proofs.copy_row.Tie as tie
 
 mul-at : tie.Need-mul-at
 mul-at c = search needs
