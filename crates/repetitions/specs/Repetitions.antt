@@ -1,11 +1,13 @@
 -- The two checks of each repetition on bytes, as the code makes them.
 --   rowConsistent hashed v u δ t == the consistency check of one repetition: hashed, of t entries, is v + δ·u
+--   BitMasks u masks == byte i of masks is 255 where bit i of u is set, and 0 elsewhere
 --   firstInconsistent == the first repetition whose rows of t entries do not pass it, or their number
 --   firstDiffering == the first repetition whose left side of the product check is not QS0 + QS1·δ, or their number
 -- Assumes nothing.
+use mathlib.Core.Path.{_≡_}
 use mathlib.Core.Bool.{Bool}
 use mathlib.Core.List.{List}
-use Prim.Native.Nat.{ℕ, _*_}
+use Prim.Native.Nat.{ℕ, _*_, _<_}
 use lib.Dec.{eqb}
 use lib.ListN.{length}
 use lib.Bits.{bitXor}
@@ -17,6 +19,9 @@ use Rattle.strings.specs.Sums.{byteAt}
 
 abbrev pub rowConsistent : List ℕ → List ℕ → List ℕ → ℕ → ℕ → Bool
 rowConsistent hashed v u δ t = allBelow t (λ ρ. eqb (byteAt hashed ρ) (bitXor (byteAt v ρ) (δ * bit u ρ)))
+
+abbrev pub BitMasks : List ℕ → List ℕ → Type 0
+BitMasks u masks = (i : ℕ) → i < length masks → byteAt masks i ≡ bit u i * 255
 
 abbrev pub firstInconsistent : List ℕ → List ℕ → List ℕ → List ℕ → ℕ → ℕ
 firstInconsistent hashed v u Δ t = firstNot (length Δ) (λ e. rowConsistent (blockAt hashed t e) (blockAt v t e) u (byteAt Δ e) t)

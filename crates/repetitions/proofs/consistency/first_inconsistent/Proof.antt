@@ -1,86 +1,34 @@
--- `repetitions::consistency::first_inconsistent` meets its contract. The invariant: the repetitions passed are consistent.
+-- `repetitions::consistency::first_inconsistent` meets its contract. It has room for the masks that it makes.
 -- Assumes nothing.
 use borrow.Author.Needs.{needs}
-use borrow.Author.Count.{below-more}
-use borrow.Author.Tests.{not-true, not-false}
-use Prim.Native.Nat.{ℕ, _*_, _-_, _≤_, _<_}
-use mathlib.Core.Path.{_≡_, sym, _∙_}
-use mathlib.Core.Bool.{Bool, true, false}
-use mathlib.Core.List.{List}
 use native.Mathlib.Omega.{arith}
-use denote.Ref.{now}
-use lib.ListN.{length}
-use Rattle.protocol.specs.Lists.{blockAt}
-use Rattle.strings.specs.Sums.{byteAt}
-use Rattle.strings.proofs.Rows.{row-end}
-use Rattle.repetitions.specs.Repetitions.{rowConsistent}
-use Rattle.repetitions.proofs.FirstLaws.{first-at, first-none}
+use lib.ListN.{length-take}
 use Rattle.repetitions.proofs.consistency.first_inconsistent.Statement.{statement}
 use Rattle.repetitions.proofs.consistency.first_inconsistent.Tie as tie
 
--- the test of the rows that were lent is that of the blocks
-told : (h v h′ v′ : List ℕ) {t : ℕ} → (h ≡ h′) × (length h ≡ t) → v ≡ v′ → (u : List ℕ) (δ : ℕ) (b : Bool) {r : Bool} → r ≡ rowConsistent h v u δ (length h) → r ≡ b → rowConsistent h′ v′ u δ t ≡ b
-told h v h′ v′ (e, long) f u δ b is g = rw (long, e, f) at (sym is ∙ g)
+least-requires : tie.Need-least-requires
+least-requires c κs = search needs
 
-abbrev Inv-loop : tie.InvT-loop
-Inv-loop hashed v u delta t e₀ e = (e ≤ length delta) × ((k : ℕ) → k < e → rowConsistent (blockAt hashed t k) (blockAt v t k) u (byteAt delta k) t ≡ true)
+array-borrow-prefix-masks : tie.Need-array-borrow-prefix-masks
+array-borrow-prefix-masks c = search needs
 
-abbrev μ-loop : tie.MeasureT-loop
-μ-loop hashed v u delta t e₀ e = length delta - e
+slice-aggregate-first-masked : tie.Need-slice-aggregate-first-masked
+slice-aggregate-first-masked c = simp length-take (omega (arith, c .before .least .ensures))
 
-loop-holds : tie.Need-loop-holds Inv-loop μ-loop
-loop-holds c = (search needs, λ k h. absurd (omega arith))
+first-masked-requires : tie.Need-first-masked-requires
+first-masked-requires c κs =
+    let start = c .before .before .before .before .before .before in
+    (start .pre .0, start .pre .1, start .pre .2, simp length-take (omega (arith, c .before .least .ensures)))
 
-row-at-requires : tie.Need-row-at-requires Inv-loop μ-loop
-row-at-requires c κs = omega (arith, c .before .before .before .before .before .before .pre .0, row-end (c .before .loop .e) (length (now (c .before .before .before .before .before .before .args .delta))) (c .before .before .before .before .before .before .args .t) (omega arith))
-
-row-at-requires-2 : tie.Need-row-at-requires-2 Inv-loop μ-loop
-row-at-requires-2 c κs = omega (arith, c .before .before .before .before .before .before .before .pre .1, row-end (c .before .before .loop .e) (length (now (c .before .before .before .before .before .before .before .args .delta))) (c .before .before .before .before .before .before .before .args .t) (omega arith))
-
-shared-slice-read-row-consistent : tie.Need-shared-slice-read-row-consistent Inv-loop μ-loop
-shared-slice-read-row-consistent c = search needs
-
-row-consistent-requires : tie.Need-row-consistent-requires Inv-loop μ-loop
-row-consistent-requires c κs = (c .before .row-at2 .ensures .1 ∙ sym (c .before .before .row-at .ensures .1), omega (arith, c .before .before .row-at .ensures .1, c .before .before .before .before .before .before .before .before .before .pre .2))
-
-returns : tie.Need-returns Inv-loop μ-loop
-returns c =
-    let a = c .before .before .before .before .before .before .before .before .before .before .before .args in
-    let l = c .before .before .before .before .before .before .loop in
-    sym (first-at (length (now (a .delta))) _ (l .e) (omega arith) (l .inv .1) (told (now (c .before .before .before .before .row-at .result)) (now (c .before .before .before .row-at2 .result)) _ _ (c .before .before .before .before .row-at .ensures) (c .before .before .before .row-at2 .ensures .0) (now (a .u)) (byteAt (now (a .delta)) (l .e)) false (c .before .row-consistent .ensures) (not-true _ (c .if1 .taken))))
-
-add-e : tie.Need-add-e Inv-loop μ-loop
-add-e c = search needs
-
-loop-less : tie.Need-loop-less Inv-loop μ-loop
-loop-less c = search needs
-
-loop-again : tie.Need-loop-again Inv-loop μ-loop
-loop-again c =
-    let a = c .before .before .before .before .before .before .before .before .before .before .before .args in
-    let l = c .before .before .before .before .before .before .loop in
-    (omega arith, below-more _ _ (l .inv .1) (told (now (c .before .before .before .before .row-at .result)) (now (c .before .before .before .row-at2 .result)) _ _ (c .before .before .before .before .row-at .ensures) (c .before .before .before .row-at2 .ensures .0) (now (a .u)) (byteAt (now (a .delta)) (l .e)) true (c .before .row-consistent .ensures) (not-false _ (c .if1 .left))))
-
-returns-2 : tie.Need-returns-2 Inv-loop μ-loop
-returns-2 c =
-    let a = c .before .before .before .before .before .before .args in
-    let l = c .before .loop in
-    let end : l .e ≡ length (now (a .delta)) = omega arith in
-    end ∙ sym (first-none (length (now (a .delta))) _ (λ k h. l .inv .1 k (omega (arith, end))))
+returns : tie.Need-returns
+returns c = search needs
 
 pub first-inconsistent-spec : {M : Type 1} → statement M
 first-inconsistent-spec =
     tie.close
     (tie.spec
-    Inv-loop
-    μ-loop
-    loop-holds
-    row-at-requires
-    row-at-requires-2
-    shared-slice-read-row-consistent
-    row-consistent-requires
-    returns
-    add-e
-    loop-less
-    loop-again
-    returns-2)
+    least-requires
+    array-borrow-prefix-masks
+    slice-aggregate-first-masked
+    first-masked-requires
+    returns)
