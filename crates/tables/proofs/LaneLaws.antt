@@ -2,8 +2,8 @@
 --   Filled g l e a n == lane e of the n coordinates from a on is g 0, .., g (n - 1);  Others l₀ l e a == the other lanes, and lane e below a, are as in l₀
 --   Lane g l e n == lane e of the first n coordinates is g
 -- Assumes nothing.
-use Prim.Native.Nat.{ℕ, _+_, _*_, _-_, _<_}
-use mathlib.Core.Path.{_≡_, _∙_}
+use Prim.Native.Nat.{ℕ, _+_, _*_, _-_, _/_, _%_, _≤_, _<_}
+use mathlib.Core.Path.{_≡_, sym, ap, _∙_}
 use mathlib.Core.List.{List}
 use mathlib.Core.Logic.{⊎-elim}
 use native.Mathlib.Nat.{eq-or-lt-of-le, le-of-suc-le-suc}
@@ -12,7 +12,11 @@ use native.Mathlib.Numerals.{add-one}
 use native.Mathlib.Omega.{arith}
 use lib.ListN.{length, set}
 use lib.Seq.{getD-set-same, getD-set-other}
-use Rattle.strings.specs.Sums.{byteAt}
+use Rattle.protocol.specs.Lists.{blockAt}
+use Rattle.protocol.specs.Strings.{bit}
+use Rattle.strings.specs.Sums.{byteAt, bitOf}
+use Rattle.strings.proofs.Rows.{row-byte}
+use Rattle.strings.proofs.Meaning.{bit-place}
 use Rattle.tables.specs.Sums.{lanes}
 
 abbrev pub Filled : (ℕ → ℕ) → List ℕ → ℕ → ℕ → ℕ → Type 0
@@ -38,11 +42,24 @@ module _ (l : List ℕ) (e a i v : ℕ) (el : e < lanes) where
 abbrev pub Lane : (ℕ → ℕ) → List ℕ → ℕ → ℕ → Type 0
 Lane g l e n = (c : ℕ) → c < n → byteAt l (c * lanes + e) ≡ g c
 
-pub lane-more : (g : ℕ → ℕ) (l l′ : List ℕ) (e b : ℕ) → e < lanes → Filled (λ k. g (b * 8 + k)) l′ e (b * 8) 8 → Others l l′ e (b * 8) → Lane g l e (b * 8) → Lane g l′ e ((b + 1) * 8)
-lane-more g l l′ e b el eight same done c h = go (decLt c (b * 8))
+-- n coordinates more, from a on, where those below a are done
+pub lane-part : (g : ℕ → ℕ) (l l′ : List ℕ) (e a n m : ℕ) → e < lanes → a ≤ m → Filled (λ k. g (a + k)) l′ e a n → Others l l′ e a → Lane g l e m → Lane g l′ e (a + n)
+lane-part g l l′ e a n m el le more same done c h = go (decLt c a)
   where
-    go : Dec (c < b * 8) → byteAt l′ (c * lanes + e) ≡ g c
-    go (yes lt) = same c e el (λ _. lt) ∙ done c lt
+    go : Dec (c < a) → byteAt l′ (c * lanes + e) ≡ g c
+    go (yes lt) = same c e el (λ _. lt) ∙ done c (omega arith)
     go (no ge) =
-        let x : b * 8 + (c - b * 8) ≡ c = omega arith in
-        rw x at (eight (c - b * 8) (omega arith))
+        let x : a + (c - a) ≡ c = omega arith in
+        rw x at (more (c - a) (omega arith))
+
+pub lane-more : (g : ℕ → ℕ) (l l′ : List ℕ) (e b : ℕ) → e < lanes → Filled (λ k. g (b * 8 + k)) l′ e (b * 8) 8 → Others l l′ e (b * 8) → Lane g l e (b * 8) → Lane g l′ e ((b + 1) * 8)
+lane-more g l l′ e b el eight same done c h = lane-part g l l′ e (b * 8) 8 (b * 8) el (omega arith) eight same done c (omega arith)
+
+-- bit i of sixteen bytes of plane p, from `at` on
+pub part-bit : (planes : List ℕ) (w at p i : ℕ) → at + 16 ≤ w → i < 128 → bitOf (byteAt planes (at + p * w + i / 8)) (i % 8) ≡ bit (blockAt planes w p) (at * 8 + i)
+part-bit planes w at p i fits lt =
+    let place : at + p * w + i / 8 ≡ p * w + (at + i / 8) = omega arith in
+    let number : (at + i / 8) * 8 + i % 8 ≡ at * 8 + i = omega arith in
+    ap (λ k. bitOf (byteAt planes k) (i % 8)) place
+    ∙ sym (bit-place (blockAt planes w p) (at + i / 8) (i % 8) (omega arith) ∙ ap (λ x. bitOf x (i % 8)) (row-byte planes w p (at + i / 8) (omega arith)))
+    ∙ ap (bit (blockAt planes w p)) number

@@ -1,4 +1,6 @@
 // Leaf sums for all repetitions: u_e in the rows of a table, v_e in the lanes of another.
+mod parts;
+
 ghost use mathlib.Core.Path.{_≡_};
 ghost use Prim.Native.Nat.{ℕ, _+_, _*_, _<_, _≤_};
 ghost use lib.ListN.{length};
@@ -7,6 +9,8 @@ ghost use Rattle.protocol.specs.Strings.{bit, fromBits};
 ghost use Rattle.strings.specs.Sums.{byteAt, bitOf, xorSum};
 ghost use Rattle.tables.specs.Sums.{lanes, mostWidth, planeByte, uByte, vByte, SumsAre, TableIs};
 use field::Gf256;
+use parts::spread_parts;
+use turns::SIXTEEN;
 
 // Repetitions side by side in a table: entry c of repetition e stands at c·LANES + e. The stride is fixed, so that loops over it have a constant length.
 pub const LANES: usize = 48;
@@ -49,9 +53,8 @@ fn spread_byte(table: &mut [u8], e: usize, planes: &[u8], w: usize, b: usize)
     }
 }
 
-// 01's v_e, coordinate by coordinate: writes lane e of the table from the planes of one tree. Bit p of coordinate c is coordinate c of plane
-// p. Bytes are walked, and the eight places in each.
-pub fn spread(table: &mut [u8], e: usize, planes: &[u8], w: usize)
+// `spread` of planes of any width: bytes are walked, and the eight places in each.
+fn spread_bytes(table: &mut [u8], e: usize, planes: &[u8], w: usize)
     requires { ⌜ (length (now table) ≡ 8 * w * lanes) × (length (now planes) ≡ 8 * w) × (e < lanes) ⌝ }
     ensures { λ _. ⌜ ((c : ℕ) → c < 8 * w → byteAt (now (table .exit)) (c * lanes + e) ≡ fromBits 8 (λ p. bit (blockAt (now (planes .entry)) w p) c)) ⌝ }
     ensures { λ _. ⌜ ((c q : ℕ) → q < lanes → (q ≡ e → ⊥) → byteAt (now (table .exit)) (c * lanes + q) ≡ byteAt (now (table .entry)) (c * lanes + q)) ⌝ }
@@ -60,6 +63,19 @@ pub fn spread(table: &mut [u8], e: usize, planes: &[u8], w: usize)
     while b < w {
         spread_byte(table, e, planes, w, b);
         b += 1;
+    }
+}
+
+// 01's v_e, coordinate by coordinate: writes lane e of the table from the planes of one tree. Bit p of coordinate c is coordinate c of plane p.
+pub fn spread(table: &mut [u8], e: usize, planes: &[u8], w: usize)
+    requires { ⌜ (length (now table) ≡ 8 * w * lanes) × (length (now planes) ≡ 8 * w) × (e < lanes) ⌝ }
+    ensures { λ _. ⌜ ((c : ℕ) → c < 8 * w → byteAt (now (table .exit)) (c * lanes + e) ≡ fromBits 8 (λ p. bit (blockAt (now (planes .entry)) w p) c)) ⌝ }
+    ensures { λ _. ⌜ ((c q : ℕ) → q < lanes → (q ≡ e → ⊥) → byteAt (now (table .exit)) (c * lanes + q) ≡ byteAt (now (table .entry)) (c * lanes + q)) ⌝ }
+{
+    if w < SIXTEEN {
+        spread_bytes(table, e, planes, w);
+    } else {
+        spread_parts(table, e, planes, w);
     }
 }
 

@@ -1,4 +1,4 @@
--- `tables::spread` meets its contract. The invariant: lane e of the coordinates of the first b bytes is done, the other lanes are as they were.
+-- `tables::spread_bytes` meets its contract. The invariant: lane e of the coordinates of the first b bytes is done, the other lanes are as they were.
 -- Assumes nothing.
 use borrow.Author.Needs.{needs}
 use Prim.Native.Nat.{ℕ, _+_, _*_, _-_, _≤_, _<_}
@@ -14,8 +14,8 @@ use Rattle.strings.proofs.Rows.{row-byte}
 use Rattle.strings.proofs.Meaning.{bit-place}
 use Rattle.tables.specs.Sums.{lanes}
 use Rattle.tables.proofs.LaneLaws.{Lane, lane-more}
-use Rattle.tables.proofs.spread.Statement.{statement}
-use Rattle.tables.proofs.spread.Tie as tie
+use Rattle.tables.proofs.spread_bytes.Statement.{statement}
+use Rattle.tables.proofs.spread_bytes.Tie as tie
 
 abbrev Inv-loop : tie.InvT-loop
 Inv-loop table₀ e planes w b₀ table b = (b ≤ w) × (length table ≡ length table₀) × Lane (λ c. fromBits 8 (λ p. bit (blockAt planes w p) c)) table e (b * 8) × ((c q : ℕ) → q < lanes → (q ≡ e → ⊥) → byteAt table (c * lanes + q) ≡ byteAt table₀ (c * lanes + q))
@@ -57,8 +57,8 @@ returns c =
     let l = c .before .loop in
     (λ d h. l .inv .2 d (omega arith), l .inv .3)
 
-pub spread-spec : {M : Type 1} → statement M
-spread-spec =
+pub spread-bytes-spec : {M : Type 1} → statement M
+spread-bytes-spec =
     tie.close
     (tie.spec
     Inv-loop
