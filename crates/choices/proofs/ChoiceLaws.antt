@@ -4,6 +4,7 @@ use Prim.Native.Nat.{ℕ, zero, suc, _+_, _*_, _-_, _/_, _%_, _≤_, _<_}
 use mathlib.Core.Path.{_≡_, refl, sym, ap, ap₂, _∙_}
 use mathlib.Core.List.{List}
 use native.Mathlib.Nat.{add-zero, mul-zero, mod-lt, div-add-mod', div-lt-iff-lt-mul}
+use native.Mathlib.Decide.{decLt}
 use native.Mathlib.Omega.{arith}
 use lib.ListN.{length, List·getD-eq-default}
 use Rattle.protocol.specs.Lists.{blockAt}
@@ -69,6 +70,15 @@ chosen-fits χ O m G R k pos most chosen h =
     let within = choice-lt (byteAt (blockAt χ m (r / 8))) (r % 8) g in
     let e : byteAt O k ≡ byteAt O (r * G + g) = ap (byteAt O) (sym (div-add-mod' k G)) in
     omega (arith, e, is, within, small, most)
+
+-- a repetition's eight rows, after those of the earlier ones
+pub chosen-next : (χ O O′ : List ℕ) (m G e : ℕ) → ((p : ℕ) → p < 8 → Chosen χ m G O′ (e * 8 + p)) → ((q g : ℕ) → q < e * 8 → g < G → byteAt O′ (q * G + g) ≡ byteAt O (q * G + g))
+    → ((q : ℕ) → q < e * 8 → Chosen χ m G O q) → (q : ℕ) → q < (e + 1) * 8 → Chosen χ m G O′ q
+chosen-next χ O O′ m G e own kept done q h = go (decLt q (e * 8))
+  where
+    go : Dec (q < e * 8) → Chosen χ m G O′ q
+    go (yes lt) = λ g k. kept q g lt k ∙ done q lt g k
+    go (no ge) = let same : e * 8 + (q - e * 8) ≡ q = omega arith in rw same at (own (q - e * 8) (omega arith))
 
 unit-entry : (o k : ℕ) → o ≡ k * 2 → o * 16 ≡ k * chunk
 unit-entry o k h = omega arith

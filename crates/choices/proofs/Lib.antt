@@ -1,2 +1,3 @@
 pub mod ChoiceLaws
 pub mod EntryLaws
+pub mod PickLaws

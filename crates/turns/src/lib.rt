@@ -29,7 +29,7 @@ fn exchange(out: &mut [u8], rows: &[u8], s: usize, mask: u8)
 }
 
 // Byte j of the first half and byte j of the last, side by side.
-fn merge(out: &mut [u8], rows: &[u8])
+pub fn merge(out: &mut [u8], rows: &[u8])
     requires { ⌜ (length (now rows) ≡ 128) × (128 ≤ length (now out)) ⌝ }
     ensures { λ _. ⌜ ((i : ℕ) → i < 128 → byteAt (now (out .exit)) i ≡ byteAt (now (rows .entry)) (i % 2 * 64 + i / 2)) ⌝ }
 {

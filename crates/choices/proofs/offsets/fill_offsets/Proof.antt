@@ -1,55 +1,48 @@
--- `choices::offsets::fill_offsets` meets its contract. The invariant: the rows below r are filled.
+-- `choices::offsets::fill_offsets` meets its contract. The invariant: the rows of the repetitions below e are filled.
 -- Assumes nothing.
 use borrow.Author.Needs.{needs}
-use Prim.Native.Nat.{ℕ, _+_, _*_, _-_, _/_, _≤_, _<_}
-use mathlib.Core.Logic.{⊎-elim}
+use Prim.Native.Nat.{ℕ, _+_, _*_, _-_, _≤_, _<_}
 use mathlib.Core.Path.{_≡_, refl, _∙_}
-use native.Mathlib.Nat.{eq-or-lt-of-le, le-of-suc-le-suc}
-use native.Mathlib.Numerals.{add-one}
+use native.Mathlib.Nat.{mul-le-mul}
 use native.Mathlib.Omega.{arith}
 use denote.Ref.{now}
 use lib.ListN.{length}
 use Rattle.strings.proofs.Rows.{row-end}
 use Rattle.choices.specs.Entries.{Chosen}
-use Rattle.choices.proofs.ChoiceLaws.{chosen-fits}
+use Rattle.choices.proofs.ChoiceLaws.{chosen-next, chosen-fits}
 use Rattle.choices.proofs.offsets.fill_offsets.Statement.{statement}
 use Rattle.choices.proofs.offsets.fill_offsets.Tie as tie
 
 abbrev Inv-loop : tie.InvT-loop
-Inv-loop offsets₀ chi m groups tau r₀ offsets r = (r ≤ tau * 8) × (length offsets ≡ length offsets₀) × ((q : ℕ) → q < r → Chosen chi m groups offsets q)
+Inv-loop offsets₀ chi m groups tau e₀ offsets e = (e ≤ tau) × (length offsets ≡ length offsets₀) × ((q : ℕ) → q < e * 8 → Chosen chi m groups offsets q)
 
 abbrev μ-loop : tie.MeasureT-loop
-μ-loop offsets₀ chi m groups tau r₀ offsets r = tau * 8 - r
+μ-loop offsets₀ chi m groups tau e₀ offsets e = tau - e
 
 loop-holds : tie.Need-loop-holds Inv-loop μ-loop
 loop-holds c = (search needs, refl, λ q h. absurd (omega arith))
 
-mul-loop : tie.Need-mul-loop Inv-loop μ-loop
-mul-loop c = search needs
-
-fill-row-requires : tie.Need-fill-row-requires Inv-loop μ-loop
-fill-row-requires c κs =
-    let a = c .before .before .before .before .before .args in
+fill-repetition-requires : tie.Need-fill-repetition-requires Inv-loop μ-loop
+fill-repetition-requires c κs =
+    let start = c .before .before .before .before .before in
+    let a = start .args in
     let l = c .before .before .loop in
-    (c .before .before .before .before .before .pre .0, c .before .before .before .before .before .pre .1, omega (arith, l .inv .1, row-end (l .r) (a .tau * 8) (a .groups) (omega arith)), omega (arith, row-end (l .r / 8) (a .tau) (a .m) (omega arith)))
+    let eight : l .e * 8 + 8 ≤ a .tau * 8 = omega arith in
+    let whole : a .groups ≤ a .groups = omega arith in
+    (start .pre .0, start .pre .1, omega (arith, l .inv .1, mul-le-mul eight whole), omega (arith, row-end (l .e) (a .tau) (a .m) (omega arith)), omega arith)
 
-add-r : tie.Need-add-r Inv-loop μ-loop
-add-r c = search needs
+add-e : tie.Need-add-e Inv-loop μ-loop
+add-e c = search needs
 
 loop-less : tie.Need-loop-less Inv-loop μ-loop
 loop-less c = search needs
 
 loop-again : tie.Need-loop-again Inv-loop μ-loop
 loop-again c =
+    let a = c .before .before .before .before .before .before .before .before .args in
     let l = c .before .before .before .before .before .loop in
-    let done = c .before .before .fill-row in (
-      omega arith,
-      done .kept .0 ∙ l .inv .1,
-      (λ q h.
-          ⊎-elim (λ (e : q ≡ l .r). rw e (done .ensures .0))
-          (λ (lt : q < l .r) g k. done .ensures .1 q g (λ x. omega arith) k ∙ l .inv .2 q lt g k)
-          (eq-or-lt-of-le (le-of-suc-le-suc (rw add-one at h)))),
-    )
+    let done = c .before .before .fill-repetition in
+    (omega arith, done .kept .0 ∙ l .inv .1, chosen-next (now (a .chi)) (l .offsets) (done .last .0) (a .m) (a .groups) (l .e) (done .ensures .0) (done .ensures .1) (l .inv .2))
 
 same-length : tie.Need-same-length Inv-loop μ-loop
 same-length c = search needs
@@ -69,9 +62,8 @@ fill-offsets-spec =
     Inv-loop
     μ-loop
     loop-holds
-    mul-loop
-    fill-row-requires
-    add-r
+    fill-repetition-requires
+    add-e
     loop-less
     loop-again
     same-length

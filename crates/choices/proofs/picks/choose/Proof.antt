@@ -1,13 +1,18 @@
--- `choices::offsets::choose` meets its contract, by what its words mean.
+-- `choices::picks::choose` meets its contract, by what its words mean.
 -- Assumes nothing.
 use borrow.Author.Needs.{needs}
+use native.Mathlib.Omega.{arith}
+use denote.Ref.{now}
 use Rattle.strings.specs.Sums.{bitOf}
-use Rattle.choices.specs.Entries.{choice}
-use Rattle.choices.proofs.offsets.choose.Statement.{statement}
-use Rattle.choices.proofs.offsets.choose.Tie as tie
+use Rattle.choices.proofs.PickLaws.{choice-rows}
+use Rattle.choices.proofs.picks.choose.Statement.{statement}
+use Rattle.choices.proofs.picks.choose.Tie as tie
 
 mul-at : tie.Need-mul-at
 mul-at c = search needs
+
+add-at : tie.Need-add-at
+add-at c = search needs
 
 shared-slice-read-low : tie.Need-shared-slice-read-low
 shared-slice-read-low c = search needs
@@ -90,18 +95,16 @@ add-result c = search needs
 add-result-2 : tie.Need-add-result-2
 add-result-2 c = search needs
 
-cast-result : tie.Need-cast-result
-cast-result c = search needs
-
 returns : tie.Need-returns
-unfolding choice bitOf
-returns c = search needs
+unfolding bitOf
+returns c = let a = c .before .before .before .before .before .args in rw (choice-rows (now (a .rows)) (a .h) (a .g) (a .p) (omega arith)) (search needs)
 
 pub choose-spec : {M : Type 1} → statement M
 choose-spec =
     tie.close
     (tie.spec
     mul-at
+    add-at
     shared-slice-read-low
     cast-low
     shr-low
@@ -129,5 +132,4 @@ choose-spec =
     mul-top
     add-result
     add-result-2
-    cast-result
     returns)

@@ -1,0 +1,70 @@
+-- `choices::offsets::put_row` meets its contract. The part that was lent is row r, and the others stand outside it.
+-- Assumes nothing.
+use borrow.Author.Needs.{needs}
+use Prim.Native.Nat.{ℕ, _+_, _*_, _-_, _≤_, _<_}
+use mathlib.Core.Path.{_≡_, _∙_}
+use native.Mathlib.Nat.{add-sub-cancel-left}
+use native.Mathlib.Omega.{arith}
+use denote.Ref.{now}
+use lib.ListN.{length, take, drop, length-take, length-drop}
+use Rattle.strings.proofs.Rows.{put-in, put-other}
+use Rattle.strings.specs.Sums.{byteAt}
+use Rattle.choices.proofs.offsets.put_row.Statement.{statement}
+use Rattle.choices.proofs.offsets.put_row.Tie as tie
+
+mul-at : tie.Need-mul-at
+mul-at c = search needs
+
+add-put : tie.Need-add-put
+add-put c = search needs
+
+mul-put : tie.Need-mul-put
+mul-put c = search needs
+
+sub-put : tie.Need-sub-put
+sub-put c = search needs
+
+part-put-start : tie.Need-part-put-start
+part-put-start c = search needs
+
+part-put-end : tie.Need-part-put-end
+part-put-end c = search needs
+
+mul-put-2 : tie.Need-mul-put-2
+mul-put-2 c = search needs
+
+put-requires : tie.Need-put-requires
+put-requires c κs = search needs
+
+same-length : tie.Need-same-length
+same-length c = search needs
+
+returns : tie.Need-returns
+returns c =
+    let a = c .before .before .before .before .before .before .args in
+    let l = now (a .offsets) in
+    let w = a .groups in
+    let at = a .r * w in
+    let done = c .before .before .put in
+    let r = done .last .0 in
+    let e : at + w - at ≡ w = add-sub-cancel-left at w in
+    let fits : at + w ≤ length l = omega arith in
+    let long : length (take w (drop at l)) ≡ w = simp (length-take, length-drop) (omega arith) in
+    let kept : length r ≡ w = rw e at (done .kept .0) ∙ long in
+    let filled : (g : ℕ) → g < length (take w (drop at l)) → byteAt r g ≡ (g * 32 + byteAt (now (a .picks)) (a .p * 32 + g)) * 2 = rw e at (done .ensures) in
+    rw e ((λ g h. put-in at w l r fits kept g h ∙ filled g (omega (arith, long))), put-other (a .r) w l r fits kept)
+
+pub put-row-spec : {M : Type 1} → statement M
+put-row-spec =
+    tie.close
+    (tie.spec
+    mul-at
+    add-put
+    mul-put
+    sub-put
+    part-put-start
+    part-put-end
+    mul-put-2
+    put-requires
+    same-length
+    returns)

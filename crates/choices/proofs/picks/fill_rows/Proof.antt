@@ -1,0 +1,78 @@
+-- `choices::picks::fill_rows` meets its contract. The part that was lent is for the sixteen fives h, and the other stands outside it.
+-- Assumes nothing.
+use borrow.Author.Needs.{needs}
+use Prim.Native.Nat.{_+_, _*_, _-_, _/_, _%_, _≤_}
+use mathlib.Core.Path.{_≡_, _∙_}
+use native.Mathlib.Nat.{add-sub-cancel-left}
+use native.Mathlib.Omega.{arith}
+use denote.Ref.{now}
+use lib.ListN.{length, take, drop, length-take, length-drop}
+use Rattle.strings.proofs.Rows.{put-in, put-other}
+use Rattle.choices.proofs.picks.fill_rows.Statement.{statement}
+use Rattle.choices.proofs.picks.fill_rows.Tie as tie
+
+slice-aggregate-space : tie.Need-slice-aggregate-space
+slice-aggregate-space c = search needs
+
+mul-space : tie.Need-mul-space
+mul-space c = search needs
+
+space-requires : tie.Need-space-requires
+space-requires c κs = search needs
+
+mul-at : tie.Need-mul-at
+mul-at c = search needs
+
+add-part : tie.Need-add-part
+add-part c = search needs
+
+sub-part : tie.Need-sub-part
+sub-part c = search needs
+
+part-part-start : tie.Need-part-part-start
+part-part-start c = search needs
+
+part-part-end : tie.Need-part-part-end
+part-part-end c = search needs
+
+slice-aggregate-part : tie.Need-slice-aggregate-part
+slice-aggregate-part c = search needs
+
+part-requires : tie.Need-part-requires
+part-requires c κs = search needs
+
+same-length : tie.Need-same-length
+same-length c = search needs
+
+returns : tie.Need-returns
+returns c =
+    let a = c .before .before .before .before .before .before .before .before .before .before .args in
+    let l = now (a .rows) in
+    let at = a .h * 128 in
+    let done = c .before .before .part in
+    let r = done .last .0 in
+    let e : at + 128 - at ≡ 128 = add-sub-cancel-left at 128 in
+    let fits : at + 128 ≤ length l = omega arith in
+    let long : length (take 128 (drop at l)) ≡ 128 = simp (length-take, length-drop) (omega arith) in
+    let kept : length r ≡ 128 = rw e at (done .kept .0) ∙ long in
+    rw e (
+      (λ i h. put-in at 128 l r fits kept i h ∙ done .ensures i h ∙ c .before .before .before .before .before .before .space .ensures (i % 16) (i / 16) (omega arith) (omega arith)),
+      put-other (a .h) 128 l r fits kept,
+    )
+
+pub fill-rows-spec : {M : Type 1} → statement M
+fill-rows-spec =
+    tie.close
+    (tie.spec
+    slice-aggregate-space
+    mul-space
+    space-requires
+    mul-at
+    add-part
+    sub-part
+    part-part-start
+    part-part-end
+    slice-aggregate-part
+    part-requires
+    same-length
+    returns)
