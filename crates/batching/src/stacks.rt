@@ -84,7 +84,17 @@ fn spread(v: &mut [u8], src: &[u8], from: usize)
     put_half(v, 1, src, from);
 }
 
-// Adds a chunk of the batched matrix to a stack, times v, and to a side, under a mask: it is the sum of the rows S, each times its byte χ, whose
+// The same for each of two chunks.
+fn spread_twice(v: &mut [u8], src: &[u8], from: usize)
+    requires { ⌜ (length (now v) ≡ pair) × (from + 16 ≤ length (now src)) ⌝ }
+    ensures { λ _. ⌜ ((k h f : ℕ) → k < 2 → h < 2 → f < 16 → byteAt (now (v .exit)) (k * chunk + (h * 16 + f)) ≡ byteAt (now (src .entry)) (from + f)) ⌝ }
+{
+    let mut both = [0u8; CHUNK];
+    spread(&mut both, src, from);
+    planes::double(v, &both);
+}
+
+// Adds a chunk of the batched matrix to a stack, times v, and to a side, under a mask, which is lent twice: it is the sum of the rows S, each times its byte χ, whose
 // bits chose the offsets.
 fn absorb(
     t: &mut [u8],
@@ -96,23 +106,22 @@ fn absorb(
     masks: &[u8],
     mask: &[u8],
 )
-    requires { ⌜ (length (now t) ≡ 15 * chunk) × (length (now side) ≡ 8 * chunk) × ((base + 8) * groups ≤ length (now offsets)) × (groups % 2 ≡ 0) × ((k : ℕ) → k < (base + 8) * groups → byteAt (now offsets) k * 16 + chunk ≤ length (now sums)) × (length (now masks) ≡ 8 * chunk) × (length (now mask) ≡ chunk) × (base ≤ 1000) ⌝ }
+    requires { ⌜ (length (now t) ≡ 15 * chunk) × (length (now side) ≡ 8 * chunk) × ((base + 8) * groups ≤ length (now offsets)) × (groups % 2 ≡ 0) × ((k : ℕ) → k < (base + 8) * groups → byteAt (now offsets) k * 16 + chunk ≤ length (now sums)) × (length (now masks) ≡ 8 * chunk) × (length (now mask) ≡ pair) × (base ≤ 1000) ⌝ }
     ensures { λ _. ⌜ ((S v : List ℕ) (χ : ℕ → ℕ) (m f z : ℕ) → Weighed S χ m (now (sums .entry)) (now (offsets .entry)) groups base → Masks v (now (masks .entry)) → byteAt v f < 256 → f < chunk → stackAt 15 (now (t .exit)) f z ≡ bitXor (stackAt 15 (now (t .entry)) f z) (product (byteAt v f) (xorSum m (λ i. bitOf (cellAt S i f) z * χ i)))) ⌝ }
-    ensures { λ _. ⌜ ((S : List ℕ) (χ : ℕ → ℕ) (m x f z : ℕ) → Weighed S χ m (now (sums .entry)) (now (offsets .entry)) groups base → x < 2 → byteAt (now (mask .entry)) f ≡ x * 255 → f < chunk → stackAt 8 (now (side .exit)) f z ≡ bitXor (stackAt 8 (now (side .entry)) f z) (x * xorSum m (λ i. bitOf (cellAt S i f) z * χ i))) ⌝ }
+    ensures { λ _. ⌜ ((S : List ℕ) (χ : ℕ → ℕ) (m x f z : ℕ) → Weighed S χ m (now (sums .entry)) (now (offsets .entry)) groups base → x < 2 → ((h : ℕ) → h < 2 → byteAt (now (mask .entry)) (h * chunk + f) ≡ x * 255) → f < chunk → stackAt 8 (now (side .exit)) f z ≡ bitXor (stackAt 8 (now (side .entry)) f z) (x * xorSum m (λ i. bitOf (cellAt S i f) z * χ i))) ⌝ }
 {
-    let mut p = 0;
-    while p < 8 {
-        let mut sum = [0u8; CHUNK];
-        choices::sums::look_up(
-            &mut sum,
-            choices::offsets::row_at(offsets, groups, base + p),
+    let mut k = 0;
+    while k < 4 {
+        let mut both = [0u8; PAIR];
+        choices::sums::look_up_two(
+            &mut both,
+            choices::offsets::row_at(offsets, groups, base + 2 * k),
+            choices::offsets::row_at(offsets, groups, base + 2 * k + 1),
             sums,
         );
-        let mut twice = [0u8; PAIR];
-        planes::double(&mut twice, &sum);
-        planes::absorb_plane(t, p, &twice, masks);
-        planes::absorb_side(side, p, &sum, mask);
-        p += 1;
+        planes::absorb_planes(t, 2 * k, &both, masks);
+        planes::absorb_sides(side, 2 * k, &both, mask);
+        k += 1;
     }
 }
 
@@ -129,9 +138,9 @@ fn absorb_lane(
     first: usize,
     mask: &[u8],
 )
-    requires { ⌜ (e * (15 * chunk) + 15 * chunk ≤ length (now stacks)) × (e * (8 * chunk) + 8 * chunk ≤ length (now sides)) × ((e * 8 + 8) * groups ≤ length (now offsets)) × (groups % 2 ≡ 0) × ((k : ℕ) → k < (e * 8 + 8) * groups → byteAt (now offsets) k * 16 + chunk ≤ length (now sums)) × (e * most + most ≤ length (now vectors)) × (first + 16 ≤ most) × (length (now mask) ≡ chunk) × (e < lanes) ⌝ }
+    requires { ⌜ (e * (15 * chunk) + 15 * chunk ≤ length (now stacks)) × (e * (8 * chunk) + 8 * chunk ≤ length (now sides)) × ((e * 8 + 8) * groups ≤ length (now offsets)) × (groups % 2 ≡ 0) × ((k : ℕ) → k < (e * 8 + 8) * groups → byteAt (now offsets) k * 16 + chunk ≤ length (now sums)) × (e * most + most ≤ length (now vectors)) × (first + 16 ≤ most) × (length (now mask) ≡ pair) × (e < lanes) ⌝ }
     ensures { λ _. ⌜ ((S : List ℕ) (χ : ℕ → ℕ) (m h f z : ℕ) → Weighed S χ m (now (sums .entry)) (now (offsets .entry)) groups (e * 8) → h < 2 → f < 16 → stackOf 15 (now (stacks .exit)) e (h * 16 + f) z ≡ bitXor (stackOf 15 (now (stacks .entry)) e (h * 16 + f) z) (product (byteAt (now (vectors .entry)) (e * most + (first + f))) (xorSum m (λ i. bitOf (cellAt S i (h * 16 + f)) z * χ i)))) ⌝ }
-    ensures { λ _. ⌜ ((S : List ℕ) (χ : ℕ → ℕ) (m x f z : ℕ) → Weighed S χ m (now (sums .entry)) (now (offsets .entry)) groups (e * 8) → x < 2 → byteAt (now (mask .entry)) f ≡ x * 255 → f < chunk → stackOf 8 (now (sides .exit)) e f z ≡ bitXor (stackOf 8 (now (sides .entry)) e f z) (x * xorSum m (λ i. bitOf (cellAt S i f) z * χ i))) ⌝ }
+    ensures { λ _. ⌜ ((S : List ℕ) (χ : ℕ → ℕ) (m x f z : ℕ) → Weighed S χ m (now (sums .entry)) (now (offsets .entry)) groups (e * 8) → x < 2 → ((h : ℕ) → h < 2 → byteAt (now (mask .entry)) (h * chunk + f) ≡ x * 255) → f < chunk → stackOf 8 (now (sides .exit)) e f z ≡ bitXor (stackOf 8 (now (sides .entry)) e f z) (x * xorSum m (λ i. bitOf (cellAt S i f) z * χ i))) ⌝ }
     ensures { λ _. ⌜ ((q b : ℕ) → (q ≡ e → ⊥) → b < 15 * chunk → byteAt (now (stacks .exit)) (q * (15 * chunk) + b) ≡ byteAt (now (stacks .entry)) (q * (15 * chunk) + b)) ⌝ }
     ensures { λ _. ⌜ ((q b : ℕ) → (q ≡ e → ⊥) → b < 8 * chunk → byteAt (now (sides .exit)) (q * (8 * chunk) + b) ≡ byteAt (now (sides .entry)) (q * (8 * chunk) + b)) ⌝ }
 {
@@ -165,9 +174,9 @@ fn absorb_lanes(
     first: usize,
     mask: &[u8],
 )
-    requires { ⌜ (tau * (15 * chunk) ≤ length (now stacks)) × (tau * (8 * chunk) ≤ length (now sides)) × (tau * 8 * groups ≤ length (now offsets)) × (groups % 2 ≡ 0) × ((k : ℕ) → k < tau * 8 * groups → byteAt (now offsets) k * 16 + chunk ≤ length (now sums)) × (tau * most ≤ length (now vectors)) × (first + 16 ≤ most) × (length (now mask) ≡ chunk) × (tau ≤ lanes) ⌝ }
+    requires { ⌜ (tau * (15 * chunk) ≤ length (now stacks)) × (tau * (8 * chunk) ≤ length (now sides)) × (tau * 8 * groups ≤ length (now offsets)) × (groups % 2 ≡ 0) × ((k : ℕ) → k < tau * 8 * groups → byteAt (now offsets) k * 16 + chunk ≤ length (now sums)) × (tau * most ≤ length (now vectors)) × (first + 16 ≤ most) × (length (now mask) ≡ pair) × (tau ≤ lanes) ⌝ }
     ensures { λ _. ⌜ ((S : List ℕ) (χ : ℕ → ℕ → ℕ) (m e h f z : ℕ) → ((q : ℕ) → q < tau → Weighed S (χ q) m (now (sums .entry)) (now (offsets .entry)) groups (q * 8)) → e < tau → h < 2 → f < 16 → stackOf 15 (now (stacks .exit)) e (h * 16 + f) z ≡ bitXor (stackOf 15 (now (stacks .entry)) e (h * 16 + f) z) (product (byteAt (now (vectors .entry)) (e * most + (first + f))) (xorSum m (λ i. bitOf (cellAt S i (h * 16 + f)) z * χ e i)))) ⌝ }
-    ensures { λ _. ⌜ ((S : List ℕ) (χ : ℕ → ℕ → ℕ) (m x e f z : ℕ) → ((q : ℕ) → q < tau → Weighed S (χ q) m (now (sums .entry)) (now (offsets .entry)) groups (q * 8)) → x < 2 → byteAt (now (mask .entry)) f ≡ x * 255 → e < tau → f < chunk → stackOf 8 (now (sides .exit)) e f z ≡ bitXor (stackOf 8 (now (sides .entry)) e f z) (x * xorSum m (λ i. bitOf (cellAt S i f) z * χ e i))) ⌝ }
+    ensures { λ _. ⌜ ((S : List ℕ) (χ : ℕ → ℕ → ℕ) (m x e f z : ℕ) → ((q : ℕ) → q < tau → Weighed S (χ q) m (now (sums .entry)) (now (offsets .entry)) groups (q * 8)) → x < 2 → ((h : ℕ) → h < 2 → byteAt (now (mask .entry)) (h * chunk + f) ≡ x * 255) → e < tau → f < chunk → stackOf 8 (now (sides .exit)) e f z ≡ bitXor (stackOf 8 (now (sides .entry)) e f z) (x * xorSum m (λ i. bitOf (cellAt S i f) z * χ e i))) ⌝ }
 {
     let mut e = 0;
     while e < tau {
@@ -207,10 +216,10 @@ pub fn collect(
 {
     let mut q = 0;
     while q <= panel {
-        let mut mask = [0u8; CHUNK];
+        let mut mask = [0u8; PAIR];
         choices::sums::fill_sums(sums, groups, m, strings::row_at(cells, m * CHUNK, q));
         choices::sums::add_first(stacks, sums);
-        spread(&mut mask, bits, q * ROWS);
+        spread_twice(&mut mask, bits, q * ROWS);
         absorb_lanes(
             stacks,
             sides,

@@ -5,7 +5,7 @@ ghost use Prim.Native.Nat.{ℕ, _+_, _*_, _/_, _%_, _^_, _<_, _≤_};
 ghost use lib.ListN.{length};
 ghost use lib.Bits.{bitXor};
 ghost use Rattle.strings.specs.Sums.{byteAt, xorSum};
-ghost use Rattle.chunks.specs.Chunks.{chunk, cellAt};
+ghost use Rattle.chunks.specs.Chunks.{chunk, pair, cellAt};
 ghost use Rattle.choices.specs.Entries.{entryByte, Tabled};
 use chunks::CHUNK;
 
@@ -110,19 +110,23 @@ pub fn fill_sums(sums: &mut [u8], groups: usize, n: usize, table: &[u8])
     }
 }
 
-// out[f] = the sum of byte f of the entries that stand at the offsets, two at a time.
-pub fn look_up(out: &mut [u8], offsets: &[u16], sums: &[u8])
-    requires { ⌜ (length (now out) ≡ chunk) × (length (now offsets) % 2 ≡ 0) × ((g : ℕ) → g < length (now offsets) → byteAt (now offsets) g * 16 + chunk ≤ length (now sums)) ⌝ }
-    ensures { λ _. ⌜ ((f : ℕ) → f < chunk → byteAt (now (out .exit)) f ≡ xorSum (length (now (offsets .entry))) (λ g. byteAt (now (sums .entry)) (byteAt (now (offsets .entry)) g * 16 + f))) ⌝ }
+// Chunk 0 of out is the sum of the entries that stand at the offsets, and chunk 1 of those at the offsets `next`: both in one loop, so that
+// neither waits for the other.
+pub fn look_up_two(out: &mut [u8], offsets: &[u16], next: &[u16], sums: &[u8])
+    requires { ⌜ (length (now out) ≡ pair) × (length (now next) ≡ length (now offsets)) × ((g : ℕ) → g < length (now offsets) → byteAt (now offsets) g * 16 + chunk ≤ length (now sums)) × ((g : ℕ) → g < length (now offsets) → byteAt (now next) g * 16 + chunk ≤ length (now sums)) ⌝ }
+    ensures { λ _. ⌜ ((f : ℕ) → f < chunk → cellAt (now (out .exit)) 0 f ≡ xorSum (length (now (offsets .entry))) (λ g. byteAt (now (sums .entry)) (byteAt (now (offsets .entry)) g * 16 + f))) ⌝ }
+    ensures { λ _. ⌜ ((f : ℕ) → f < chunk → cellAt (now (out .exit)) 1 f ≡ xorSum (length (now (offsets .entry))) (λ g. byteAt (now (sums .entry)) (byteAt (now (next .entry)) g * 16 + f))) ⌝ }
 {
-    let mut sum = [0u8; CHUNK];
+    let mut first = [0u8; CHUNK];
+    let mut second = [0u8; CHUNK];
     let mut g = 0;
     while g < offsets.len() {
-        add_at(&mut sum, sums, wide(offsets[g]) * UNIT);
-        add_at(&mut sum, sums, wide(offsets[g + 1]) * UNIT);
-        g += 2;
+        add_at(&mut first, sums, wide(offsets[g]) * UNIT);
+        add_at(&mut second, sums, wide(next[g]) * UNIT);
+        g += 1;
     }
-    chunks::cells::copy_chunk(out, &sum);
+    store(out, 0, &first);
+    store(out, 1, &second);
 }
 
 // dst[f] ^= sums[f] for a chunk. As the first entry is 0 this changes nothing; but it is an access to the start of two arrays, from which the

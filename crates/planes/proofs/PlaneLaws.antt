@@ -1,75 +1,79 @@
--- What a plane adds to a stack, times a byte, and to a side, under a bit.
+-- What bytes and planes add to a stack, times a byte, and to a side, under a bit.
 -- Assumes nothing.
 use mathlib.Core.Path.{_≡_, sym, ap, ap₂, _∙_}
 use mathlib.Core.List.{List}
-use Prim.Native.Nat.{ℕ, zero, suc, _+_, _*_, _-_, _<_}
-use native.Mathlib.Nat.{zero-mul, one-mul, mul-comm, mul-assoc}
+use Prim.Native.Nat.{ℕ, _+_, _*_, _<_}
+use native.Mathlib.Nat.{one-mul, mul-comm, mul-assoc}
+use native.Mathlib.Decide.{ℕ-discrete}
 use native.Mathlib.Omega.{arith}
-use lib.Dec.{lit<}
-use lib.Bits.{bitXor, xor-comm}
+use lib.ListN.{length, set}
+use lib.Seq.{getD-set-same, getD-set-other}
+use lib.Bits.{bitXor, bitAnd}
 use mathlib.Core.Bool.{cond}
 use Rattle.protocol.proofs.TestLaws.{ltb-yes}
+use Rattle.field.proofs.ProductLaws.{mask-times}
 use Rattle.strings.specs.Sums.{bitOf, xorSum}
 use Rattle.strings.proofs.XorLaws.{xor-assoc}
-use Rattle.strings.proofs.SumLaws.{sum-same, sum-parts, sum-both, sum-put, xor-scale}
+use Rattle.strings.proofs.SumLaws.{sum-same, sum-both, sum-put, xor-scale}
 use Rattle.strings.proofs.Meaning.{bitOf-lt, bitOf-xor, times-bit}
-use Rattle.strings.proofs.ProductLaws.{bit-times-lt}
-use Rattle.chunks.specs.Chunks.{cellAt}
+use Rattle.chunks.specs.Chunks.{chunk, cellAt}
 use Rattle.chunks.proofs.BitSumLaws.{bit-sum}
 use Rattle.columns.specs.Stacks.{alpha, product, stackAt}
 use Rattle.columns.proofs.ProductLaws.{alpha-add, byte-bits, product-bits}
 
--- ---- a plane in a stack
+-- a byte in a plane
+cell-added : (P : ℕ) (t t′ : List ℕ) (s d f z : ℕ) → s < P → cellAt t′ s f ≡ bitXor (cellAt t s f) d → ((q : ℕ) → (q ≡ s → ⊥) → cellAt t′ q f ≡ cellAt t q f)
+    → stackAt P t′ f z ≡ bitXor (stackAt P t f z) (bitOf d z * alpha s)
+cell-added P t t′ s d f z h here there =
+    sum-put P s (bitOf d z * alpha s) (λ q. bitOf (cellAt t q f) z * alpha q) (λ q. bitOf (cellAt t′ q f) z * alpha q)
+    (ap (λ y. y * alpha s) (ap (λ y. bitOf y z) here ∙ bitOf-xor (cellAt t s f) d z) ∙ xor-scale (bitOf (cellAt t s f) z) (bitOf d z) (alpha s) (bitOf-lt _ z) (bitOf-lt d z))
+    (λ q other. ap (λ y. bitOf y z * alpha q) (there q other))
+    ∙ ap (λ b. bitXor (stackAt P t f z) (cond b 1 0 * (bitOf d z * alpha s))) (ltb-yes s P h)
+    ∙ ap (bitXor (stackAt P t f z)) (one-mul (bitOf d z * alpha s))
 
-last : (x y z d : ℕ) → bitXor x (bitXor (bitXor y d) z) ≡ bitXor (bitXor x (bitXor y z)) d
-last x y z d =
-    ap (bitXor x) (xor-assoc y d z ∙ ap (bitXor y) (xor-comm d z) ∙ sym (xor-assoc y z d)) ∙ sym (xor-assoc x (bitXor y z) d)
+-- the same, where it is x under the mask of the bit q
+pub masked-added : (P : ℕ) (t t′ : List ℕ) (s x mask q f z : ℕ) → s < P → x < 256 → q < 2 → mask ≡ q * 255 → cellAt t′ s f ≡ bitXor (cellAt t s f) (bitAnd x mask)
+    → ((r : ℕ) → (r ≡ s → ⊥) → cellAt t′ r f ≡ cellAt t r f) → stackAt P t′ f z ≡ bitXor (stackAt P t f z) (q * (bitOf x z * alpha s))
+masked-added P t t′ s x mask q f z h hx hq is here there =
+    cell-added P t t′ s (x * q) f z h (here ∙ ap (bitXor (cellAt t s f)) (ap (bitAnd x) is ∙ mask-times q x hq hx)) there
+    ∙ ap (bitXor (stackAt P t f z)) (ap (λ y. y * alpha s) (times-bit q x z hq ∙ mul-comm (bitOf x z) q) ∙ mul-assoc q (bitOf x z) (alpha s))
 
-module _ (p v y : ℕ) (β β′ : ℕ → ℕ) (hp : p < 8) (hv : v < 256) (hy : y < 2) (bits : (s : ℕ) → β s < 2)
-    (here : (i : ℕ) → i < 8 → β′ (p + i) ≡ bitXor (β (p + i)) (y * bitOf v i))
-    (there : (s : ℕ) → ((i : ℕ) → i < 8 → s ≡ p + i → ⊥) → β′ s ≡ β s) where
-  split : (g : ℕ → ℕ) → xorSum 15 g ≡ bitXor (xorSum p g) (bitXor (xorSum 8 (λ i. g (p + i))) (xorSum (7 - p) (λ i. g (p + (8 + i)))))
-  split g =
-      let e : 15 ≡ p + (8 + (7 - p)) = omega arith in
-      ap (λ k. xorSum k g) e ∙ sum-parts p (8 + (7 - p)) g ∙ ap (bitXor (xorSum p g)) (sum-parts 8 (7 - p) (λ i. g (p + i)))
+-- one after the other
+pub two-added : (a b c d e : ℕ) → b ≡ bitXor a d → c ≡ bitXor b e → c ≡ bitXor a (bitXor d e)
+two-added a b c d e first second = second ∙ ap (λ x. bitXor x e) first ∙ xor-assoc a d e
 
-  small : (i : ℕ) → y * bitOf v i < 2
-  small i = go y (bitOf v i) hy (bitOf-lt v i)
-    where
-      go : (a b : ℕ) → a < 2 → b < 2 → a * b < 2
-      go zero b h k = rw (zero-mul b) (lit< tt)
-      go (suc zero) b h k = rw (one-mul b) k
-      go (suc (suc a)) b h k = absurd (omega arith)
+-- two such bytes, in planes one after the other
+pub pair-added : (P : ℕ) (t t′ : List ℕ) (p x y m m′ q f z : ℕ) → p + 1 < P → p * chunk + f < length t → x < 256 → y < 256 → q < 2 → m ≡ q * 255 → m′ ≡ q * 255
+    → cellAt t′ p f ≡ bitXor (cellAt t p f) (bitAnd x m) → cellAt t′ (p + 1) f ≡ bitXor (cellAt t (p + 1) f) (bitAnd y m′)
+    → ((r : ℕ) → (r ≡ p → ⊥) → (r ≡ p + 1 → ⊥) → cellAt t′ r f ≡ cellAt t r f)
+    → stackAt P t′ f z ≡ bitXor (stackAt P t f z) (bitXor (q * (bitOf x z * alpha p)) (q * (bitOf y z * alpha (p + 1))))
+pair-added P t t′ p x y m m′ q f z h fits hx hy hq is is′ first second there =
+    let at = p * chunk + f in
+    let half = set t at (cellAt t′ p f) in
+    let own : cellAt half p f ≡ cellAt t′ p f = getD-set-same t at (cellAt t′ p f) 0 fits in
+    let rest : (r : ℕ) → (r ≡ p → ⊥) → cellAt half r f ≡ cellAt t r f = λ r other. getD-set-other t at (r * chunk + f) (cellAt t′ p f) 0 (λ e. other (omega arith)) in
+    let both : (r : ℕ) → (r ≡ p + 1 → ⊥) → Dec (r ≡ p) → cellAt t′ r f ≡ cellAt half r f = λ r other d. by-cases r other d own rest in
+    two-added (stackAt P t f z) (stackAt P half f z) (stackAt P t′ f z) (q * (bitOf x z * alpha p)) (q * (bitOf y z * alpha (p + 1)))
+    (masked-added P t half p x m q f z (omega arith) hx hq is (own ∙ first) rest)
+    (masked-added P half t′ (p + 1) y m′ q f z h hy hq is′ (second ∙ ap (λ c. bitXor c (bitAnd y m′)) (sym (rest (p + 1) (λ e. omega arith)))) (λ r other. both r other (ℕ-discrete r p)))
+  where
+    by-cases : (r : ℕ) → (r ≡ p + 1 → ⊥) → Dec (r ≡ p) → cellAt (set t (p * chunk + f) (cellAt t′ p f)) p f ≡ cellAt t′ p f → ((s : ℕ) → (s ≡ p → ⊥) → cellAt (set t (p * chunk + f) (cellAt t′ p f)) s f ≡ cellAt t s f) → cellAt t′ r f ≡ cellAt (set t (p * chunk + f) (cellAt t′ p f)) r f
+    by-cases r other (yes e) own rest = rw e (sym own)
+    by-cases r other (no k) own rest = there r k other ∙ sym (rest r k)
 
-  added : xorSum 8 (λ i. y * bitOf v i * alpha (p + i)) ≡ y * product (alpha p) v
-  added =
-      sum-same 8 _ (λ i. y * (bitOf v i * product (alpha p) (alpha i))) (λ i l. mul-assoc y (bitOf v i) (alpha (p + i)) ∙ ap (λ x. y * (bitOf v i * x)) (alpha-add p i))
-      ∙ sym (bit-sum y 8 (λ i. bitOf v i * product (alpha p) (alpha i)) hy)
-      ∙ ap (λ x. y * x) (product-bits (alpha p) 8 (bitOf v) alpha (bitOf-lt v) ∙ ap (product (alpha p)) (byte-bits v hv))
+-- ---- what the bits of a byte v add to a stack, of two planes, x and y there
 
-  middle : xorSum 8 (λ i. β′ (p + i) * alpha (p + i)) ≡ bitXor (xorSum 8 (λ i. β (p + i) * alpha (p + i))) (y * product (alpha p) v)
-  middle =
-      sum-same 8 _ (λ i. bitXor (β (p + i) * alpha (p + i)) (y * bitOf v i * alpha (p + i)))
-      (λ i l. ap (λ x. x * alpha (p + i)) (here i l) ∙ xor-scale (β (p + i)) (y * bitOf v i) (alpha (p + i)) (bits (p + i)) (small i))
-      ∙ sum-both 8 (λ i. β (p + i) * alpha (p + i)) (λ i. y * bitOf v i * alpha (p + i))
-      ∙ ap (bitXor (xorSum 8 (λ i. β (p + i) * alpha (p + i)))) added
+-- under bit i
+abbrev pub term : ℕ → ℕ → ℕ → ℕ → ℕ → ℕ
+term p x y v i = bitXor (bitOf v i * (x * alpha (p + i))) (bitOf v i * (y * alpha (p + 1 + i)))
 
-  pub plane-added : xorSum 15 (λ s. β′ s * alpha s) ≡ bitXor (xorSum 15 (λ s. β s * alpha s)) (y * product (alpha p) v)
-  plane-added =
-      split (λ s. β′ s * alpha s)
-      ∙ ap₂ bitXor (sum-same p _ (λ s. β s * alpha s) (λ s l. ap (λ x. x * alpha s) (there s (λ i k e. omega arith))))
-      (ap₂ bitXor middle (sum-same (7 - p) _ (λ i. β (p + (8 + i)) * alpha (p + (8 + i))) (λ s l. ap (λ x. x * alpha (p + (8 + s))) (there (p + (8 + s)) (λ i k e. omega arith)))))
-      ∙ last (xorSum p (λ s. β s * alpha s)) (xorSum 8 (λ i. β (p + i) * alpha (p + i))) (xorSum (7 - p) (λ i. β (p + (8 + i)) * alpha (p + (8 + i)))) (y * product (alpha p) v)
-      ∙ ap (λ x. bitXor x (y * product (alpha p) v)) (sym (split (λ s. β s * alpha s)))
+one-plane : (p x v : ℕ) → x < 2 → v < 256 → xorSum 8 (λ i. bitOf v i * (x * alpha (p + i))) ≡ x * product (alpha p) v
+one-plane p x v hx hv =
+    sum-same 8 _ (λ i. x * (bitOf v i * product (alpha p) (alpha i)))
+    (λ i l. sym (mul-assoc (bitOf v i) x (alpha (p + i))) ∙ ap (λ y. y * alpha (p + i)) (mul-comm (bitOf v i) x) ∙ mul-assoc x (bitOf v i) (alpha (p + i)) ∙ ap (λ y. x * (bitOf v i * y)) (alpha-add p i))
+    ∙ sym (bit-sum x 8 (λ i. bitOf v i * product (alpha p) (alpha i)) hx)
+    ∙ ap (λ y. x * y) (product-bits (alpha p) 8 (bitOf v) alpha (bitOf-lt v) ∙ ap (product (alpha p)) (byte-bits v hv))
 
--- a plane in a side, under a bit
-pub side-added : (t t′ : List ℕ) (p m x f z : ℕ) → p < 8 → x < 2 → cellAt t′ p f ≡ bitXor (cellAt t p f) (m * x) → ((s : ℕ) → (s ≡ p → ⊥) → cellAt t′ s f ≡ cellAt t s f)
-    → stackAt 8 t′ f z ≡ bitXor (stackAt 8 t f z) (x * (bitOf m z * alpha p))
-side-added t t′ p m x f z hp hx here there =
-    sum-put 8 p (x * (bitOf m z * alpha p)) (λ s. bitOf (cellAt t s f) z * alpha s) (λ s. bitOf (cellAt t′ s f) z * alpha s)
-    (ap (λ y. y * alpha p) (ap (λ y. bitOf y z) here ∙ bitOf-xor (cellAt t p f) (m * x) z ∙ ap (bitXor (bitOf (cellAt t p f) z)) (times-bit x m z hx))
-    ∙ xor-scale (bitOf (cellAt t p f) z) (bitOf m z * x) (alpha p) (bitOf-lt _ z) (bit-times-lt (bitOf m z) x (bitOf-lt m z) hx)
-    ∙ ap (bitXor (bitOf (cellAt t p f) z * alpha p)) (ap (λ y. y * alpha p) (mul-comm (bitOf m z) x) ∙ mul-assoc x (bitOf m z) (alpha p)))
-    (λ s other. ap (λ y. bitOf y z * alpha s) (there s other))
-    ∙ ap (λ b. bitXor (stackAt 8 t f z) (cond b 1 0 * (x * (bitOf m z * alpha p)))) (ltb-yes p 8 hp)
-    ∙ ap (bitXor (stackAt 8 t f z)) (one-mul (x * (bitOf m z * alpha p)))
+pub two-planes : (p x y v : ℕ) → x < 2 → y < 2 → v < 256 → xorSum 8 (term p x y v) ≡ bitXor (x * product (alpha p) v) (y * product (alpha (p + 1)) v)
+two-planes p x y v hx hy hv =
+    sum-both 8 (λ i. bitOf v i * (x * alpha (p + i))) (λ i. bitOf v i * (y * alpha (p + 1 + i))) ∙ ap₂ bitXor (one-plane p x v hx hv) (one-plane (p + 1) y v hy hv)

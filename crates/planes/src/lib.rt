@@ -1,14 +1,14 @@
-// A plane of bits, added to a stack times a vector, and to a side under a mask. All of it is secret but the places: no branch and no index goes by it.
+// Two planes of bits, added to a stack times a vector, and to a side under a mask: two at a time, because a plane of the stack is then read and
+// written once for both. All of it is secret but the places: no branch and no index goes by it.
 ghost use mathlib.Core.Path.{_≡_};
 ghost use mathlib.Core.List.{List};
 ghost use Prim.Native.Nat.{ℕ, _+_, _*_, _<_, _≤_};
 ghost use lib.ListN.{length};
-ghost use lib.Bits.{bitXor};
+ghost use lib.Bits.{bitXor, bitAnd};
 ghost use Rattle.strings.specs.Sums.{byteAt, bitOf};
-ghost use Rattle.chunks.specs.Chunks.{chunk, pair, Masks};
+ghost use Rattle.chunks.specs.Chunks.{chunk, pair, cellAt, Masks};
 ghost use Rattle.columns.specs.Stacks.{alpha, product, stackAt};
 use chunks::CHUNK;
-use chunks::PAIR;
 
 fn put_copy(v: &mut [u8], h: usize, src: &[u8; CHUNK])
     requires { ⌜ (h * chunk + chunk ≤ length (now v)) × (length (now src) ≡ chunk) ⌝ }
@@ -28,22 +28,46 @@ pub fn double(v: &mut [u8], src: &[u8; CHUNK])
     put_copy(v, 1, src);
 }
 
-// Adds a plane whose weight is α^p, times v, whose masks are lent: mask b is that of α^b. The plane is lent twice, for two masks at a time.
-pub fn absorb_plane(t: &mut [u8], p: usize, twice: &[u8], masks: &[u8])
-    requires { ⌜ (length (now t) ≡ 15 * chunk) × (p < 8) × (length (now twice) ≡ pair) × (length (now masks) ≡ 8 * chunk) ⌝ }
-    ensures { λ _. ⌜ ((m v : List ℕ) (f z : ℕ) → ((h f : ℕ) → h < 2 → f < chunk → byteAt (now (twice .entry)) (h * chunk + f) ≡ byteAt m f) → Masks v (now (masks .entry)) → byteAt v f < 256 → f < chunk → stackAt 15 (now (t .exit)) f z ≡ bitXor (stackAt 15 (now (t .entry)) f z) (bitOf (byteAt m f) z * product (alpha p) (byteAt v f))) ⌝ }
+// Adds x under a mask to byte f of plane s.
+fn add_byte(t: &mut [u8], s: usize, f: usize, x: u8, mask: u8)
+    requires { ⌜ (s * chunk + chunk ≤ length (now t)) × (f < chunk) ⌝ }
+    ensures { λ _. ⌜ cellAt (now (t .exit)) s f ≡ bitXor (cellAt (now (t .entry)) s f) (bitAnd x mask) ⌝ }
+    ensures { λ _. ⌜ ((q g : ℕ) → (q ≡ s → g ≡ f → ⊥) → g < chunk → cellAt (now (t .exit)) q g ≡ cellAt (now (t .entry)) q g) ⌝ }
 {
-    let mut g = 0;
-    while g < 4 {
-        chunks::masks::xor_and_rows(t, p + 2 * g, twice, strings::row_at(masks, PAIR, g));
-        g += 1;
+    t[s * CHUNK + f] ^= x & mask;
+}
+
+// Adds at byte f two planes, x and y there, whose weights are α^p and α^(p+1), times v, whose masks are lent: mask b is that of α^b.
+fn absorb_byte(t: &mut [u8], p: usize, f: usize, x: u8, y: u8, masks: &[u8])
+    requires { ⌜ (length (now t) ≡ 15 * chunk) × (p < 7) × (f < chunk) × (length (now masks) ≡ 8 * chunk) ⌝ }
+    ensures { λ _. ⌜ ((v z : ℕ) → ((b : ℕ) → b < 8 → byteAt (now (masks .entry)) (b * chunk + f) ≡ bitOf v b * 255) → v < 256 → stackAt 15 (now (t .exit)) f z ≡ bitXor (stackAt 15 (now (t .entry)) f z) (bitXor (bitOf x z * product (alpha p) v) (bitOf y z * product (alpha (p + 1)) v))) ⌝ }
+    ensures { λ _. ⌜ ((q g : ℕ) → (g ≡ f → ⊥) → g < chunk → cellAt (now (t .exit)) q g ≡ cellAt (now (t .entry)) q g) ⌝ }
+{
+    let mut b = 0;
+    while b < 8 {
+        let mask = masks[b * CHUNK + f];
+        add_byte(t, p + b, f, x, mask);
+        add_byte(t, p + 1 + b, f, y, mask);
+        b += 1;
     }
 }
 
-// Adds m, a plane whose weight is α^p, under a mask.
-pub fn absorb_side(t: &mut [u8], p: usize, m: &[u8], mask: &[u8])
-    requires { ⌜ (length (now t) ≡ 8 * chunk) × (p < 8) × (length (now m) ≡ chunk) × (length (now mask) ≡ chunk) ⌝ }
-    ensures { λ _. ⌜ ((x f z : ℕ) → x < 2 → byteAt (now (mask .entry)) f ≡ x * 255 → f < chunk → stackAt 8 (now (t .exit)) f z ≡ bitXor (stackAt 8 (now (t .entry)) f z) (x * (bitOf (byteAt (now (m .entry)) f) z * alpha p))) ⌝ }
+// The same at each byte of two planes that stand side by side.
+pub fn absorb_planes(t: &mut [u8], p: usize, both: &[u8], masks: &[u8])
+    requires { ⌜ (length (now t) ≡ 15 * chunk) × (p < 7) × (length (now both) ≡ pair) × (length (now masks) ≡ 8 * chunk) ⌝ }
+    ensures { λ _. ⌜ ((v : List ℕ) (f z : ℕ) → Masks v (now (masks .entry)) → byteAt v f < 256 → f < chunk → stackAt 15 (now (t .exit)) f z ≡ bitXor (stackAt 15 (now (t .entry)) f z) (bitXor (bitOf (cellAt (now (both .entry)) 0 f) z * product (alpha p) (byteAt v f)) (bitOf (cellAt (now (both .entry)) 1 f) z * product (alpha (p + 1)) (byteAt v f)))) ⌝ }
 {
-    chunks::masks::xor_and_row(t, p, m, mask);
+    let mut f = 0;
+    while f < CHUNK {
+        absorb_byte(t, p, f, both[f], both[CHUNK + f], masks);
+        f += 1;
+    }
+}
+
+// Adds both planes under a mask, which is lent twice.
+pub fn absorb_sides(t: &mut [u8], p: usize, both: &[u8], masks: &[u8])
+    requires { ⌜ (length (now t) ≡ 8 * chunk) × (p < 7) × (length (now both) ≡ pair) × (length (now masks) ≡ pair) ⌝ }
+    ensures { λ _. ⌜ ((x f z : ℕ) → x < 2 → ((h : ℕ) → h < 2 → byteAt (now (masks .entry)) (h * chunk + f) ≡ x * 255) → f < chunk → stackAt 8 (now (t .exit)) f z ≡ bitXor (stackAt 8 (now (t .entry)) f z) (bitXor (x * (bitOf (cellAt (now (both .entry)) 0 f) z * alpha p)) (x * (bitOf (cellAt (now (both .entry)) 1 f) z * alpha (p + 1))))) ⌝ }
+{
+    chunks::masks::xor_and_rows(t, p, both, masks);
 }

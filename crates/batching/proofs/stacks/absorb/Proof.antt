@@ -1,14 +1,16 @@
--- `batching::stacks::absorb` meets its contract. The invariant: the planes below p are added, each times its power. What they come to is `StackLaws`.
+-- `batching::stacks::absorb` meets its contract. The invariant: the planes below 2·k are added, each times its power. What they come to is `StackLaws`.
 -- Assumes nothing.
 use borrow.Author.Needs.{needs}
 use Prim.Native.Nat.{ℕ, _+_, _*_, _-_, _≤_, _<_}
 use mathlib.Core.List.{List}
-use mathlib.Core.Path.{_≡_, sym, ap, _∙_}
+use mathlib.Core.Path.{_≡_, refl, sym, ap, ap₂, _∙_}
 use native.Mathlib.Omega.{arith}
 use denote.Ref.{now}
 use lib.ListN.{length}
 use lib.Bits.{bitXor, xor-zero-r}
 use Rattle.strings.specs.Sums.{byteAt, bitOf, xorSum}
+use Rattle.protocol.specs.Lists.{blockAt}
+use Rattle.strings.proofs.XorLaws.{xor-assoc}
 use Rattle.strings.proofs.Rows.{row-end, row-byte}
 use Rattle.strings.proofs.SumLaws.{sum-same, sum-step}
 use Rattle.strings.proofs.Meaning.{bitOf-lt, bitOf-sum, bit-times}
@@ -34,19 +36,37 @@ all-terms S v χ m f z small =
 abbrev aside : List ℕ → (ℕ → ℕ) → ℕ → ℕ → ℕ → ℕ → ℕ → ℕ
 aside S χ m x f z p = x * (bitOf (xorSum m (λ i. bitOf (χ i) p * cellAt S i f)) z * alpha p)
 
+-- what a row of offsets looks up, where it is row r of them all
+looked-sum : (S sums offsets row : List ℕ) (χ : ℕ → ℕ) (m n groups base p r f : ℕ) → Weighed S χ m sums offsets groups base → p < 8 → f < chunk → r ≡ base + p → row ≡ blockAt offsets groups r → n ≡ groups
+    → xorSum n (λ g. byteAt sums (byteAt row g * 16 + f)) ≡ xorSum m (λ i. bitOf (χ i) p * cellAt S i f)
+looked-sum S sums offsets row χ m n groups base p r f weighed hp h at is count =
+    ap (λ k. xorSum k (λ g. byteAt sums (byteAt row g * 16 + f))) count
+    ∙ sum-same groups _ (λ g. byteAt sums (byteAt offsets ((base + p) * groups + g) * 16 + f))
+    (λ g k. ap (λ x. byteAt sums (x * 16 + f)) (ap (λ l. byteAt l g) is ∙ row-byte offsets groups r g k ∙ ap (λ j. byteAt offsets (j * groups + g)) at))
+    ∙ chosen-sum S χ m sums offsets groups base p f weighed hp h
+
+-- two more terms
+step-two : (a s k : ℕ) (f : ℕ → ℕ) → s ≡ bitXor a (xorSum (2 * k) f) → bitXor s (bitXor (f (2 * k)) (f (2 * k + 1))) ≡ bitXor a (xorSum (2 * (k + 1)) f)
+step-two a s k f h =
+    let e : 2 * k + 1 + 1 ≡ 2 * (k + 1) = omega arith in
+    sym (xor-assoc s (f (2 * k)) (f (2 * k + 1))) ∙ ap (λ x. bitXor x (f (2 * k + 1))) (sum-step a s (2 * k) f h) ∙ sum-step a _ (2 * k + 1) f refl ∙ ap (λ n. bitXor a (xorSum n f)) e
+
 abbrev Inv-loop : tie.InvT-loop
-Inv-loop t₀ side₀ offsets base groups sums masks mask p₀ t side p = (p ≤ 8) × (length t ≡ 15 * chunk) × (length side ≡ 8 * chunk) × ((S : List ℕ) (χ : ℕ → ℕ) (m x f z : ℕ) → Weighed S χ m sums offsets groups base → x < 2 → byteAt mask f ≡ x * 255 → f < chunk → stackAt 8 side f z ≡ bitXor (stackAt 8 side₀ f z) (xorSum p (aside S χ m x f z))) × ((S v : List ℕ) (χ : ℕ → ℕ) (m f z : ℕ) → Weighed S χ m sums offsets groups base → Masks v masks → byteAt v f < 256 → f < chunk → stackAt 15 t f z ≡ bitXor (stackAt 15 t₀ f z) (xorSum p (term S v χ m f z)))
+Inv-loop t₀ side₀ offsets base groups sums masks mask k₀ t side k = (k ≤ 4) × (length t ≡ 15 * chunk) × (length side ≡ 8 * chunk) × ((S : List ℕ) (χ : ℕ → ℕ) (m x f z : ℕ) → Weighed S χ m sums offsets groups base → x < 2 → ((h : ℕ) → h < 2 → byteAt mask (h * chunk + f) ≡ x * 255) → f < chunk → stackAt 8 side f z ≡ bitXor (stackAt 8 side₀ f z) (xorSum (2 * k) (aside S χ m x f z))) × ((S v : List ℕ) (χ : ℕ → ℕ) (m f z : ℕ) → Weighed S χ m sums offsets groups base → Masks v masks → byteAt v f < 256 → f < chunk → stackAt 15 t f z ≡ bitXor (stackAt 15 t₀ f z) (xorSum (2 * k) (term S v χ m f z)))
 
 abbrev μ-loop : tie.MeasureT-loop
-μ-loop t₀ side₀ offsets base groups sums masks mask p₀ t side p = 8 - p
+μ-loop t₀ side₀ offsets base groups sums masks mask k₀ t side k = 4 - k
 
 loop-holds : tie.Need-loop-holds Inv-loop μ-loop
 unfolding xorSum
 loop-holds c =
     (search needs, search needs, search needs, (λ S χ m x f z h k l i. sym (xor-zero-r _)), λ S v χ m f z h k l i. sym (xor-zero-r _))
 
-slice-aggregate-look-up : tie.Need-slice-aggregate-look-up Inv-loop μ-loop
-slice-aggregate-look-up c = search needs
+slice-aggregate-look-up-two : tie.Need-slice-aggregate-look-up-two Inv-loop μ-loop
+slice-aggregate-look-up-two c = search needs
+
+mul-row-at : tie.Need-mul-row-at Inv-loop μ-loop
+mul-row-at c = search needs
 
 add-row-at : tie.Need-add-row-at Inv-loop μ-loop
 add-row-at c = search needs
@@ -54,73 +74,99 @@ add-row-at c = search needs
 row-at-requires : tie.Need-row-at-requires Inv-loop μ-loop
 row-at-requires c κs =
     let a = c .before .before .before .before .before .before .before .before .before .args in
-    let l = c .before .before .loop in
-    omega (arith, row-end (a .base + l .p) (a .base + 8) (a .groups) (omega arith))
+    let k = c .before .before .loop .k in
+    omega (arith, row-end (a .base + 2 * k) (a .base + 8) (a .groups) (omega (arith, c .before .loop-test .taken)))
 
-look-up-requires : tie.Need-look-up-requires Inv-loop μ-loop
-look-up-requires c κs =
+mul-row-at-2 : tie.Need-mul-row-at-2 Inv-loop μ-loop
+mul-row-at-2 c = search needs
+
+add-row-at-2 : tie.Need-add-row-at-2 Inv-loop μ-loop
+add-row-at-2 c = search needs
+
+add-row-at-3 : tie.Need-add-row-at-3 Inv-loop μ-loop
+add-row-at-3 c = search needs
+
+row-at-requires-2 : tie.Need-row-at-requires-2 Inv-loop μ-loop
+row-at-requires-2 c κs =
     let a = c .before .before .before .before .before .before .before .before .before .before .args in
-    let pre = c .before .before .before .before .before .before .before .before .before .before .pre in
-    let r = a .base + c .before .before .before .loop .p in
-    let row = c .row-at in (
-      search needs,
-      omega (arith, row .ensures .1, pre .3),
-      λ g h.
-          let inside : g < a .groups = omega (arith, h, row .ensures .1) in
-          let is : byteAt (now (row .result)) g ≡ byteAt (now (a .offsets)) (r * a .groups + g) = ap (λ (x : List ℕ). byteAt x g) (row .ensures .0) ∙ row-byte (now (a .offsets)) (a .groups) r g inside in
-          rw is (pre .4 (r * a .groups + g) (omega (arith, inside, row-end r (a .base + 8) (a .groups) (omega arith)))),
+    let k = c .before .before .before .loop .k in
+    omega (arith, row-end (a .base + 2 * k + 1) (a .base + 8) (a .groups) (omega (arith, c .before .before .loop-test .taken)))
+
+look-up-two-requires : tie.Need-look-up-two-requires Inv-loop μ-loop
+look-up-two-requires c κs =
+    let a = c .before .before .before .before .before .before .before .before .before .before .before .args in
+    let pre = c .before .before .before .before .before .before .before .before .before .before .before .pre in
+    let lt = c .before .before .before .loop-test .taken in
+    let r : ℕ = a .base + 2 * c .before .before .before .before .loop .k in
+    let first = c .before .row-at in
+    let second = c .row-at2 in
+    let groups = a .groups in
+    let O = now (a .offsets) in
+    let fits : (i g : ℕ) → i < a .base + 8 → g < groups → byteAt O (i * groups + g) * 16 + chunk ≤ length (now (a .sums)) = λ i g hi hg. pre .4 (i * groups + g) (omega (arith, hg, row-end i (a .base + 8) groups hi)) in (
+      refl,
+      second .ensures .1 ∙ sym (first .ensures .1),
+      (λ g h.
+          let inside : g < groups = omega (arith, h, first .ensures .1) in
+          let is : byteAt (now (first .result)) g ≡ byteAt O (r * groups + g) = ap (λ (x : List ℕ). byteAt x g) (first .ensures .0) ∙ row-byte O groups r g inside in
+          rw is (fits r g (omega (arith, lt)) inside)),
+      (λ g h.
+          let inside : g < groups = omega (arith, h, first .ensures .1) in
+          let is : byteAt (now (second .result)) g ≡ byteAt O ((r + 1) * groups + g) = ap (λ (x : List ℕ). byteAt x g) (second .ensures .0) ∙ row-byte O groups (r + 1) g inside in
+          rw is (fits (r + 1) g (omega (arith, lt)) inside)),
     )
 
-slice-aggregate-double : tie.Need-slice-aggregate-double Inv-loop μ-loop
-slice-aggregate-double c = search needs
+mul-absorb-planes : tie.Need-mul-absorb-planes Inv-loop μ-loop
+mul-absorb-planes c = search needs
 
-double-requires : tie.Need-double-requires Inv-loop μ-loop
-double-requires c κs = search needs
+slice-aggregate-absorb-planes : tie.Need-slice-aggregate-absorb-planes Inv-loop μ-loop
+slice-aggregate-absorb-planes c = search needs
 
-slice-aggregate-absorb-plane : tie.Need-slice-aggregate-absorb-plane Inv-loop μ-loop
-slice-aggregate-absorb-plane c = search needs
+absorb-planes-requires : tie.Need-absorb-planes-requires Inv-loop μ-loop
+absorb-planes-requires c κs = search needs
 
-absorb-plane-requires : tie.Need-absorb-plane-requires Inv-loop μ-loop
-absorb-plane-requires c κs = search needs
+mul-absorb-sides : tie.Need-mul-absorb-sides Inv-loop μ-loop
+mul-absorb-sides c = search needs
 
-slice-aggregate-absorb-side : tie.Need-slice-aggregate-absorb-side Inv-loop μ-loop
-slice-aggregate-absorb-side c = search needs
+slice-aggregate-absorb-sides : tie.Need-slice-aggregate-absorb-sides Inv-loop μ-loop
+slice-aggregate-absorb-sides c = search needs
 
-absorb-side-requires : tie.Need-absorb-side-requires Inv-loop μ-loop
-absorb-side-requires c κs = search needs
+absorb-sides-requires : tie.Need-absorb-sides-requires Inv-loop μ-loop
+absorb-sides-requires c κs = search needs
 
-add-p : tie.Need-add-p Inv-loop μ-loop
-add-p c = search needs
+add-k : tie.Need-add-k Inv-loop μ-loop
+add-k c = search needs
 
 loop-less : tie.Need-loop-less Inv-loop μ-loop
 loop-less c = search needs
 
 loop-again : tie.Need-loop-again Inv-loop μ-loop
 loop-again c =
-    let a = c .before .before .before .before .before .before .before .before .before .before .before .before .before .before .before .before .before .before .before .before .before .before .before .before .before .before .args in
-    let l = c .before .before .before .before .before .before .before .before .before .before .before .before .before .before .before .before .before .before .before .loop in
-    let row = c .before .before .before .before .before .before .before .before .before .before .before .before .before .before .before .before .row-at in
-    let looked = c .before .before .before .before .before .before .before .before .before .before .before .before .before .before .before .look-up in
-    let doubled = c .before .before .before .before .before .before .before .before .before .before .before .double in
-    let done = c .before .before .before .before .before .before .before .absorb-plane in
-    let beside = c .before .before .absorb-side in
-    let sum : (S : List ℕ) (χ : ℕ → ℕ) (m f : ℕ) → Weighed S χ m (now (a .sums)) (now (a .offsets)) (a .groups) (a .base) → f < chunk → byteAt (looked .last .0) f ≡ xorSum m (λ i. bitOf (χ i) (l .p) * cellAt S i f) =
+    let a = c .before .before .before .before .before .before .before .before .before .before .before .before .before .before .before .before .before .before .before .before .before .before .before .args in
+    let l = c .before .before .before .before .before .before .before .before .before .before .before .before .before .before .before .before .loop in
+    let lt : l .k < 4 = omega (arith, c .before .before .before .before .before .before .before .before .before .before .before .before .before .before .before .loop-test .taken) in
+    let first = c .before .before .before .before .before .before .before .before .before .before .before .before .before .row-at in
+    let second = c .before .before .before .before .before .before .before .before .before .before .before .before .row-at2 in
+    let both = c .before .before .before .before .before .before .before .before .before .before .before .look-up-two .last .0 in
+    let done = c .before .before .before .before .before .before .before .absorb-planes in
+    let beside = c .before .before .absorb-sides in
+    let p : ℕ = 2 * l .k in
+    let one : (S : List ℕ) (χ : ℕ → ℕ) (m f : ℕ) → Weighed S χ m (now (a .sums)) (now (a .offsets)) (a .groups) (a .base) → f < chunk → cellAt both 0 f ≡ xorSum m (λ i. bitOf (χ i) p * cellAt S i f) =
     λ S χ m f weighed h.
-    looked .ensures f h ∙ ap (λ (n : ℕ). xorSum n (λ g. byteAt (now (a .sums)) (byteAt (now (row .result)) g * 16 + f))) (row .ensures .1)
-    ∙ sum-same (a .groups) _ (λ g. byteAt (now (a .sums)) (byteAt (now (a .offsets)) ((a .base + l .p) * a .groups + g) * 16 + f))
-    (λ g k. ap (λ (x : ℕ). byteAt (now (a .sums)) (x * 16 + f)) (ap (λ (x : List ℕ). byteAt x g) (row .ensures .0) ∙ row-byte (now (a .offsets)) (a .groups) (a .base + l .p) g k))
-    ∙ chosen-sum S χ m (now (a .sums)) (now (a .offsets)) (a .groups) (a .base) (l .p) f weighed (omega (arith, c .before .before .before .before .before .before .before .before .before .before .before .before .before .before .before .before .before .before .loop-test .taken)) h in (
-      omega (arith, c .before .before .before .before .before .before .before .before .before .before .before .before .before .before .before .before .before .before .loop-test .taken),
+    c .before .before .before .before .before .before .before .before .before .before .before .look-up-two .ensures .0 f h ∙ looked-sum S (now (a .sums)) (now (a .offsets)) (now (first .result)) χ m _ (a .groups) (a .base) p (a .base + p) f weighed (omega (arith, lt)) h refl (first .ensures .0) (first .ensures .1) in
+    let two : (S : List ℕ) (χ : ℕ → ℕ) (m f : ℕ) → Weighed S χ m (now (a .sums)) (now (a .offsets)) (a .groups) (a .base) → f < chunk → cellAt both 1 f ≡ xorSum m (λ i. bitOf (χ i) (p + 1) * cellAt S i f) =
+    λ S χ m f weighed h.
+    c .before .before .before .before .before .before .before .before .before .before .before .look-up-two .ensures .1 f h ∙ looked-sum S (now (a .sums)) (now (a .offsets)) (now (second .result)) χ m _ (a .groups) (a .base) (p + 1) (a .base + p + 1) f weighed (omega (arith, lt)) h (omega arith) (second .ensures .0) (first .ensures .1) in (
+      omega (arith, lt),
       done .kept .0 ∙ l .inv .1,
       beside .kept .0 ∙ l .inv .2,
       (λ S χ m x f z weighed hx mask h.
           beside .ensures x f z hx mask h
-          ∙ ap (λ (y : ℕ). bitXor (stackAt 8 (l .side) f z) (x * (bitOf y z * alpha (l .p)))) (sum S χ m f weighed h)
-          ∙ sum-step (stackAt 8 (now (a .side)) f z) (stackAt 8 (l .side) f z) (l .p) (aside S χ m x f z) (l .inv .3 S χ m x f z weighed hx mask h)),
+          ∙ ap₂ (λ (y w : ℕ). bitXor (stackAt 8 (l .side) f z) (bitXor (x * (bitOf y z * alpha p)) (x * (bitOf w z * alpha (p + 1))))) (one S χ m f weighed h) (two S χ m f weighed h)
+          ∙ step-two (stackAt 8 (now (a .side)) f z) (stackAt 8 (l .side) f z) (l .k) (aside S χ m x f z) (l .inv .3 S χ m x f z weighed hx mask h)),
       (λ S v χ m f z weighed masks hv h.
-          done .ensures (looked .last .0) v f z (doubled .ensures) masks hv h
-          ∙ ap (λ (x : ℕ). bitXor (stackAt 15 (l .t) f z) (bitOf x z * product (alpha (l .p)) (byteAt v f))) (sum S χ m f weighed h)
-          ∙ sum-step (stackAt 15 (now (a .t)) f z) (stackAt 15 (l .t) f z) (l .p) (term S v χ m f z) (l .inv .4 S v χ m f z weighed masks hv h)),
+          done .ensures v f z masks hv h
+          ∙ ap₂ (λ (x y : ℕ). bitXor (stackAt 15 (l .t) f z) (bitXor (bitOf x z * product (alpha p) (byteAt v f)) (bitOf y z * product (alpha (p + 1)) (byteAt v f)))) (one S χ m f weighed h) (two S χ m f weighed h)
+          ∙ step-two (stackAt 15 (now (a .t)) f z) (stackAt 15 (l .t) f z) (l .k) (term S v χ m f z) (l .inv .4 S v χ m f z weighed masks hv h)),
     )
 
 same-length : tie.Need-same-length Inv-loop μ-loop
@@ -133,7 +179,7 @@ returns : tie.Need-returns Inv-loop μ-loop
 returns c =
     let a = c .before .before .before .before .before .before .before .before .args in
     let l = c .before .loop in
-    let end : l .p ≡ 8 = omega arith in (
+    let end : l .k ≡ 4 = omega arith in (
       (λ S v χ m f z weighed masks hv h. (rw end at (l .inv .4)) S v χ m f z weighed masks hv h ∙ ap (bitXor (stackAt 15 (now (a .t)) f z)) (all-terms S v χ m f z (weighed .3))),
       (λ S χ m x f z weighed hx mask h. (rw end at (l .inv .3)) S χ m x f z weighed hx mask h ∙ ap (bitXor (stackAt 8 (now (a .side)) f z)) (side-sum S χ m x f z hx (weighed .3))),
     )
@@ -145,17 +191,22 @@ absorb-spec =
     Inv-loop
     μ-loop
     loop-holds
-    slice-aggregate-look-up
+    slice-aggregate-look-up-two
+    mul-row-at
     add-row-at
     row-at-requires
-    look-up-requires
-    slice-aggregate-double
-    double-requires
-    slice-aggregate-absorb-plane
-    absorb-plane-requires
-    slice-aggregate-absorb-side
-    absorb-side-requires
-    add-p
+    mul-row-at-2
+    add-row-at-2
+    add-row-at-3
+    row-at-requires-2
+    look-up-two-requires
+    mul-absorb-planes
+    slice-aggregate-absorb-planes
+    absorb-planes-requires
+    mul-absorb-sides
+    slice-aggregate-absorb-sides
+    absorb-sides-requires
+    add-k
     loop-less
     loop-again
     same-length

@@ -97,14 +97,14 @@ add-first-requires c κs =
     let l = c .before .before .before .before .before .before .before .before .loop in
     (omega (arith, l .inv .1, pre .0, pre .7), omega (arith, l .inv .3, c .before .before .before .before .fill-sums .kept .0))
 
-slice-aggregate-spread : tie.Need-slice-aggregate-spread Inv-loop μ-loop
-slice-aggregate-spread c = search needs
+slice-aggregate-spread-twice : tie.Need-slice-aggregate-spread-twice Inv-loop μ-loop
+slice-aggregate-spread-twice c = search needs
 
-mul-spread : tie.Need-mul-spread Inv-loop μ-loop
-mul-spread c = search needs
+mul-spread-twice : tie.Need-mul-spread-twice Inv-loop μ-loop
+mul-spread-twice c = search needs
 
-spread-requires : tie.Need-spread-requires Inv-loop μ-loop
-spread-requires c κs =
+spread-twice-requires : tie.Need-spread-twice-requires Inv-loop μ-loop
+spread-twice-requires c κs =
     let pre = c .before .before .before .before .before .before .before .before .before .before .before .before .before .before .before .before .before .before .before .before .pre in
     (search needs, omega (arith, pre .4, pre .13, c .before .before .before .before .before .before .before .before .before .before .before .loop-test .taken))
 
@@ -139,7 +139,7 @@ loop-again c =
     let row = c .before .before .before .before .before .before .before .before .before .before .before .before .before .before .before .before .before .before .before .before .row-at in
     let filled = c .before .before .before .before .before .before .before .before .before .before .before .before .before .before .before .before .before .before .before .fill-sums in
     let settled = c .before .before .before .before .before .before .before .before .before .before .before .before .before .before .add-first in
-    let spreads = c .before .before .before .before .before .before .before .before .before .before .spread in
+    let spreads = c .before .before .before .before .before .before .before .before .before .before .spread-twice in
     let done = c .before .before .before .before .absorb-lanes in
     let cells = now (a .cells) in
     let S = blockAt cells (a .m * chunk) (l .q) in
@@ -164,7 +164,7 @@ loop-again c =
       (λ χ x e h f z small chosen bit masks he hh hf.
           let inside : h * 16 + f < chunk = omega arith in
           let row : l .q * 16 + f < most = omega (arith, pre .4, c .before .before .before .before .before .before .before .before .before .before .before .before .before .before .before .before .before .before .before .before .before .before .loop-test .taken) in
-          done .ensures .1 S (λ q. byteAt (blockAt χ (a .m) q)) (a .m) (x (l .q * 16 + f)) e (h * 16 + f) z (all χ small chosen) (bit (l .q * 16 + f)) (spreads .ensures h f hh hf ∙ masks (l .q * 16 + f) row) he inside
+          done .ensures .1 S (λ q. byteAt (blockAt χ (a .m) q)) (a .m) (x (l .q * 16 + f)) e (h * 16 + f) z (all χ small chosen) (bit (l .q * 16 + f)) (λ k hk. spreads .ensures k h f hk hh hf ∙ masks (l .q * 16 + f) row) he inside
           ∙ ap (λ (y : ℕ). bitXor (stackOf 8 (l .sides) e (h * 16 + f) z) (x (l .q * 16 + f) * y)) (sum-is cells χ (a .m) e (l .q) (h * 16 + f) z inside)
           ∙ sum-step (stackOf 8 (now (a .sides)) e (h * 16 + f) z) (stackOf 8 (l .sides) e (h * 16 + f) z) (l .q) (aside cells (a .m) χ x e h f z) (l .inv .5 χ x e h f z small chosen bit masks he hh hf)),
     )
@@ -196,9 +196,9 @@ collect-spec =
     row-at-requires
     fill-sums-requires
     add-first-requires
-    slice-aggregate-spread
-    mul-spread
-    spread-requires
+    slice-aggregate-spread-twice
+    mul-spread-twice
+    spread-twice-requires
     mul-absorb-lanes
     slice-aggregate-absorb-lanes
     absorb-lanes-requires
