@@ -1,5 +1,6 @@
 // Forms of the batched matrix, a panel of sixteen columns after the other.
 ghost use mathlib.Core.Path.{_≡_};
+ghost use mathlib.Core.Bool.{false};
 ghost use mathlib.Core.List.{List};
 ghost use Prim.Native.Nat.{ℕ, _+_, _*_, _/_, _%_, _<_, _≤_};
 ghost use lib.ListN.{length};
@@ -53,10 +54,11 @@ fn add_panel(
     table: &[u8],
     bits: &[u8],
     xs: &[u8],
+    polar: bool,
     panel: usize,
 )
     requires { ⌜ (length (now quad) ≡ lanes) × (length (now mid) ≡ lanes) × (length (now cells) ≡ 51200) × (length (now sums) ≡ 32768) × (length (now a) ≡ m * (n * width)) × (width ≡ bytesFor n) × (n ≤ 160) × (0 < m) × (m ≤ 160) × (0 < tau) × (tau ≤ lanes) × (groups ≡ (m + 9) / 10 * 2) × (tau * 8 * groups ≤ length (now offsets)) × ((k : ℕ) → k < tau * 8 * groups → byteAt (now offsets) k * 16 + chunk ≤ 32768) × (length (now table) ≡ n * lanes) × (panel * 16 < n) ⌝ }
-    requires { ⌜ (tau * most ≤ length (now vectors)) × (length (now bits) ≡ most) × (length (now xs) ≡ most) × ((c : ℕ) → byteAt (now xs) c < 2) × ((c : ℕ) → n ≤ c → byteAt (now xs) c ≡ 0) × ((e c : ℕ) → e < tau → c < most → byteAt (now vectors) (e * most + c) ≡ laneAt (now table) c e) × ((c : ℕ) → c < most → byteAt (now bits) c ≡ byteAt (now xs) c * 255) ⌝ }
+    requires { ⌜ (tau * most ≤ length (now vectors)) × (length (now bits) ≡ most) × (length (now xs) ≡ most) × ((c : ℕ) → byteAt (now xs) c < 2) × ((c : ℕ) → n ≤ c → byteAt (now xs) c ≡ 0) × ((e c : ℕ) → e < tau → c < most → byteAt (now vectors) (e * most + c) ≡ laneAt (now table) c e) × ((c : ℕ) → c < most → byteAt (now bits) c ≡ byteAt (now xs) c * 255) × (polar ≡ false → (c : ℕ) → byteAt (now xs) c ≡ 0) ⌝ }
     ensures { λ _. ⌜ ((χ : List ℕ) (e : ℕ) → ((k : ℕ) → byteAt χ k < 256) → ((r : ℕ) → r < tau * 8 → Chosen χ m groups (now (offsets .entry)) r) → e < tau → byteAt (now (quad .exit)) e ≡ bitXor (byteAt (now (quad .entry)) e) (xorSum 16 (λ s. product (laneAt (now (table .entry)) (panel * 16 + s) e) (leftSum width (n * width) m (now (a .entry)) χ e (λ ρ. laneAt (now (table .entry)) ρ e) panel (panel * 16 + s))))) ⌝ }
     ensures { λ _. ⌜ ((χ : List ℕ) (e : ℕ) → ((k : ℕ) → byteAt χ k < 256) → ((r : ℕ) → r < tau * 8 → Chosen χ m groups (now (offsets .entry)) r) → e < tau → byteAt (now (mid .exit)) e ≡ bitXor (byteAt (now (mid .entry)) e) (xorSum 16 (λ s. bitXor (product (laneAt (now (table .entry)) (panel * 16 + s) e) (leftSum width (n * width) m (now (a .entry)) χ e (byteAt (now (xs .entry))) panel (panel * 16 + s))) (product (byteAt (now (xs .entry)) (panel * 16 + s)) (leftSum width (n * width) m (now (a .entry)) χ e (λ ρ. laneAt (now (table .entry)) ρ e) panel (panel * 16 + s)))))) ⌝ }
 {
@@ -75,11 +77,13 @@ fn add_panel(
         groups,
         vectors,
         bits,
+        polar,
     );
     columns::finish(quad, mid, &stacks, &sides, panel, tau, n, table, xs);
 }
 
-// Adds to quad the form of the batched matrix at the vectors of the table, and to mid its polar form at them and the bits xs.
+// Adds to quad the form of the batched matrix at the vectors of the table, and to mid its polar form at them and the bits xs. Where `polar` is
+// not asked for the bits are 0, and so is that form.
 pub fn add_forms(
     quad: &mut [u8],
     mid: &mut [u8],
@@ -92,8 +96,9 @@ pub fn add_forms(
     groups: usize,
     table: &[u8],
     xs: &[u8],
+    polar: bool,
 )
-    requires { ⌜ (length (now quad) ≡ lanes) × (length (now mid) ≡ lanes) × (length (now a) ≡ m * (n * width)) × (width ≡ bytesFor n) × (n ≤ 160) × (0 < m) × (m ≤ 160) × (0 < tau) × (tau ≤ lanes) × (groups ≡ (m + 9) / 10 * 2) × (tau * 8 * groups ≤ length (now offsets)) × ((k : ℕ) → k < tau * 8 * groups → byteAt (now offsets) k * 16 + chunk ≤ 32768) × (length (now table) ≡ n * lanes) × (length (now xs) ≡ most) × ((c : ℕ) → byteAt (now xs) c < 2) × ((c : ℕ) → n ≤ c → byteAt (now xs) c ≡ 0) ⌝ }
+    requires { ⌜ (length (now quad) ≡ lanes) × (length (now mid) ≡ lanes) × (length (now a) ≡ m * (n * width)) × (width ≡ bytesFor n) × (n ≤ 160) × (0 < m) × (m ≤ 160) × (0 < tau) × (tau ≤ lanes) × (groups ≡ (m + 9) / 10 * 2) × (tau * 8 * groups ≤ length (now offsets)) × ((k : ℕ) → k < tau * 8 * groups → byteAt (now offsets) k * 16 + chunk ≤ 32768) × (length (now table) ≡ n * lanes) × (length (now xs) ≡ most) × ((c : ℕ) → byteAt (now xs) c < 2) × ((c : ℕ) → n ≤ c → byteAt (now xs) c ≡ 0) × (polar ≡ false → (c : ℕ) → byteAt (now xs) c ≡ 0) ⌝ }
     ensures { λ _. ⌜ ((χ : List ℕ) (e : ℕ) → ((k : ℕ) → byteAt χ k < 256) → ((r : ℕ) → r < tau * 8 → Chosen χ m groups (now (offsets .entry)) r) → e < tau → byteAt (now (quad .exit)) e ≡ bitXor (byteAt (now (quad .entry)) e) (formSum n width m (now (a .entry)) χ e (λ c. laneAt (now (table .entry)) c e) (λ c. laneAt (now (table .entry)) c e))) ⌝ }
     ensures { λ _. ⌜ ((χ : List ℕ) (e : ℕ) → ((k : ℕ) → byteAt χ k < 256) → ((r : ℕ) → r < tau * 8 → Chosen χ m groups (now (offsets .entry)) r) → e < tau → byteAt (now (mid .exit)) e ≡ bitXor (byteAt (now (mid .entry)) e) (bitXor (formSum n width m (now (a .entry)) χ e (λ c. laneAt (now (table .entry)) c e) (byteAt (now (xs .entry)))) (formSum n width m (now (a .entry)) χ e (byteAt (now (xs .entry))) (λ c. laneAt (now (table .entry)) c e)))) ⌝ }
 {
@@ -121,6 +126,7 @@ pub fn add_forms(
             table,
             &bits,
             xs,
+            polar,
             panel,
         );
         panel += 1;

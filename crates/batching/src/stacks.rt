@@ -1,6 +1,7 @@
 // The batched matrix times the vectors of the repetitions. The offsets are public; the vectors and the stacks are secret: no branch and no
 // index goes by them.
 ghost use mathlib.Core.Path.{_≡_};
+ghost use mathlib.Core.Bool.{false};
 ghost use mathlib.Core.List.{List};
 ghost use Prim.Native.Nat.{ℕ, _+_, _*_, _/_, _%_, _<_, _≤_};
 ghost use lib.ListN.{length};
@@ -94,6 +95,16 @@ fn spread_twice(v: &mut [u8], src: &[u8], from: usize)
     planes::double(v, &both);
 }
 
+// Adds both planes to a side, under a mask, where the polar form is asked for. Where it is not, the mask is 0, and there is nothing to add.
+fn absorb_polar(side: &mut [u8], p: usize, both: &[u8], mask: &[u8], polar: bool)
+    requires { ⌜ (length (now side) ≡ 8 * chunk) × (p < 7) × (length (now both) ≡ pair) × (length (now mask) ≡ pair) × (polar ≡ false → (h f : ℕ) → h < 2 → f < chunk → byteAt (now mask) (h * chunk + f) ≡ 0) ⌝ }
+    ensures { λ _. ⌜ ((x f z : ℕ) → x < 2 → ((h : ℕ) → h < 2 → byteAt (now (mask .entry)) (h * chunk + f) ≡ x * 255) → f < chunk → stackAt 8 (now (side .exit)) f z ≡ bitXor (stackAt 8 (now (side .entry)) f z) (bitXor (x * (bitOf (cellAt (now (both .entry)) 0 f) z * alpha p)) (x * (bitOf (cellAt (now (both .entry)) 1 f) z * alpha (p + 1))))) ⌝ }
+{
+    if polar {
+        planes::absorb_sides(side, p, both, mask);
+    }
+}
+
 // Adds a chunk of the batched matrix to a stack, times v, and to a side, under a mask, which is lent twice: it is the sum of the rows S, each times its byte χ, whose
 // bits chose the offsets.
 fn absorb(
@@ -105,8 +116,9 @@ fn absorb(
     sums: &[u8],
     masks: &[u8],
     mask: &[u8],
+    polar: bool,
 )
-    requires { ⌜ (length (now t) ≡ 15 * chunk) × (length (now side) ≡ 8 * chunk) × ((base + 8) * groups ≤ length (now offsets)) × (groups % 2 ≡ 0) × ((k : ℕ) → k < (base + 8) * groups → byteAt (now offsets) k * 16 + chunk ≤ length (now sums)) × (length (now masks) ≡ 8 * chunk) × (length (now mask) ≡ pair) × (base ≤ 1000) ⌝ }
+    requires { ⌜ (length (now t) ≡ 15 * chunk) × (length (now side) ≡ 8 * chunk) × ((base + 8) * groups ≤ length (now offsets)) × ((k : ℕ) → k < (base + 8) * groups → byteAt (now offsets) k * 16 + chunk ≤ length (now sums)) × (length (now masks) ≡ 8 * chunk) × (length (now mask) ≡ pair) × (base ≤ 1000) × (polar ≡ false → (h f : ℕ) → h < 2 → f < chunk → byteAt (now mask) (h * chunk + f) ≡ 0) ⌝ }
     ensures { λ _. ⌜ ((S v : List ℕ) (χ : ℕ → ℕ) (m f z : ℕ) → Weighed S χ m (now (sums .entry)) (now (offsets .entry)) groups base → Masks v (now (masks .entry)) → byteAt v f < 256 → f < chunk → stackAt 15 (now (t .exit)) f z ≡ bitXor (stackAt 15 (now (t .entry)) f z) (product (byteAt v f) (xorSum m (λ i. bitOf (cellAt S i f) z * χ i)))) ⌝ }
     ensures { λ _. ⌜ ((S : List ℕ) (χ : ℕ → ℕ) (m x f z : ℕ) → Weighed S χ m (now (sums .entry)) (now (offsets .entry)) groups base → x < 2 → ((h : ℕ) → h < 2 → byteAt (now (mask .entry)) (h * chunk + f) ≡ x * 255) → f < chunk → stackAt 8 (now (side .exit)) f z ≡ bitXor (stackAt 8 (now (side .entry)) f z) (x * xorSum m (λ i. bitOf (cellAt S i f) z * χ i))) ⌝ }
 {
@@ -120,7 +132,7 @@ fn absorb(
             sums,
         );
         planes::absorb_planes(t, 2 * k, &both, masks);
-        planes::absorb_sides(side, 2 * k, &both, mask);
+        absorb_polar(side, 2 * k, &both, mask, polar);
         k += 1;
     }
 }
@@ -137,8 +149,9 @@ fn absorb_lane(
     vectors: &[u8],
     first: usize,
     mask: &[u8],
+    polar: bool,
 )
-    requires { ⌜ (e * (15 * chunk) + 15 * chunk ≤ length (now stacks)) × (e * (8 * chunk) + 8 * chunk ≤ length (now sides)) × ((e * 8 + 8) * groups ≤ length (now offsets)) × (groups % 2 ≡ 0) × ((k : ℕ) → k < (e * 8 + 8) * groups → byteAt (now offsets) k * 16 + chunk ≤ length (now sums)) × (e * most + most ≤ length (now vectors)) × (first + 16 ≤ most) × (length (now mask) ≡ pair) × (e < lanes) ⌝ }
+    requires { ⌜ (e * (15 * chunk) + 15 * chunk ≤ length (now stacks)) × (e * (8 * chunk) + 8 * chunk ≤ length (now sides)) × ((e * 8 + 8) * groups ≤ length (now offsets)) × ((k : ℕ) → k < (e * 8 + 8) * groups → byteAt (now offsets) k * 16 + chunk ≤ length (now sums)) × (e * most + most ≤ length (now vectors)) × (first + 16 ≤ most) × (length (now mask) ≡ pair) × (e < lanes) × (polar ≡ false → (h f : ℕ) → h < 2 → f < chunk → byteAt (now mask) (h * chunk + f) ≡ 0) ⌝ }
     ensures { λ _. ⌜ ((S : List ℕ) (χ : ℕ → ℕ) (m h f z : ℕ) → Weighed S χ m (now (sums .entry)) (now (offsets .entry)) groups (e * 8) → h < 2 → f < 16 → stackOf 15 (now (stacks .exit)) e (h * 16 + f) z ≡ bitXor (stackOf 15 (now (stacks .entry)) e (h * 16 + f) z) (product (byteAt (now (vectors .entry)) (e * most + (first + f))) (xorSum m (λ i. bitOf (cellAt S i (h * 16 + f)) z * χ i)))) ⌝ }
     ensures { λ _. ⌜ ((S : List ℕ) (χ : ℕ → ℕ) (m x f z : ℕ) → Weighed S χ m (now (sums .entry)) (now (offsets .entry)) groups (e * 8) → x < 2 → ((h : ℕ) → h < 2 → byteAt (now (mask .entry)) (h * chunk + f) ≡ x * 255) → f < chunk → stackOf 8 (now (sides .exit)) e f z ≡ bitXor (stackOf 8 (now (sides .entry)) e f z) (x * xorSum m (λ i. bitOf (cellAt S i f) z * χ i))) ⌝ }
     ensures { λ _. ⌜ ((q b : ℕ) → (q ≡ e → ⊥) → b < 15 * chunk → byteAt (now (stacks .exit)) (q * (15 * chunk) + b) ≡ byteAt (now (stacks .entry)) (q * (15 * chunk) + b)) ⌝ }
@@ -159,6 +172,7 @@ fn absorb_lane(
         sums,
         &masks,
         mask,
+        polar,
     );
 }
 
@@ -173,8 +187,9 @@ fn absorb_lanes(
     vectors: &[u8],
     first: usize,
     mask: &[u8],
+    polar: bool,
 )
-    requires { ⌜ (tau * (15 * chunk) ≤ length (now stacks)) × (tau * (8 * chunk) ≤ length (now sides)) × (tau * 8 * groups ≤ length (now offsets)) × (groups % 2 ≡ 0) × ((k : ℕ) → k < tau * 8 * groups → byteAt (now offsets) k * 16 + chunk ≤ length (now sums)) × (tau * most ≤ length (now vectors)) × (first + 16 ≤ most) × (length (now mask) ≡ pair) × (tau ≤ lanes) ⌝ }
+    requires { ⌜ (tau * (15 * chunk) ≤ length (now stacks)) × (tau * (8 * chunk) ≤ length (now sides)) × (tau * 8 * groups ≤ length (now offsets)) × ((k : ℕ) → k < tau * 8 * groups → byteAt (now offsets) k * 16 + chunk ≤ length (now sums)) × (tau * most ≤ length (now vectors)) × (first + 16 ≤ most) × (length (now mask) ≡ pair) × (tau ≤ lanes) × (polar ≡ false → (h f : ℕ) → h < 2 → f < chunk → byteAt (now mask) (h * chunk + f) ≡ 0) ⌝ }
     ensures { λ _. ⌜ ((S : List ℕ) (χ : ℕ → ℕ → ℕ) (m e h f z : ℕ) → ((q : ℕ) → q < tau → Weighed S (χ q) m (now (sums .entry)) (now (offsets .entry)) groups (q * 8)) → e < tau → h < 2 → f < 16 → stackOf 15 (now (stacks .exit)) e (h * 16 + f) z ≡ bitXor (stackOf 15 (now (stacks .entry)) e (h * 16 + f) z) (product (byteAt (now (vectors .entry)) (e * most + (first + f))) (xorSum m (λ i. bitOf (cellAt S i (h * 16 + f)) z * χ e i)))) ⌝ }
     ensures { λ _. ⌜ ((S : List ℕ) (χ : ℕ → ℕ → ℕ) (m x e f z : ℕ) → ((q : ℕ) → q < tau → Weighed S (χ q) m (now (sums .entry)) (now (offsets .entry)) groups (q * 8)) → x < 2 → ((h : ℕ) → h < 2 → byteAt (now (mask .entry)) (h * chunk + f) ≡ x * 255) → e < tau → f < chunk → stackOf 8 (now (sides .exit)) e f z ≡ bitXor (stackOf 8 (now (sides .entry)) e f z) (x * xorSum m (λ i. bitOf (cellAt S i f) z * χ e i))) ⌝ }
 {
@@ -190,6 +205,7 @@ fn absorb_lanes(
             vectors,
             first,
             mask,
+            polar,
         );
         e += 1;
     }
@@ -209,8 +225,9 @@ pub fn collect(
     groups: usize,
     vectors: &[u8],
     bits: &[u8],
+    polar: bool,
 )
-    requires { ⌜ (tau * (15 * chunk) ≤ length (now stacks)) × (tau * (8 * chunk) ≤ length (now sides)) × (length (now sums) ≡ 32768) × ((panel + 1) * (m * chunk) ≤ length (now cells)) × (panel * 16 + 16 ≤ most) × (0 < m) × (m ≤ 160) × (0 < tau) × (tau ≤ lanes) × (groups ≡ (m + 9) / 10 * 2) × (tau * 8 * groups ≤ length (now offsets)) × ((k : ℕ) → k < tau * 8 * groups → byteAt (now offsets) k * 16 + chunk ≤ 32768) × (tau * most ≤ length (now vectors)) × (length (now bits) ≡ most) ⌝ }
+    requires { ⌜ (tau * (15 * chunk) ≤ length (now stacks)) × (tau * (8 * chunk) ≤ length (now sides)) × (length (now sums) ≡ 32768) × ((panel + 1) * (m * chunk) ≤ length (now cells)) × (panel * 16 + 16 ≤ most) × (0 < m) × (m ≤ 160) × (0 < tau) × (tau ≤ lanes) × (groups ≡ (m + 9) / 10 * 2) × (tau * 8 * groups ≤ length (now offsets)) × ((k : ℕ) → k < tau * 8 * groups → byteAt (now offsets) k * 16 + chunk ≤ 32768) × (tau * most ≤ length (now vectors)) × (length (now bits) ≡ most) × (polar ≡ false → (c : ℕ) → c < most → byteAt (now bits) c ≡ 0) ⌝ }
     ensures { λ _. ⌜ ((χ : List ℕ) (e h f z : ℕ) → ((k : ℕ) → byteAt χ k < 256) → ((r : ℕ) → r < tau * 8 → Chosen χ m groups (now (offsets .entry)) r) → e < tau → h < 2 → f < 16 → stackOf 15 (now (stacks .exit)) e (h * 16 + f) z ≡ bitXor (stackOf 15 (now (stacks .entry)) e (h * 16 + f) z) (xorSum (panel + 1) (λ q. product (byteAt (now (vectors .entry)) (e * most + (q * 16 + f))) (cellSum (now (cells .entry)) m χ e q (h * 16 + f) z)))) ⌝ }
     ensures { λ _. ⌜ ((χ : List ℕ) (x : ℕ → ℕ) (e h f z : ℕ) → ((k : ℕ) → byteAt χ k < 256) → ((r : ℕ) → r < tau * 8 → Chosen χ m groups (now (offsets .entry)) r) → ((c : ℕ) → x c < 2) → ((c : ℕ) → c < most → byteAt (now (bits .entry)) c ≡ x c * 255) → e < tau → h < 2 → f < 16 → stackOf 8 (now (sides .exit)) e (h * 16 + f) z ≡ bitXor (stackOf 8 (now (sides .entry)) e (h * 16 + f) z) (xorSum (panel + 1) (λ q. x (q * 16 + f) * cellSum (now (cells .entry)) m χ e q (h * 16 + f) z))) ⌝ }
 {
@@ -230,6 +247,7 @@ pub fn collect(
             vectors,
             q * ROWS,
             &mask,
+            polar,
         );
         q += 1;
     }

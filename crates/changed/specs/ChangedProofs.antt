@@ -1,5 +1,5 @@
 -- Proofs with one byte changed: the verifier's reply, and the factors of both repetitions. proofs/ChangedProofs computes each statement.
--- The first twelve are the changed lines of sitting 0 of the vectors sittings-degree4.rsp; the rest, of SecondSitting, come from the rendering in Rust.
+-- The twelve of `Small` are the changed lines of sitting 0 of the vectors sittings-degree4.rsp; the rest, of SecondSitting, come from the rendering in Rust.
 --   factors p == the factors of both repetitions of SmallSitting's key, leaves, H′ and χ with the proof p
 --   Small i x r f g == of SmallSitting's proof with byte i xor x, the reply is r and the factors are f and g;  Second == the same of SecondSitting
 -- Assumes nothing.

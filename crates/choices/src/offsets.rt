@@ -1,5 +1,5 @@
 // Where the entries of the tables of sums stand that the batching bytes choose, which are public: row 8·e + p is for bit p of the bytes of
-// repetition e, one offset for each five equations, and an even number of them. An offset counts sixteen bytes, so that the compiler knows that
+// repetition e, one offset for each five equations, rounded up to an even number. An offset counts sixteen bytes, so that the compiler knows that
 // entries are aligned.
 ghost use mathlib.Core.Path.{_≡_};
 ghost use Prim.Native.Nat.{ℕ, _+_, _*_, _/_, _<_, _≤_};

@@ -1,7 +1,7 @@
 // Sums of the rows that public bits select. Five rows at a time, the 32 sums of them are in a table, so that one addition serves five rows.
 ghost use mathlib.Core.Path.{_≡_};
 ghost use mathlib.Core.List.{List};
-ghost use Prim.Native.Nat.{ℕ, _+_, _*_, _/_, _%_, _^_, _<_, _≤_};
+ghost use Prim.Native.Nat.{ℕ, _+_, _*_, _/_, _^_, _<_, _≤_};
 ghost use lib.ListN.{length};
 ghost use lib.Bits.{bitXor};
 ghost use Rattle.strings.specs.Sums.{byteAt, xorSum};

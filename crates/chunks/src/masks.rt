@@ -4,7 +4,7 @@ ghost use Prim.Native.Nat.{ℕ, _+_, _*_, _<_, _≤_};
 ghost use lib.ListN.{length};
 ghost use lib.Bits.{bitXor, bitAnd};
 ghost use Rattle.strings.specs.Sums.{byteAt, bitOf};
-ghost use Rattle.chunks.specs.Chunks.{chunk, pair, cellAt, Masks};
+ghost use Rattle.chunks.specs.Chunks.{chunk, pair, Masks};
 use super::CHUNK;
 use super::PAIR;
 
@@ -57,39 +57,6 @@ pub fn fill_masks(masks: &mut [u8], v: &[u8])
         fill_mask_at(masks, v, b);
         b += 1;
     }
-}
-
-// out[f] = t[f] ^ (m[f] & mask[f]), for each byte of a chunk.
-fn masked_sum(out: &mut [u8; CHUNK], t: &[u8], m: &[u8], mask: &[u8])
-    requires { ⌜ (length (now out) ≡ chunk) × (length (now t) ≡ chunk) × (length (now m) ≡ chunk) × (length (now mask) ≡ chunk) ⌝ }
-    ensures { λ _. ⌜ length (now (out .exit)) ≡ chunk ⌝ }
-    ensures { λ _. ⌜ ((f : ℕ) → f < chunk → byteAt (now (out .exit)) f ≡ bitXor (byteAt (now (t .entry)) f) (bitAnd (byteAt (now (m .entry)) f) (byteAt (now (mask .entry)) f))) ⌝ }
-{
-    let mut f = 0;
-    while f < CHUNK {
-        out[f] = t[f] ^ (m[f] & mask[f]);
-        f += 1;
-    }
-}
-
-// dst[f] ^= m[f] & mask[f], for each byte of a chunk: by way of a local array, so that the compiler need not fear that dst is one of the others.
-fn xor_and(dst: &mut [u8], m: &[u8], mask: &[u8])
-    requires { ⌜ (length (now dst) ≡ chunk) × (length (now m) ≡ chunk) × (length (now mask) ≡ chunk) ⌝ }
-    ensures { λ _. ⌜ ((f : ℕ) → f < chunk → byteAt (now (dst .exit)) f ≡ bitXor (byteAt (now (dst .entry)) f) (bitAnd (byteAt (now (m .entry)) f) (byteAt (now (mask .entry)) f))) ⌝ }
-{
-    let mut sum = [0u8; CHUNK];
-    masked_sum(&mut sum, dst, m, mask);
-    super::cells::copy_chunk(dst, &sum);
-}
-
-// The same for row s of a table.
-pub fn xor_and_row(t: &mut [u8], s: usize, m: &[u8], mask: &[u8])
-    requires { ⌜ (s * chunk + chunk ≤ length (now t)) × (length (now m) ≡ chunk) × (length (now mask) ≡ chunk) ⌝ }
-    ensures { λ _. ⌜ ((f : ℕ) → f < chunk → cellAt (now (t .exit)) s f ≡ bitXor (cellAt (now (t .entry)) s f) (bitAnd (byteAt (now (m .entry)) f) (byteAt (now (mask .entry)) f))) ⌝ }
-    ensures { λ _. ⌜ ((q f : ℕ) → (q ≡ s → ⊥) → f < chunk → cellAt (now (t .exit)) q f ≡ cellAt (now (t .entry)) q f) ⌝ }
-{
-    let at = s * CHUNK;
-    xor_and(&mut t[at..at + CHUNK], m, mask);
 }
 
 // dst[f] ^= m[f] & mask[f], for each byte of two chunks.

@@ -1,5 +1,5 @@
 // Two planes of bits, added to a stack times a vector, and to a side under a mask: two at a time, because a plane of the stack is then read and
-// written once for both. All of it is secret but the places: no branch and no index goes by it.
+// written once for both. The vectors and what is computed from them are secret: no branch and no index goes by it.
 ghost use mathlib.Core.Path.{_≡_};
 ghost use mathlib.Core.List.{List};
 ghost use Prim.Native.Nat.{ℕ, _+_, _*_, _<_, _≤_};

@@ -58,7 +58,19 @@ pub fn product_lanes(
     let zeros = [0u8; VARIABLES];
     let front = &table[..n * LANES];
     strings::clear(left);
-    quadratic::batch::batch_forms(left, &mut linear, a, b, &zeros, chi, n, m, tau, front);
+    quadratic::batch::batch_forms(
+        left,
+        &mut linear,
+        a,
+        b,
+        &zeros,
+        chi,
+        n,
+        m,
+        tau,
+        front,
+        false,
+    );
     batch_values(&mut values, y, chi, m, tau);
     lanes::accumulate(left, delta, &linear);
     lanes::accumulate(&mut square, delta, delta);

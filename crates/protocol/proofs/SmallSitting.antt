@@ -5,12 +5,16 @@ use mathlib.Core.List.{List, [], _∷_}
 use Rattle.protocol.specs.Frames.{frame, count4}
 use Rattle.protocol.specs.Sections.{Sections, bytesOf}
 use Rattle.protocol.specs.Prover.{sectionsOf, proofOf}
-use Rattle.protocol.specs.SmallSitting.{bits16, key, witness, leaves, H′, χ, Δ, proof, opened, SmallKey, SmallBytes, SmallProof, SmallReplies}
+use Rattle.protocol.specs.SmallSitting.{bits16, key, witness, leaves, H′, χ, Δ, proof, opened, SmallKey, SmallColumns, SmallBytes, SmallProof, SmallReplies}
 use Rattle.protocol.proofs.Computing.{computing}
 
 pub small-key : SmallKey
 unfolding computing key
-small-key = record { row-1-2 = refl; linear-1 = refl; constants-are = refl }
+small-key = record { row-1-2 = refl; linear-1 = refl; constants-are = refl; constants-changed = refl }
+
+pub small-columns : SmallColumns
+unfolding computing
+small-columns = record { columns-are = refl }
 
 pub small-bytes : SmallBytes
 unfolding computing key witness leaves H′ χ

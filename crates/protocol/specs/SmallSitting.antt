@@ -5,6 +5,7 @@
 --   bits16 == bits over GF(16);  changed str i x == str with byte i xor x;  sizes == the sizes that the key's header has
 --   key, witness, leaves, H′, χ, Δ == what is lent;  proof, opened == the proof and the opened leaves that are expected
 --   row s key i ρ == row ρ of A_i as a key of sizes s has it;  linear s key i == b_i;  constants s key == y
+--   uneven == sizes that all differ;  columns s χ == the columns of χ at sizes s, one for each repetition
 --   reply p == the word of the verifier's answer to the proof p
 -- Assumes nothing.
 use mathlib.Core.Path.{_≡_}
@@ -19,6 +20,7 @@ use Rattle.protocol.specs.Alphabet.{Alphabet}
 use Rattle.protocol.specs.Binary.{binary}
 use Rattle.protocol.specs.Shape.{Shape, shapeOf}
 use Rattle.protocol.specs.Key.{aSym, bSym, ySym}
+use Rattle.protocol.specs.Forms.{χAt}
 use Rattle.protocol.specs.Prover.{cSection, dSection, ũSection, ṼSection, qs0Section, qs1Section, proofOf}
 use Rattle.protocol.specs.Answers.{accepted, word}
 use Rattle.protocol.specs.Calls.{verifyAnswer}
@@ -91,11 +93,23 @@ linear s key i = table (s .n) (λ c. bits16 .K .byte (bSym bits16 s key i c))
 abbrev pub constants : Shape → List ℕ → List ℕ
 constants s key = table (s .m) (λ i. bits16 .K .byte (ySym bits16 s key i))
 
+abbrev pub uneven : Shape
+uneven = record { n = 9; m = 3; τ = 2; t = 5 }
+
+abbrev pub columns : Shape → List ℕ → List (List ℕ)
+columns s χ = table (s .τ) (λ e. table (s .m) (λ i. bits16 .K .byte (χAt bits16 s χ e i)))
+
 -- The key read back, beside the bits of its bytes. A and its transpose give the same forms fᵀA·f, so that no answer tells them apart.
 pub record SmallKey : Type 0 where
   pub row-1-2 : row sizes key 1 2 ≡ 1 ∷ 0 ∷ 0 ∷ 1 ∷ 1 ∷ 1 ∷ 0 ∷ 1 ∷ 0 ∷ []
   pub linear-1 : linear sizes key 1 ≡ 0 ∷ 0 ∷ 0 ∷ 1 ∷ 0 ∷ 0 ∷ 0 ∷ 1 ∷ 1 ∷ []
   pub constants-are : constants sizes key ≡ 1 ∷ 1 ∷ []
+  -- the lowest bit of y's byte is y_0
+  pub constants-changed : constants sizes (changed key 60 1) ≡ 0 ∷ 1 ∷ []
+
+-- The columns of χ at sizes that all differ, so that none can stand for m: prover and verifier read them alike, and no theorem tells.
+pub record SmallColumns : Type 0 where
+  pub columns-are : columns uneven (1 ∷ 2 ∷ 3 ∷ 4 ∷ 5 ∷ 6 ∷ []) ≡ (1 ∷ 2 ∷ 3 ∷ []) ∷ (4 ∷ 5 ∷ 6 ∷ []) ∷ []
 
 -- The prover's bytes, section by section and whole.
 pub record SmallBytes : Type 0 where

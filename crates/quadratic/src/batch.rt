@@ -1,6 +1,7 @@
 // QS0 and QS1 of all repetitions at once (01, prover's rules). The key and the batching bytes are public; the table, the witness and the
 // string u are secret.
 ghost use mathlib.Core.Path.{_≡_};
+ghost use mathlib.Core.Bool.{false};
 ghost use mathlib.Core.List.{List};
 ghost use Prim.Native.Nat.{ℕ, _+_, _*_, _/_, _<_, _≤_};
 ghost use lib.ListN.{length};
@@ -20,7 +21,8 @@ use lanes::LANES;
 const OFFSETS: usize = 8 * LANES * (EQUATIONS / 5);
 
 // The batched forms of a key, added to what stands there: fᵀ·A·f to quad, and xᵀ·A·f + (A·x)ᵀ·f + b·f to lin, where f is the vector of
-// repetition e, which the table holds. The bits of x are lent one to a byte, 0 from n on.
+// repetition e, which the table holds. The bits of x are lent one to a byte, 0 from n on. Where `polar` is
+// not asked for they are all 0, and lin gets b·f.
 pub fn batch_forms(
     quad: &mut [u8],
     lin: &mut [u8],
@@ -32,8 +34,9 @@ pub fn batch_forms(
     m: usize,
     tau: usize,
     table: &[u8],
+    polar: bool,
 )
-    requires { ⌜ (length (now quad) ≡ lanes) × (length (now lin) ≡ lanes) × (n ≤ 160) × (m ≤ 160) × (tau ≤ lanes) × (length (now a) ≡ m * (n * bytesFor n)) × (length (now b) ≡ m * bytesFor n) × (length (now chi) ≡ tau * m) × (length (now table) ≡ n * lanes) × (length (now xs) ≡ 160) × ((c : ℕ) → byteAt (now xs) c < 2) × ((c : ℕ) → n ≤ c → byteAt (now xs) c ≡ 0) × (0 < m) × (0 < tau) ⌝ }
+    requires { ⌜ (length (now quad) ≡ lanes) × (length (now lin) ≡ lanes) × (n ≤ 160) × (m ≤ 160) × (tau ≤ lanes) × (length (now a) ≡ m * (n * bytesFor n)) × (length (now b) ≡ m * bytesFor n) × (length (now chi) ≡ tau * m) × (length (now table) ≡ n * lanes) × (length (now xs) ≡ 160) × ((c : ℕ) → byteAt (now xs) c < 2) × ((c : ℕ) → n ≤ c → byteAt (now xs) c ≡ 0) × (0 < m) × (0 < tau) × (polar ≡ false → (c : ℕ) → byteAt (now xs) c ≡ 0) ⌝ }
     ensures { λ _. ⌜ ((e : ℕ) → e < tau → byteAt (now (quad .exit)) e ≡ bitXor (byteAt (now (quad .entry)) e) (batchByte m (now (chi .entry)) e (λ i. formByte n (matrixOf n (now (a .entry)) i) (now (table .entry)) e))) ⌝ }
     ensures { λ _. ⌜ ((e : ℕ) → e < tau → byteAt (now (lin .exit)) e ≡ bitXor (byteAt (now (lin .entry)) e) (batchByte m (now (chi .entry)) e (λ i. middleByte n (matrixOf n (now (a .entry)) i) (rowOf n (now (b .entry)) i) (byteAt (now (xs .entry))) (now (table .entry)) e))) ⌝ }
 {
@@ -41,7 +44,20 @@ pub fn batch_forms(
     let width = (n + 7) / 8;
     let mut offsets = [0u16; OFFSETS];
     choices::offsets::fill_offsets(&mut offsets, chi, m, groups, tau);
-    batching::forms::add_forms(quad, lin, a, n, width, m, tau, &offsets, groups, table, xs);
+    batching::forms::add_forms(
+        quad,
+        lin,
+        a,
+        n,
+        width,
+        m,
+        tau,
+        &offsets,
+        groups,
+        table,
+        xs,
+        polar,
+    );
     linear::add_linear(lin, b, width, m, chi, tau, n, table);
 }
 
@@ -80,6 +96,6 @@ pub fn batch_lanes(
     equations::unpack(&mut xs, x, n);
     strings::clear(qs0);
     strings::clear(qs1);
-    batch_forms(qs0, qs1, a, b, &xs, chi, n, m, tau, front);
+    batch_forms(qs0, qs1, a, b, &xs, chi, n, m, tau, front, true);
     add_masks(qs0, qs1, table, u, n);
 }

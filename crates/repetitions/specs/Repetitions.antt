@@ -1,7 +1,7 @@
 -- The two checks of each repetition on bytes, as the code makes them.
 --   rowConsistent hashed v u δ t == the consistency check of one repetition: hashed, of t entries, is v + δ·u
---   BitMasks u masks == byte i of masks is 255 where bit i of u is set, and 0 elsewhere
 --   firstInconsistent == the first repetition whose rows of t entries do not pass it, or their number
+--   BitMasks u masks == byte i of masks is 255 where bit i of u is set, and 0 elsewhere
 --   firstDiffering == the first repetition whose left side of the product check is not QS0 + QS1·δ, or their number
 -- Assumes nothing.
 use mathlib.Core.Path.{_≡_}

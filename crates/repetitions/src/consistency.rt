@@ -5,7 +5,6 @@ ghost use Prim.Native.Nat.{ℕ, _+_, _*_, _<_, _≤_};
 ghost use lib.Dec.{eqb};
 ghost use lib.ListN.{length};
 ghost use Rattle.protocol.specs.Strings.{bit};
-ghost use Rattle.strings.specs.Sums.{byteAt};
 ghost use Rattle.repetitions.specs.Repetitions.{BitMasks, rowConsistent, firstInconsistent};
 
 // Room for the bits of ũ as masks: a key has at most as many hash rows (01).

@@ -19,18 +19,6 @@ pub fn xor_into(dst: &mut [u8], src: &[u8])
     }
 }
 
-// dst[i] ^= a[i] ^ b[i], for each i.
-pub fn xor_two_into(dst: &mut [u8], a: &[u8], b: &[u8])
-    requires { ⌜ (length (now a) ≡ length (now dst)) × (length (now b) ≡ length (now dst)) ⌝ }
-    ensures { λ _. ⌜ ((i : ℕ) → i < length (now (dst .entry)) → byteAt (now (dst .exit)) i ≡ bitXor (byteAt (now (dst .entry)) i) (bitXor (byteAt (now (a .entry)) i) (byteAt (now (b .entry)) i))) ⌝ }
-{
-    let mut i = 0;
-    while i < dst.len() {
-        dst[i] ^= a[i] ^ b[i];
-        i += 1;
-    }
-}
-
 // dst[i] = a[i] ^ b[i], for each i.
 pub fn xor_of(dst: &mut [u8], a: &[u8], b: &[u8])
     requires { ⌜ (length (now a) ≡ length (now dst)) × (length (now b) ≡ length (now dst)) ⌝ }

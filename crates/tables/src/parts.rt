@@ -1,4 +1,5 @@
-// A lane of the table, sixteen bytes of each plane at a time: the bits are turned all together, and bytes written.
+// A lane of the table, sixteen bytes of each plane at a time: the bits are turned all together, and bytes written. They
+// are secret: no branch and no index goes by them.
 ghost use mathlib.Core.Path.{_≡_};
 ghost use Prim.Native.Nat.{ℕ, _+_, _*_, _<_, _≤_};
 ghost use lib.ListN.{length};

@@ -1,4 +1,5 @@
 // Eight rows of bits turned into columns of bytes, sixteen bytes of each row at a time: lengths are constants, so that the loops are of whole registers.
+// What is turned may be secret: no branch and no index goes by it.
 ghost use mathlib.Core.Path.{_≡_};
 ghost use Prim.Native.Nat.{ℕ, _+_, _*_, _/_, _%_, _<_, _≤_};
 ghost use lib.ListN.{length};

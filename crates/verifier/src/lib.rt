@@ -18,16 +18,12 @@ use checks::check_product;
 use format::Reason;
 use format::Sizes;
 use format::Verdict;
+use format::sizes::MOST_HASH_ROWS;
 use lanes::LANES;
 use questions::proof::proof_section;
+use steps::MOST_LEAF;
+use steps::MOST_ROW;
 use verdicts::answer;
-
-// Room for the largest key: bytes of a leaf, bytes of a row of bits, hash rows. Its repetitions are the lanes.
-const MOST_LEAF: usize = 41;
-
-const MOST_ROW: usize = 21;
-
-const MOST_HASH_ROWS: usize = 160;
 
 // Both questions, in buffers of exact length.
 fn ask_checks(

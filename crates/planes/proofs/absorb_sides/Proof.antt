@@ -7,7 +7,7 @@ use native.Mathlib.Omega.{arith}
 use denote.Ref.{now}
 use lib.Bits.{bitXor, bitAnd}
 use Rattle.strings.specs.Sums.{byteAt}
-use Rattle.chunks.specs.Chunks.{chunk, pair}
+use Rattle.chunks.specs.Chunks.{chunk}
 use Rattle.planes.proofs.PlaneLaws.{pair-added}
 use Rattle.planes.proofs.absorb_sides.Statement.{statement}
 use Rattle.planes.proofs.absorb_sides.Tie as tie

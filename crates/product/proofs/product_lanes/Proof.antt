@@ -48,7 +48,7 @@ batch-forms-requires : tie.Need-batch-forms-requires
 unfolding bytesFor
 batch-forms-requires c κs =
     let start = c .before .before .before .before .before .before .before .before .before .before .before .before .before .before .before in
-    (c .before .before .before .before .before .clear .kept .0 ∙ start .pre .0, refl, start .pre .2, start .pre .10, start .pre .3, start .pre .4, start .pre .5, start .pre .7, simp length-take (omega (arith, start .pre .8)), refl, zeros-small 160, (λ k h. zeros 160 k), start .pre .9, start .pre .11)
+    (c .before .before .before .before .before .clear .kept .0 ∙ start .pre .0, refl, start .pre .2, start .pre .10, start .pre .3, start .pre .4, start .pre .5, start .pre .7, simp length-take (omega (arith, start .pre .8)), refl, zeros-small 160, (λ k h. zeros 160 k), start .pre .9, start .pre .11, λ e k. zeros 160 k)
 
 slice-aggregate-batch-values : tie.Need-slice-aggregate-batch-values
 slice-aggregate-batch-values c = search needs

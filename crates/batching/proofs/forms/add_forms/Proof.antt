@@ -27,10 +27,10 @@ abbrev polar : ℕ → ℕ → ℕ → List ℕ → List ℕ → List ℕ → Li
 polar n w m A T xs χ e J = xorSum 16 (λ s. bitXor (product (laneAt T (J * 16 + s) e) (leftSum w (n * w) m A χ e (byteAt xs) J (J * 16 + s))) (product (byteAt xs (J * 16 + s)) (leftSum w (n * w) m A χ e (λ ρ. laneAt T ρ e) J (J * 16 + s))))
 
 abbrev Inv-loop : tie.InvT-loop
-Inv-loop quad₀ mid₀ a n width m tau offsets groups table xs cells₀ sums₀ vectors bits panel₀ quad mid cells sums panel = (panel * 16 < n + 16) × (length quad ≡ lanes) × (length mid ≡ lanes) × (length cells ≡ 51200) × (length sums ≡ 32768) × ((e c : ℕ) → e < tau → c < most → byteAt vectors (e * most + c) ≡ laneAt table c e) × ((c : ℕ) → c < most → byteAt bits c ≡ byteAt xs c * 255) × ((χ : List ℕ) (e : ℕ) → ((k : ℕ) → byteAt χ k < 256) → ((r : ℕ) → r < tau * 8 → Chosen χ m groups offsets r) → e < tau → byteAt quad e ≡ bitXor (byteAt quad₀ e) (xorSum panel (term n width m a table χ e))) × ((χ : List ℕ) (e : ℕ) → ((k : ℕ) → byteAt χ k < 256) → ((r : ℕ) → r < tau * 8 → Chosen χ m groups offsets r) → e < tau → byteAt mid e ≡ bitXor (byteAt mid₀ e) (xorSum panel (polar n width m a table xs χ e))) × (length vectors ≡ 7680) × (length bits ≡ most)
+Inv-loop quad₀ mid₀ a n width m tau offsets groups table xs asked cells₀ sums₀ vectors bits panel₀ quad mid cells sums panel = (panel * 16 < n + 16) × (length quad ≡ lanes) × (length mid ≡ lanes) × (length cells ≡ 51200) × (length sums ≡ 32768) × ((e c : ℕ) → e < tau → c < most → byteAt vectors (e * most + c) ≡ laneAt table c e) × ((c : ℕ) → c < most → byteAt bits c ≡ byteAt xs c * 255) × ((χ : List ℕ) (e : ℕ) → ((k : ℕ) → byteAt χ k < 256) → ((r : ℕ) → r < tau * 8 → Chosen χ m groups offsets r) → e < tau → byteAt quad e ≡ bitXor (byteAt quad₀ e) (xorSum panel (term n width m a table χ e))) × ((χ : List ℕ) (e : ℕ) → ((k : ℕ) → byteAt χ k < 256) → ((r : ℕ) → r < tau * 8 → Chosen χ m groups offsets r) → e < tau → byteAt mid e ≡ bitXor (byteAt mid₀ e) (xorSum panel (polar n width m a table xs χ e))) × (length vectors ≡ 7680) × (length bits ≡ most)
 
 abbrev μ-loop : tie.MeasureT-loop
-μ-loop quad₀ mid₀ a n width m tau offsets groups table xs cells₀ sums₀ vectors bits panel₀ quad mid cells sums panel = n + 16 - panel * 16
+μ-loop quad₀ mid₀ a n width m tau offsets groups table xs asked cells₀ sums₀ vectors bits panel₀ quad mid cells sums panel = n + 16 - panel * 16
 
 slice-aggregate-fill-vectors : tie.Need-slice-aggregate-fill-vectors Inv-loop μ-loop
 slice-aggregate-fill-vectors c = search needs
@@ -75,7 +75,7 @@ add-panel-requires : tie.Need-add-panel-requires Inv-loop μ-loop
 add-panel-requires c κs =
     let pre = c .before .before .before .before .before .before .before .before .before .before .before .before .before .before .before .before .before .before .before .before .pre in
     let l = c .before .before .before .before .before .before .before .loop in
-    ((l .inv .1, l .inv .2, l .inv .3, l .inv .4, pre .2, pre .3, pre .4, pre .5, pre .6, pre .7, pre .8, pre .9, pre .10, pre .11, pre .12, c .before .before .before .before .before .before .loop-test .taken), (omega (arith, pre .8, l .inv .9), l .inv .10, pre .13, pre .14, pre .15, l .inv .5, l .inv .6))
+    ((l .inv .1, l .inv .2, l .inv .3, l .inv .4, pre .2, pre .3, pre .4, pre .5, pre .6, pre .7, pre .8, pre .9, pre .10, pre .11, pre .12, c .before .before .before .before .before .before .loop-test .taken), (omega (arith, pre .8, l .inv .9), l .inv .10, pre .13, pre .14, pre .15, l .inv .5, l .inv .6, pre .16))
 
 add-panel : tie.Need-add-panel Inv-loop μ-loop
 add-panel c = search needs

@@ -51,7 +51,7 @@ collect-requires c κs =
     let pre = c .before .before .before .before .before .before .before .before .before .before .before .before .before .before .before .before .before .before .pre .0 in
     let more = c .before .before .before .before .before .before .before .before .before .before .before .before .before .before .before .before .before .before .pre .1 in
     let loaded = c .before .before .before .before .before .before .load-panel in
-    (omega (arith, pre .10), omega (arith, pre .10), pre .3, omega (arith, loaded .kept .0, fit (a .panel) (a .n) (a .m) (length (now (a .cells))) (pre .15) (pre .6) (pre .8) (pre .2)), omega (arith, pre .15, pre .6), pre .7, pre .8, pre .9, pre .10, pre .11, pre .12, pre .13, more .0, more .1)
+    (omega (arith, pre .10), omega (arith, pre .10), pre .3, omega (arith, loaded .kept .0, fit (a .panel) (a .n) (a .m) (length (now (a .cells))) (pre .15) (pre .6) (pre .8) (pre .2)), omega (arith, pre .15, pre .6), pre .7, pre .8, pre .9, pre .10, pre .11, pre .12, pre .13, more .0, more .1, λ off k hk. more .6 k hk ∙ ap (λ x. x * 255) (more .7 off k))
 
 slice-aggregate-finish : tie.Need-slice-aggregate-finish
 slice-aggregate-finish c = search needs

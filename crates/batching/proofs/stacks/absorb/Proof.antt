@@ -52,10 +52,10 @@ step-two a s k f h =
     sym (xor-assoc s (f (2 * k)) (f (2 * k + 1))) ∙ ap (λ x. bitXor x (f (2 * k + 1))) (sum-step a s (2 * k) f h) ∙ sum-step a _ (2 * k + 1) f refl ∙ ap (λ n. bitXor a (xorSum n f)) e
 
 abbrev Inv-loop : tie.InvT-loop
-Inv-loop t₀ side₀ offsets base groups sums masks mask k₀ t side k = (k ≤ 4) × (length t ≡ 15 * chunk) × (length side ≡ 8 * chunk) × ((S : List ℕ) (χ : ℕ → ℕ) (m x f z : ℕ) → Weighed S χ m sums offsets groups base → x < 2 → ((h : ℕ) → h < 2 → byteAt mask (h * chunk + f) ≡ x * 255) → f < chunk → stackAt 8 side f z ≡ bitXor (stackAt 8 side₀ f z) (xorSum (2 * k) (aside S χ m x f z))) × ((S v : List ℕ) (χ : ℕ → ℕ) (m f z : ℕ) → Weighed S χ m sums offsets groups base → Masks v masks → byteAt v f < 256 → f < chunk → stackAt 15 t f z ≡ bitXor (stackAt 15 t₀ f z) (xorSum (2 * k) (term S v χ m f z)))
+Inv-loop t₀ side₀ offsets base groups sums masks mask polar k₀ t side k = (k ≤ 4) × (length t ≡ 15 * chunk) × (length side ≡ 8 * chunk) × ((S : List ℕ) (χ : ℕ → ℕ) (m x f z : ℕ) → Weighed S χ m sums offsets groups base → x < 2 → ((h : ℕ) → h < 2 → byteAt mask (h * chunk + f) ≡ x * 255) → f < chunk → stackAt 8 side f z ≡ bitXor (stackAt 8 side₀ f z) (xorSum (2 * k) (aside S χ m x f z))) × ((S v : List ℕ) (χ : ℕ → ℕ) (m f z : ℕ) → Weighed S χ m sums offsets groups base → Masks v masks → byteAt v f < 256 → f < chunk → stackAt 15 t f z ≡ bitXor (stackAt 15 t₀ f z) (xorSum (2 * k) (term S v χ m f z)))
 
 abbrev μ-loop : tie.MeasureT-loop
-μ-loop t₀ side₀ offsets base groups sums masks mask k₀ t side k = 4 - k
+μ-loop t₀ side₀ offsets base groups sums masks mask polar k₀ t side k = 4 - k
 
 loop-holds : tie.Need-loop-holds Inv-loop μ-loop
 unfolding xorSum
@@ -102,7 +102,7 @@ look-up-two-requires c κs =
     let second = c .row-at2 in
     let groups = a .groups in
     let O = now (a .offsets) in
-    let fits : (i g : ℕ) → i < a .base + 8 → g < groups → byteAt O (i * groups + g) * 16 + chunk ≤ length (now (a .sums)) = λ i g hi hg. pre .4 (i * groups + g) (omega (arith, hg, row-end i (a .base + 8) groups hi)) in (
+    let fits : (i g : ℕ) → i < a .base + 8 → g < groups → byteAt O (i * groups + g) * 16 + chunk ≤ length (now (a .sums)) = λ i g hi hg. pre .3 (i * groups + g) (omega (arith, hg, row-end i (a .base + 8) groups hi)) in (
       refl,
       second .ensures .1 ∙ sym (first .ensures .1),
       (λ g h.
@@ -124,14 +124,16 @@ slice-aggregate-absorb-planes c = search needs
 absorb-planes-requires : tie.Need-absorb-planes-requires Inv-loop μ-loop
 absorb-planes-requires c κs = search needs
 
-mul-absorb-sides : tie.Need-mul-absorb-sides Inv-loop μ-loop
-mul-absorb-sides c = search needs
+mul-absorb-polar : tie.Need-mul-absorb-polar Inv-loop μ-loop
+mul-absorb-polar c = search needs
 
-slice-aggregate-absorb-sides : tie.Need-slice-aggregate-absorb-sides Inv-loop μ-loop
-slice-aggregate-absorb-sides c = search needs
+slice-aggregate-absorb-polar : tie.Need-slice-aggregate-absorb-polar Inv-loop μ-loop
+slice-aggregate-absorb-polar c = search needs
 
-absorb-sides-requires : tie.Need-absorb-sides-requires Inv-loop μ-loop
-absorb-sides-requires c κs = search needs
+absorb-polar-requires : tie.Need-absorb-polar-requires Inv-loop μ-loop
+absorb-polar-requires c κs =
+    let pre = c .before .before .before .before .before .before .before .before .before .before .before .before .before .before .before .before .before .before .before .before .pre in
+    (search needs, search needs, search needs, search needs, pre .7)
 
 add-k : tie.Need-add-k Inv-loop μ-loop
 add-k c = search needs
@@ -148,7 +150,7 @@ loop-again c =
     let second = c .before .before .before .before .before .before .before .before .before .before .before .before .row-at2 in
     let both = c .before .before .before .before .before .before .before .before .before .before .before .look-up-two .last .0 in
     let done = c .before .before .before .before .before .before .before .absorb-planes in
-    let beside = c .before .before .absorb-sides in
+    let beside = c .before .before .absorb-polar in
     let p : ℕ = 2 * l .k in
     let one : (S : List ℕ) (χ : ℕ → ℕ) (m f : ℕ) → Weighed S χ m (now (a .sums)) (now (a .offsets)) (a .groups) (a .base) → f < chunk → cellAt both 0 f ≡ xorSum m (λ i. bitOf (χ i) p * cellAt S i f) =
     λ S χ m f weighed h.
@@ -203,9 +205,9 @@ absorb-spec =
     mul-absorb-planes
     slice-aggregate-absorb-planes
     absorb-planes-requires
-    mul-absorb-sides
-    slice-aggregate-absorb-sides
-    absorb-sides-requires
+    mul-absorb-polar
+    slice-aggregate-absorb-polar
+    absorb-polar-requires
     add-k
     loop-less
     loop-again

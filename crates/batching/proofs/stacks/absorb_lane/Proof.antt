@@ -81,7 +81,7 @@ slice-aggregate-absorb c = search needs
 absorb-requires : tie.Need-absorb-requires
 absorb-requires c κs =
     let pre = c .before .before .before .before .before .before .before .before .before .before .before .before .before .before .before .before .pre in
-    (search needs, search needs, search needs, pre .3, pre .4, search needs, search needs, search needs)
+    (search needs, search needs, search needs, pre .3, search needs, search needs, search needs, pre .8)
 
 same-length : tie.Need-same-length
 same-length c = search needs

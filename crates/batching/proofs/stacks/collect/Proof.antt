@@ -1,7 +1,7 @@
 -- `batching::stacks::collect` meets its contract. The invariant: the rows of the first q sixteens are added, each times its coordinate.
 -- Assumes nothing.
 use borrow.Author.Needs.{needs}
-use Prim.Native.Nat.{ℕ, _+_, _*_, _-_, _/_, _≤_, _<_}
+use Prim.Native.Nat.{ℕ, _+_, _*_, _-_, _/_, _%_, _≤_, _<_}
 use mathlib.Core.List.{List}
 use mathlib.Core.Path.{_≡_, refl, sym, ap, ap₂, _∙_}
 use native.Mathlib.Nat.{add-assoc, add-mul, mul-assoc, zero-mul}
@@ -65,10 +65,10 @@ sum-is cells χ m e q f z h =
     ap₂ (λ x y. bitOf x z * y) (row-byte cells (m * chunk) q (i * chunk + f) inside ∙ ap (byteAt cells) (place q m i f)) (row-byte χ m e i l))
 
 abbrev Inv-loop : tie.InvT-loop
-Inv-loop stacks₀ sides₀ sums₀ cells panel m tau offsets groups vectors bits q₀ stacks sides sums q = (q ≤ panel + 1) × (length stacks ≡ length stacks₀) × (length sides ≡ length sides₀) × (length sums ≡ 32768) × ((χ : List ℕ) (e h f z : ℕ) → ((k : ℕ) → byteAt χ k < 256) → ((r : ℕ) → r < tau * 8 → Chosen χ m groups offsets r) → e < tau → h < 2 → f < 16 → stackOf 15 stacks e (h * 16 + f) z ≡ bitXor (stackOf 15 stacks₀ e (h * 16 + f) z) (xorSum q (term cells m χ vectors e h f z))) × ((χ : List ℕ) (x : ℕ → ℕ) (e h f z : ℕ) → ((k : ℕ) → byteAt χ k < 256) → ((r : ℕ) → r < tau * 8 → Chosen χ m groups offsets r) → ((c : ℕ) → x c < 2) → ((c : ℕ) → c < most → byteAt bits c ≡ x c * 255) → e < tau → h < 2 → f < 16 → stackOf 8 sides e (h * 16 + f) z ≡ bitXor (stackOf 8 sides₀ e (h * 16 + f) z) (xorSum q (aside cells m χ x e h f z)))
+Inv-loop stacks₀ sides₀ sums₀ cells panel m tau offsets groups vectors bits polar q₀ stacks sides sums q = (q ≤ panel + 1) × (length stacks ≡ length stacks₀) × (length sides ≡ length sides₀) × (length sums ≡ 32768) × ((χ : List ℕ) (e h f z : ℕ) → ((k : ℕ) → byteAt χ k < 256) → ((r : ℕ) → r < tau * 8 → Chosen χ m groups offsets r) → e < tau → h < 2 → f < 16 → stackOf 15 stacks e (h * 16 + f) z ≡ bitXor (stackOf 15 stacks₀ e (h * 16 + f) z) (xorSum q (term cells m χ vectors e h f z))) × ((χ : List ℕ) (x : ℕ → ℕ) (e h f z : ℕ) → ((k : ℕ) → byteAt χ k < 256) → ((r : ℕ) → r < tau * 8 → Chosen χ m groups offsets r) → ((c : ℕ) → x c < 2) → ((c : ℕ) → c < most → byteAt bits c ≡ x c * 255) → e < tau → h < 2 → f < 16 → stackOf 8 sides e (h * 16 + f) z ≡ bitXor (stackOf 8 sides₀ e (h * 16 + f) z) (xorSum q (aside cells m χ x e h f z)))
 
 abbrev μ-loop : tie.MeasureT-loop
-μ-loop stacks₀ sides₀ sums₀ cells panel m tau offsets groups vectors bits q₀ stacks sides sums q = panel + 1 - q
+μ-loop stacks₀ sides₀ sums₀ cells panel m tau offsets groups vectors bits polar q₀ stacks sides sums q = panel + 1 - q
 
 loop-holds : tie.Need-loop-holds Inv-loop μ-loop
 unfolding xorSum
@@ -119,8 +119,20 @@ absorb-lanes-requires c κs =
     let pre = c .before .before .before .before .before .before .before .before .before .before .before .before .before .before .before .before .before .before .before .before .before .before .before .before .before .before .pre in
     let l = c .before .before .before .before .before .before .before .before .before .before .before .before .before .before .before .before .before .before .loop in
     let filled = c .before .before .before .before .before .before .before .before .before .before .before .before .before .before .fill-sums in
-    let settled = c .before .before .before .before .before .before .before .before .before .add-first in
-    (omega (arith, pre .0, settled .kept .0, l .inv .1), omega (arith, pre .1, l .inv .2), pre .10, omega (arith, pre .9), (λ k h. omega (arith, pre .11 k h, filled .kept .0, l .inv .3)), pre .12, omega (arith, pre .4, c .before .before .before .before .before .before .before .before .before .before .before .before .before .before .before .before .before .loop-test .taken), search needs, pre .8)
+    let masked = c .before .before .before .before .before .spread-twice in
+    let settled = c .before .before .before .before .before .before .before .before .before .add-first in (
+      omega (arith, pre .0, settled .kept .0, l .inv .1),
+      omega (arith, pre .1, l .inv .2),
+      pre .10,
+      (λ k h. omega (arith, pre .11 k h, filled .kept .0, l .inv .3)),
+      pre .12,
+      omega (arith, pre .4, c .before .before .before .before .before .before .before .before .before .before .before .before .before .before .before .before .before .loop-test .taken),
+      search needs,
+      pre .8,
+      λ off h f hh hf.
+          let at : f / 16 * 16 + f % 16 ≡ f = omega arith in
+          rw at at (masked .ensures h (f / 16) (f % 16) hh (omega arith) (omega arith)) ∙ pre .14 off (l .q * 16 + f % 16) (omega (arith, pre .4, c .before .before .before .before .before .before .before .before .before .before .before .before .before .before .before .before .before .loop-test .taken)),
+    )
 
 add-q : tie.Need-add-q Inv-loop μ-loop
 add-q c =

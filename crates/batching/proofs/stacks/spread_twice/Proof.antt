@@ -1,7 +1,7 @@
 -- `batching::stacks::spread_twice` meets its contract.
 -- Assumes nothing.
 use borrow.Author.Needs.{needs}
-use Prim.Native.Nat.{_+_, _*_, _<_}
+use Prim.Native.Nat.{_+_, _*_}
 use mathlib.Core.Path.{_∙_}
 use native.Mathlib.Omega.{arith}
 use Rattle.batching.proofs.stacks.spread_twice.Statement.{statement}

@@ -50,7 +50,7 @@ add-forms-requires c κs =
     let pre = c .before .before .before .before .before .before .before .before .before .before .before .before .before .pre in
     let a = c .before .before .before .before .before .before .before .before .before .before .before .before .before .args in
     let chosen = c .before .before .before .before .fill-offsets in
-    (pre .0, pre .1, pre .5, refl, pre .2, pre .12, pre .3, pre .13, pre .4, refl, omega (arith, chosen .kept .0, offsets-fit (a .tau) (a .m) (pre .4) (pre .3)), chosen .ensures .1, pre .8, pre .9, pre .10, pre .11)
+    (pre .0, pre .1, pre .5, refl, pre .2, pre .12, pre .3, pre .13, pre .4, refl, omega (arith, chosen .kept .0, offsets-fit (a .tau) (a .m) (pre .4) (pre .3)), chosen .ensures .1, pre .8, pre .9, pre .10, pre .11, pre .14)
 
 add-linear-requires : tie.Need-add-linear-requires
 unfolding bytesFor

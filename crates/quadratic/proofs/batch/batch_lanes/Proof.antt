@@ -4,6 +4,7 @@
 use borrow.Author.Needs.{needs}
 use Prim.Native.Nat.{ℕ, _*_, _≤_, _<_}
 use mathlib.Core.Path.{_≡_, sym, ap, ap₂, _∙_}
+use mathlib.Core.Bool.{false≢true}
 use mathlib.Core.List.{List}
 use native.Mathlib.Decide.{decLt}
 use native.Mathlib.Omega.{arith}
@@ -67,7 +68,7 @@ batch-forms-requires c κs =
     let a = c .before .before .before .before .before .before .before .before .before .before .before .before .before .before .before .before .before .before .before .before .before .before .before .args in
     let unpacked = c .before .before .before .before .before .before .before .before .before .before .before .before .unpack in
     let past : (k : ℕ) → a .n ≤ k → byteAt (unpacked .last .0) k ≡ 0 = λ k h. unpacked .ensures .1 k h ∙ zeros 160 k in
-    (c .before .before .before .before .before .before .before .before .before .clear .kept .0 ∙ pre .0, c .before .before .before .before .before .clear2 .kept .0 ∙ pre .1, pre .2, pre .10, pre .3, pre .4, pre .5, pre .7, prefix (now (a .table)) (a .n * lanes) (omega (arith, pre .8)), unpacked .kept .0, bits-lt (a .n) (now (a .x)) (unpacked .last .0) (unpacked .ensures .0) past, past, pre .11, pre .12)
+    (c .before .before .before .before .before .before .before .before .before .clear .kept .0 ∙ pre .0, c .before .before .before .before .before .clear2 .kept .0 ∙ pre .1, pre .2, pre .10, pre .3, pre .4, pre .5, pre .7, prefix (now (a .table)) (a .n * lanes) (omega (arith, pre .8)), unpacked .kept .0, bits-lt (a .n) (now (a .x)) (unpacked .last .0) (unpacked .ensures .0) past, past, pre .11, pre .12, λ e. absurd (false≢true (sym e)))
 
 add-masks-requires : tie.Need-add-masks-requires
 add-masks-requires c κs =

@@ -1,7 +1,7 @@
 -- `tables::parts::put_lane` meets its contract. The invariant: the first i coordinates have their lane, the other lanes and the coordinates before are as they were.
 -- Assumes nothing.
 use borrow.Author.Needs.{needs}
-use Prim.Native.Nat.{ℕ, _+_, _*_, _-_, _≤_}
+use Prim.Native.Nat.{_-_, _≤_}
 use mathlib.Core.Path.{_≡_, refl, sym}
 use denote.Ref.{now}
 use lib.ListN.{length, length-set}
