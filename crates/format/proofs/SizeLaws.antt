@@ -15,7 +15,7 @@ use Rattle.protocol.specs.Key.{keyLengths}
 use Rattle.protocol.specs.Sections.{lengths, commitLengths, hashLengths, batchLengths}
 use Rattle.protocol.specs.Shape.{Shape, within, limits, kOf, lOf, wOf}
 use Rattle.protocol.proofs.TestLaws.{leb-le, all-true}
-use Rattle.protocol.proofs.HonestLaws.{within-le}
+use Rattle.protocol.proofs.LimitLaws.{within-le}
 
 pub record InLimits (s : Shape) : Type 0 where
   pub n-least : 1 ≤ s .n

@@ -1,108 +1,50 @@
 -- An honest proof: its sections hold what the rules say, read back as they were written, and make every coefficient of every repetition zero.
 -- Assumes nothing.
 use mathlib.Core.Path.{_≡_, refl, sym, ap, ap₂, _∙_}
-use mathlib.Core.Bool.{Bool, true, false, cond}
+use mathlib.Core.Bool.{true}
 use mathlib.Core.List.{List, [], _∷_, map}
 use Prim.Native.Nat.{ℕ, zero, suc, _+_, _*_, _-_, _≤_, _<_}
 use native.Mathlib.Nat.{mul-le-mul}
 use native.Mathlib.Omega.{arith}
-use lib.Dec.{eqb, ltb, leb, lit<}
+use lib.Dec.{lit<}
 use lib.ListN.{length, getD}
 use Rattle.algebra.specs.Ring.{Ring}
 use Rattle.algebra.specs.Field.{Field}
 use Rattle.algebra.specs.Coded.{Coded}
-use Rattle.algebra.specs.Sum.{sum}
 use Rattle.algebra.specs.Roots.{isZero, lineAt, passing}
 use Rattle.algebra.proofs.RingLaws.{ring}
 use Rattle.algebra.proofs.FieldLaws.{eqb-true}
-use Rattle.algebra.proofs.CountLaws.{and-right}
 use Rattle.protocol.specs.Lists.{table, blockAt}
 use Rattle.protocol.specs.Frames.{frame, framed, sectionNo}
-use Rattle.protocol.specs.Alphabet.{Alphabet, sym as symbol, elemAt, IsSymbol, Lawful}
-use Rattle.protocol.specs.Shape.{Shape, within, limits, perTree, kOf, lOf, wOf}
+use Rattle.protocol.specs.Alphabet.{Alphabet, sym as symbol, elemAt, Lawful}
+use Rattle.protocol.specs.Shape.{Shape, kOf, lOf, wOf}
 use Rattle.protocol.specs.Key.{rowsSpare}
 use Rattle.protocol.specs.Sections.{Sections, bytesOf, lengths, sectionsIn}
-use Rattle.protocol.specs.Leaves.{leafAt}
-use Rattle.protocol.specs.Forms.{quad, lin, yOf, middle, error, h, hash, maskOf, batch}
+use Rattle.protocol.specs.Forms.{quad, lin, yOf, middle, error, hash, maskOf, batch}
 use Rattle.protocol.specs.Prover.{u, v, correction, dOf, a₀, a₁, qs0, qs1, cSection, dSection, ũSection, ṼSection, qs0Section, qs1Section, sectionsOf}
 use Rattle.protocol.specs.Verifier.{correctionAt, candidate, batchedError}
 use Rattle.protocol.specs.Questions.{proofSpare}
 use Rattle.protocol.specs.Coefficients.{shift, rowLine, conditions}
-use Rattle.protocol.proofs.TestLaws.{both-true, all-of, all-true, true-all, leb-le}
+use Rattle.protocol.proofs.TestLaws.{both-true, all-of, true-all}
 use Rattle.protocol.proofs.ListLaws.{block-getD, length-table, table-at, table-block, table-length}
 use Rattle.protocol.proofs.FrameLaws.{Short, frame-framed, frame-section}
 use Rattle.protocol.proofs.FormLaws.{hash-congr, mask-congr, quad-congr, lin-congr, batch-congr, batch-zero}
 use Rattle.protocol.proofs.CoefficientLaws.{all-lines}
-
-pub record Bounds (s : Shape) : Type 0 where
-  pub n≤ : s .n ≤ 160
-  pub m≤ : s .m ≤ 160
-  pub τ≤ : s .τ ≤ 48
-  pub t≤ : s .t ≤ 160
-
-pub within-le : (most x : ℕ) → within most x ≡ true → x ≤ most
-unfolding within
-within-le most x h = leb-le x most (and-right (leb 1 x) (leb x most) h)
-
-pub bounds-of : (s : Shape) → limits s ≡ true → Bounds s
-unfolding limits
-bounds-of s h =
-    let t = all-true (within 160 (s .n) ∷ within 160 (s .m) ∷ within 48 (s .τ) ∷ within 160 (s .t) ∷ []) h in
-    record { n≤ = within-le 160 (s .n) (t .0); m≤ = within-le 160 (s .m) (t .1 .0); τ≤ = within-le 48 (s .τ) (t .1 .1 .0); t≤ = within-le 160 (s .t) (t .1 .1 .1 .0) }
+use Rattle.protocol.proofs.LimitLaws.{Bounds}
+use Rattle.protocol.proofs.SymbolLaws.{pack-sym, spare-pack, hash-symbol, correction-symbol, d-symbol}
 
 module _ (A : Alphabet) (laws : Lawful A) where
-  open Alphabet A using (K, embed, symbolOf, width, pack, spareZero)
+  open Alphabet A using (K, symbolOf, width, pack, spareZero)
   open Coded K using (base, elem, byte)
   open Field base using (R)
-  open Ring R using (F, 𝟘, 𝟙, add as _⊕_, mul as _⊗_)
+  open Ring R using (F, 𝟘, add as _⊕_, mul as _⊗_)
 
   infixl 65 _⊕_
   infixl 70 _⊗_
-  pub sym-symbol : (s : List ℕ) (c : ℕ) → IsSymbol A (symbol A s c)
-  unfolding symbol
-  sym-symbol s c = (A .at s c, laws .at-lt s c, refl)
-
-  sum-symbol : (n : ℕ) (f : ℕ → F) → ((i : ℕ) → IsSymbol A (f i)) → IsSymbol A (sum R n f)
-  sum-symbol zero f k = laws .zero-symbol
-  sum-symbol (suc n) f k = laws .add-symbol (sum R n f) (f n) (sum-symbol n f k) (k n)
-
-  -- packed symbols, read back as elements
-  pub pack-sym : (L : ℕ) (f : ℕ → F) → ((c : ℕ) → IsSymbol A (f c)) → (c : ℕ) → c < L → symbol A (pack L (λ c. symbolOf (f c))) c ≡ f c
-  unfolding symbol
-  pack-sym L f k c l = ap embed (laws .pack-at L (λ c. symbolOf (f c)) (λ c. laws .symbol-lt (f c)) c l) ∙ laws .symbol-back (f c) (k c)
-
-  spare-pack : (L : ℕ) (f : ℕ → F) → spareZero (pack L (λ c. symbolOf (f c))) L ≡ true
-  spare-pack L f = laws .pack-spare L (λ c. symbolOf (f c)) (λ c. laws .symbol-lt (f c))
-
   module _ (s : Shape) (leaves : List ℕ) where
     n-below : (c : ℕ) → c < s .n → c < lOf A s
     unfolding lOf kOf
     n-below c l = omega arith
-
-    h-symbol : (H′ : List ℕ) (ρ c : ℕ) → IsSymbol A (h A s H′ ρ c)
-    unfolding h
-    h-symbol H′ ρ c = go (ltb c (kOf A s)) (eqb c (kOf A s + ρ))
-      where
-        go : (b d : Bool) → IsSymbol A (cond b (symbol A (blockAt H′ (width (kOf A s)) ρ) c) (cond d 𝟙 𝟘))
-        go true d = sym-symbol _ c
-        go false true = laws .one-symbol
-        go false false = laws .zero-symbol
-
-    pub u-symbol : (e c : ℕ) → IsSymbol A (u A s leaves e c)
-    unfolding u
-    u-symbol e c = sum-symbol (perTree A) _ (λ j. sym-symbol _ c)
-
-    hash-symbol : (H′ : List ℕ) (ρ : ℕ) → IsSymbol A (hash A s H′ ρ (u A s leaves 0))
-    unfolding hash
-    hash-symbol H′ ρ = sum-symbol (lOf A s) _ (λ c. laws .mul-symbol _ _ (h-symbol H′ ρ c) (u-symbol 0 c))
-
-    correction-symbol : (e c : ℕ) → IsSymbol A (correction A s leaves e c)
-    unfolding correction
-    correction-symbol e c = laws .add-symbol _ _ (u-symbol e c) (u-symbol 0 c)
-
-    d-symbol : (x : List ℕ) (c : ℕ) → IsSymbol A (dOf A s leaves x c)
-    unfolding dOf
-    d-symbol x c = laws .add-symbol _ _ (sym-symbol x c) (u-symbol 0 c)
 
     -- ---- the sections, by rows
 
@@ -143,7 +85,7 @@ module _ (A : Alphabet) (laws : Lawful A) where
       shift-is zero l c k = R .add-zero _
       shift-is (suc e) l c k =
           ap (λ z. u A s leaves (suc e) c ⊕ z)
-          (ap (λ z. symbol A z c) (C-block e (omega arith)) ∙ pack-sym (lOf A s) (correction A s leaves (suc e)) (correction-symbol (suc e)) c k)
+          (ap (λ z. symbol A z c) (C-block e (omega arith)) ∙ pack-sym A laws (lOf A s) (correction A s leaves (suc e)) (correction-symbol A laws s leaves (suc e)) c k)
           ∙ cancel (u A s leaves (suc e) c) (u A s leaves 0 c)
         where
           cancel : (a b : F) → a ⊕ (a ⊕ b) ≡ b
@@ -151,7 +93,7 @@ module _ (A : Alphabet) (laws : Lawful A) where
 
       d-is : (c : ℕ) → c < s .n → symbol A (P .d) c ≡ symbol A x c ⊕ u A s leaves 0 c
       unfolding dOf dSection
-      d-is c l = pack-sym (s .n) (dOf A s leaves x) (d-symbol x) c l
+      d-is c l = pack-sym A laws (s .n) (dOf A s leaves x) (d-symbol A laws s leaves x) c l
 
       candidate-is : (e : ℕ) → e < s .τ → (c : ℕ) → c < s .n → candidate A s leaves P e c ≡ symbol A x c
       unfolding candidate
@@ -163,7 +105,7 @@ module _ (A : Alphabet) (laws : Lawful A) where
 
       ũ-is : (ρ : ℕ) → ρ < s .t → symbol A (P .ũ) ρ ≡ hash A s H′ ρ (u A s leaves 0)
       unfolding ũSection
-      ũ-is ρ l = pack-sym (s .t) (λ ρ. hash A s H′ ρ (u A s leaves 0)) (hash-symbol H′) ρ l
+      ũ-is ρ l = pack-sym A laws (s .t) (λ ρ. hash A s H′ ρ (u A s leaves 0)) (hash-symbol A laws s leaves H′) ρ l
 
       Ṽ-is : (e ρ : ℕ) → e < s .τ → ρ < s .t → elemAt A (P .Ṽ) (e * s .t + ρ) ≡ hash A s H′ ρ (v A s leaves e)
       unfolding elemAt ṼSection rowV
@@ -279,10 +221,10 @@ module _ (A : Alphabet) (laws : Lawful A) where
 
       row-spare : (e : ℕ) → e < s .τ - 1 → spareZero (blockAt (P .C) (wOf A s) e) (lOf A s) ≡ true
       unfolding rowC
-      row-spare e l = ap (λ z. spareZero z (lOf A s)) (C-block e l) ∙ spare-pack (lOf A s) (correction A s leaves (suc e))
+      row-spare e l = ap (λ z. spareZero z (lOf A s)) (C-block e l) ∙ spare-pack A laws (lOf A s) (correction A s leaves (suc e))
 
       pub spare : proofSpare A s P ≡ true
       unfolding proofSpare rowsSpare wOf dSection ũSection
       spare =
           true-all (rowsSpare A (lOf A s) (s .τ - 1) (P .C) ∷ spareZero (P .d) (s .n) ∷ spareZero (P .ũ) (s .t) ∷ [])
-          (all-of (s .τ - 1) _ row-spare, (spare-pack (s .n) (dOf A s leaves x), (spare-pack (s .t) (λ ρ. hash A s H′ ρ (u A s leaves 0)), tt)))
+          (all-of (s .τ - 1) _ row-spare, (spare-pack A laws (s .n) (dOf A s leaves x), (spare-pack A laws (s .t) (λ ρ. hash A s H′ ρ (u A s leaves 0)), tt)))

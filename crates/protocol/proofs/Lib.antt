@@ -15,6 +15,8 @@ pub mod CoefficientLaws
 pub mod AnswerLaws
 pub mod ReplyLaws
 pub mod CountingLaws
+pub mod LimitLaws
+pub mod SymbolLaws
 pub mod HonestLaws
 pub mod Published
 pub mod Theorems

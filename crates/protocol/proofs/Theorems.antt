@@ -42,7 +42,9 @@ use Rattle.protocol.proofs.CoefficientLaws.{checks-passing}
 use Rattle.protocol.proofs.AnswerLaws.{ask-none, ask-no, ask-yes, accepted-all, accepted-of, all-yes, yes-all, ask-after}
 use Rattle.protocol.proofs.ReplyLaws.{Without, not-number}
 use Rattle.protocol.proofs.CountingLaws.{Form, form-of, leaves-length, opened-exact, opened-spare, tree-is, splits, count-product}
-use Rattle.protocol.proofs.HonestLaws.{sym-symbol, pack-sym, u-symbol, bounds-of, passing-all, exact, sections-back, spare}
+use Rattle.protocol.proofs.LimitLaws.{bounds-of}
+use Rattle.protocol.proofs.SymbolLaws.{sym-symbol, pack-sym, u-symbol}
+use Rattle.protocol.proofs.HonestLaws.{passing-all, exact, sections-back, spare}
 
 zero-not : (i : ℕ) → 0 < i → _≡_ {A = ℕ} 0 i → ⊥
 zero-not i l h = omega arith

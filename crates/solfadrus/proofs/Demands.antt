@@ -19,7 +19,8 @@ use Rattle.protocol.specs.Statements.{SomeFails}
 use Rattle.protocol.proofs.Published.{all-published, refuses-exactly-when}
 use Rattle.protocol.proofs.AnswerLaws.{ask-accepts, all-yes, yes-all}
 use Rattle.protocol.proofs.BinaryLaws.{bits256-lawful}
-use Rattle.protocol.proofs.HonestLaws.{bounds-of, exact, sections-back}
+use Rattle.protocol.proofs.LimitLaws.{bounds-of}
+use Rattle.protocol.proofs.HonestLaws.{exact, sections-back}
 use Rattle.protocol.proofs.Theorems.{steps-are-whole}
 use Rattle.protocol.proofs.Demands.{accepts-exactly-when, honest-proof-accepted}
 use Rattle.sections.specs.Reading.{Reads}

@@ -5,4 +5,5 @@ pub mod Rows
 pub mod Meaning
 pub mod Packed
 pub mod BitLaws
+pub mod TopLaws
 pub mod ProductLaws
