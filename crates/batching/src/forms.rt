@@ -48,8 +48,8 @@ fn add_panel(
     width: usize,
     m: usize,
     tau: usize,
-    offsets: &[u16],
-    groups: usize,
+    words: &[u64],
+    count: usize,
     vectors: &[u8],
     table: &[u8],
     bits: &[u8],
@@ -57,10 +57,10 @@ fn add_panel(
     polar: bool,
     panel: usize,
 )
-    requires { ⌜ (length (now quad) ≡ lanes) × (length (now mid) ≡ lanes) × (length (now cells) ≡ 51200) × (length (now sums) ≡ 32768) × (length (now a) ≡ m * (n * width)) × (width ≡ bytesFor n) × (n ≤ 160) × (0 < m) × (m ≤ 160) × (0 < tau) × (tau ≤ lanes) × (groups ≡ (m + 9) / 10 * 2) × (tau * 8 * groups ≤ length (now offsets)) × ((k : ℕ) → k < tau * 8 * groups → byteAt (now offsets) k * 16 + chunk ≤ 32768) × (length (now table) ≡ n * lanes) × (panel * 16 < n) ⌝ }
+    requires { ⌜ (length (now quad) ≡ lanes) × (length (now mid) ≡ lanes) × (length (now cells) ≡ 51200) × (length (now sums) ≡ 32768) × (length (now a) ≡ m * (n * width)) × (width ≡ bytesFor n) × (n ≤ 160) × (0 < m) × (m ≤ 160) × (0 < tau) × (tau ≤ lanes) × (count ≡ (m + 39) / 40) × (tau * 8 * count ≤ length (now words)) × (length (now table) ≡ n * lanes) × (panel * 16 < n) ⌝ }
     requires { ⌜ (tau * most ≤ length (now vectors)) × (length (now bits) ≡ most) × (length (now xs) ≡ most) × ((c : ℕ) → byteAt (now xs) c < 2) × ((c : ℕ) → n ≤ c → byteAt (now xs) c ≡ 0) × ((e c : ℕ) → e < tau → c < most → byteAt (now vectors) (e * most + c) ≡ laneAt (now table) c e) × ((c : ℕ) → c < most → byteAt (now bits) c ≡ byteAt (now xs) c * 255) × (polar ≡ false → (c : ℕ) → byteAt (now xs) c ≡ 0) ⌝ }
-    ensures { λ _. ⌜ ((χ : List ℕ) (e : ℕ) → ((k : ℕ) → byteAt χ k < 256) → ((r : ℕ) → r < tau * 8 → Chosen χ m groups (now (offsets .entry)) r) → e < tau → byteAt (now (quad .exit)) e ≡ bitXor (byteAt (now (quad .entry)) e) (xorSum 16 (λ s. product (laneAt (now (table .entry)) (panel * 16 + s) e) (leftSum width (n * width) m (now (a .entry)) χ e (λ ρ. laneAt (now (table .entry)) ρ e) panel (panel * 16 + s))))) ⌝ }
-    ensures { λ _. ⌜ ((χ : List ℕ) (e : ℕ) → ((k : ℕ) → byteAt χ k < 256) → ((r : ℕ) → r < tau * 8 → Chosen χ m groups (now (offsets .entry)) r) → e < tau → byteAt (now (mid .exit)) e ≡ bitXor (byteAt (now (mid .entry)) e) (xorSum 16 (λ s. bitXor (product (laneAt (now (table .entry)) (panel * 16 + s) e) (leftSum width (n * width) m (now (a .entry)) χ e (byteAt (now (xs .entry))) panel (panel * 16 + s))) (product (byteAt (now (xs .entry)) (panel * 16 + s)) (leftSum width (n * width) m (now (a .entry)) χ e (λ ρ. laneAt (now (table .entry)) ρ e) panel (panel * 16 + s)))))) ⌝ }
+    ensures { λ _. ⌜ ((χ : List ℕ) (e : ℕ) → ((k : ℕ) → byteAt χ k < 256) → ((r : ℕ) → r < tau * 8 → Chosen χ m count (now (words .entry)) r) → e < tau → byteAt (now (quad .exit)) e ≡ bitXor (byteAt (now (quad .entry)) e) (xorSum 16 (λ s. product (laneAt (now (table .entry)) (panel * 16 + s) e) (leftSum width (n * width) m (now (a .entry)) χ e (λ ρ. laneAt (now (table .entry)) ρ e) panel (panel * 16 + s))))) ⌝ }
+    ensures { λ _. ⌜ ((χ : List ℕ) (e : ℕ) → ((k : ℕ) → byteAt χ k < 256) → ((r : ℕ) → r < tau * 8 → Chosen χ m count (now (words .entry)) r) → e < tau → byteAt (now (mid .exit)) e ≡ bitXor (byteAt (now (mid .entry)) e) (xorSum 16 (λ s. bitXor (product (laneAt (now (table .entry)) (panel * 16 + s) e) (leftSum width (n * width) m (now (a .entry)) χ e (byteAt (now (xs .entry))) panel (panel * 16 + s))) (product (byteAt (now (xs .entry)) (panel * 16 + s)) (leftSum width (n * width) m (now (a .entry)) χ e (λ ρ. laneAt (now (table .entry)) ρ e) panel (panel * 16 + s)))))) ⌝ }
 {
     let mut stacks = [0u8; LANES * STACK];
     let mut sides = [0u8; LANES * SIDE];
@@ -73,8 +73,8 @@ fn add_panel(
         panel,
         m,
         tau,
-        offsets,
-        groups,
+        words,
+        count,
         vectors,
         bits,
         polar,
@@ -92,15 +92,15 @@ pub fn add_forms(
     width: usize,
     m: usize,
     tau: usize,
-    offsets: &[u16],
-    groups: usize,
+    words: &[u64],
+    count: usize,
     table: &[u8],
     xs: &[u8],
     polar: bool,
 )
-    requires { ⌜ (length (now quad) ≡ lanes) × (length (now mid) ≡ lanes) × (length (now a) ≡ m * (n * width)) × (width ≡ bytesFor n) × (n ≤ 160) × (0 < m) × (m ≤ 160) × (0 < tau) × (tau ≤ lanes) × (groups ≡ (m + 9) / 10 * 2) × (tau * 8 * groups ≤ length (now offsets)) × ((k : ℕ) → k < tau * 8 * groups → byteAt (now offsets) k * 16 + chunk ≤ 32768) × (length (now table) ≡ n * lanes) × (length (now xs) ≡ most) × ((c : ℕ) → byteAt (now xs) c < 2) × ((c : ℕ) → n ≤ c → byteAt (now xs) c ≡ 0) × (polar ≡ false → (c : ℕ) → byteAt (now xs) c ≡ 0) ⌝ }
-    ensures { λ _. ⌜ ((χ : List ℕ) (e : ℕ) → ((k : ℕ) → byteAt χ k < 256) → ((r : ℕ) → r < tau * 8 → Chosen χ m groups (now (offsets .entry)) r) → e < tau → byteAt (now (quad .exit)) e ≡ bitXor (byteAt (now (quad .entry)) e) (formSum n width m (now (a .entry)) χ e (λ c. laneAt (now (table .entry)) c e) (λ c. laneAt (now (table .entry)) c e))) ⌝ }
-    ensures { λ _. ⌜ ((χ : List ℕ) (e : ℕ) → ((k : ℕ) → byteAt χ k < 256) → ((r : ℕ) → r < tau * 8 → Chosen χ m groups (now (offsets .entry)) r) → e < tau → byteAt (now (mid .exit)) e ≡ bitXor (byteAt (now (mid .entry)) e) (bitXor (formSum n width m (now (a .entry)) χ e (λ c. laneAt (now (table .entry)) c e) (byteAt (now (xs .entry)))) (formSum n width m (now (a .entry)) χ e (byteAt (now (xs .entry))) (λ c. laneAt (now (table .entry)) c e)))) ⌝ }
+    requires { ⌜ (length (now quad) ≡ lanes) × (length (now mid) ≡ lanes) × (length (now a) ≡ m * (n * width)) × (width ≡ bytesFor n) × (n ≤ 160) × (0 < m) × (m ≤ 160) × (0 < tau) × (tau ≤ lanes) × (count ≡ (m + 39) / 40) × (tau * 8 * count ≤ length (now words)) × (length (now table) ≡ n * lanes) × (length (now xs) ≡ most) × ((c : ℕ) → byteAt (now xs) c < 2) × ((c : ℕ) → n ≤ c → byteAt (now xs) c ≡ 0) × (polar ≡ false → (c : ℕ) → byteAt (now xs) c ≡ 0) ⌝ }
+    ensures { λ _. ⌜ ((χ : List ℕ) (e : ℕ) → ((k : ℕ) → byteAt χ k < 256) → ((r : ℕ) → r < tau * 8 → Chosen χ m count (now (words .entry)) r) → e < tau → byteAt (now (quad .exit)) e ≡ bitXor (byteAt (now (quad .entry)) e) (formSum n width m (now (a .entry)) χ e (λ c. laneAt (now (table .entry)) c e) (λ c. laneAt (now (table .entry)) c e))) ⌝ }
+    ensures { λ _. ⌜ ((χ : List ℕ) (e : ℕ) → ((k : ℕ) → byteAt χ k < 256) → ((r : ℕ) → r < tau * 8 → Chosen χ m count (now (words .entry)) r) → e < tau → byteAt (now (mid .exit)) e ≡ bitXor (byteAt (now (mid .entry)) e) (bitXor (formSum n width m (now (a .entry)) χ e (λ c. laneAt (now (table .entry)) c e) (byteAt (now (xs .entry)))) (formSum n width m (now (a .entry)) χ e (byteAt (now (xs .entry))) (λ c. laneAt (now (table .entry)) c e)))) ⌝ }
 {
     let mut cells = [0u8; CELLS];
     let mut sums = [0u8; SUMS];
@@ -120,8 +120,8 @@ pub fn add_forms(
             width,
             m,
             tau,
-            offsets,
-            groups,
+            words,
+            count,
             &vectors,
             table,
             &bits,

@@ -1,4 +1,4 @@
-// The batched matrix times the vectors of the repetitions. The offsets are public; the vectors and the stacks are secret: no branch and no
+// The batched matrix times the vectors of the repetitions. The words are public; the vectors and the stacks are secret: no branch and no
 // index goes by them.
 ghost use mathlib.Core.Path.{_≡_};
 ghost use mathlib.Core.Bool.{false};
@@ -106,29 +106,29 @@ fn absorb_polar(side: &mut [u8], p: usize, both: &[u8], mask: &[u8], polar: bool
 }
 
 // Adds a chunk of the batched matrix to a stack, times v, and to a side, under a mask, which is lent twice: it is the sum of the rows S, each times its byte χ, whose
-// bits chose the offsets.
+// bits chose the words.
 fn absorb(
     t: &mut [u8],
     side: &mut [u8],
-    offsets: &[u16],
+    words: &[u64],
     base: usize,
-    groups: usize,
+    count: usize,
     sums: &[u8],
     masks: &[u8],
     mask: &[u8],
     polar: bool,
 )
-    requires { ⌜ (length (now t) ≡ 15 * chunk) × (length (now side) ≡ 8 * chunk) × ((base + 8) * groups ≤ length (now offsets)) × ((k : ℕ) → k < (base + 8) * groups → byteAt (now offsets) k * 16 + chunk ≤ length (now sums)) × (length (now masks) ≡ 8 * chunk) × (length (now mask) ≡ pair) × (base ≤ 1000) × (polar ≡ false → (h f : ℕ) → h < 2 → f < chunk → byteAt (now mask) (h * chunk + f) ≡ 0) ⌝ }
-    ensures { λ _. ⌜ ((S v : List ℕ) (χ : ℕ → ℕ) (m f z : ℕ) → Weighed S χ m (now (sums .entry)) (now (offsets .entry)) groups base → Masks v (now (masks .entry)) → byteAt v f < 256 → f < chunk → stackAt 15 (now (t .exit)) f z ≡ bitXor (stackAt 15 (now (t .entry)) f z) (product (byteAt v f) (xorSum m (λ i. bitOf (cellAt S i f) z * χ i)))) ⌝ }
-    ensures { λ _. ⌜ ((S : List ℕ) (χ : ℕ → ℕ) (m x f z : ℕ) → Weighed S χ m (now (sums .entry)) (now (offsets .entry)) groups base → x < 2 → ((h : ℕ) → h < 2 → byteAt (now (mask .entry)) (h * chunk + f) ≡ x * 255) → f < chunk → stackAt 8 (now (side .exit)) f z ≡ bitXor (stackAt 8 (now (side .entry)) f z) (x * xorSum m (λ i. bitOf (cellAt S i f) z * χ i))) ⌝ }
+    requires { ⌜ (length (now t) ≡ 15 * chunk) × (length (now side) ≡ 8 * chunk) × ((base + 8) * count ≤ length (now words)) × (count ≤ 4) × (count * 256 * chunk ≤ length (now sums)) × (length (now masks) ≡ 8 * chunk) × (length (now mask) ≡ pair) × (base ≤ 1000) × (polar ≡ false → (h f : ℕ) → h < 2 → f < chunk → byteAt (now mask) (h * chunk + f) ≡ 0) ⌝ }
+    ensures { λ _. ⌜ ((S v : List ℕ) (χ : ℕ → ℕ) (m f z : ℕ) → Weighed S χ m (now (sums .entry)) (now (words .entry)) count base → Masks v (now (masks .entry)) → byteAt v f < 256 → f < chunk → stackAt 15 (now (t .exit)) f z ≡ bitXor (stackAt 15 (now (t .entry)) f z) (product (byteAt v f) (xorSum m (λ i. bitOf (cellAt S i f) z * χ i)))) ⌝ }
+    ensures { λ _. ⌜ ((S : List ℕ) (χ : ℕ → ℕ) (m x f z : ℕ) → Weighed S χ m (now (sums .entry)) (now (words .entry)) count base → x < 2 → ((h : ℕ) → h < 2 → byteAt (now (mask .entry)) (h * chunk + f) ≡ x * 255) → f < chunk → stackAt 8 (now (side .exit)) f z ≡ bitXor (stackAt 8 (now (side .entry)) f z) (x * xorSum m (λ i. bitOf (cellAt S i f) z * χ i))) ⌝ }
 {
     let mut k = 0;
     while k < 4 {
         let mut both = [0u8; PAIR];
         choices::sums::look_up_two(
             &mut both,
-            choices::offsets::row_at(offsets, groups, base + 2 * k),
-            choices::offsets::row_at(offsets, groups, base + 2 * k + 1),
+            choices::fives::row_at(words, count, base + 2 * k),
+            choices::fives::row_at(words, count, base + 2 * k + 1),
             sums,
         );
         planes::absorb_planes(t, 2 * k, &both, masks);
@@ -143,17 +143,17 @@ fn absorb_lane(
     stacks: &mut [u8],
     sides: &mut [u8],
     e: usize,
-    offsets: &[u16],
-    groups: usize,
+    words: &[u64],
+    count: usize,
     sums: &[u8],
     vectors: &[u8],
     first: usize,
     mask: &[u8],
     polar: bool,
 )
-    requires { ⌜ (e * (15 * chunk) + 15 * chunk ≤ length (now stacks)) × (e * (8 * chunk) + 8 * chunk ≤ length (now sides)) × ((e * 8 + 8) * groups ≤ length (now offsets)) × ((k : ℕ) → k < (e * 8 + 8) * groups → byteAt (now offsets) k * 16 + chunk ≤ length (now sums)) × (e * most + most ≤ length (now vectors)) × (first + 16 ≤ most) × (length (now mask) ≡ pair) × (e < lanes) × (polar ≡ false → (h f : ℕ) → h < 2 → f < chunk → byteAt (now mask) (h * chunk + f) ≡ 0) ⌝ }
-    ensures { λ _. ⌜ ((S : List ℕ) (χ : ℕ → ℕ) (m h f z : ℕ) → Weighed S χ m (now (sums .entry)) (now (offsets .entry)) groups (e * 8) → h < 2 → f < 16 → stackOf 15 (now (stacks .exit)) e (h * 16 + f) z ≡ bitXor (stackOf 15 (now (stacks .entry)) e (h * 16 + f) z) (product (byteAt (now (vectors .entry)) (e * most + (first + f))) (xorSum m (λ i. bitOf (cellAt S i (h * 16 + f)) z * χ i)))) ⌝ }
-    ensures { λ _. ⌜ ((S : List ℕ) (χ : ℕ → ℕ) (m x f z : ℕ) → Weighed S χ m (now (sums .entry)) (now (offsets .entry)) groups (e * 8) → x < 2 → ((h : ℕ) → h < 2 → byteAt (now (mask .entry)) (h * chunk + f) ≡ x * 255) → f < chunk → stackOf 8 (now (sides .exit)) e f z ≡ bitXor (stackOf 8 (now (sides .entry)) e f z) (x * xorSum m (λ i. bitOf (cellAt S i f) z * χ i))) ⌝ }
+    requires { ⌜ (e * (15 * chunk) + 15 * chunk ≤ length (now stacks)) × (e * (8 * chunk) + 8 * chunk ≤ length (now sides)) × ((e * 8 + 8) * count ≤ length (now words)) × (count ≤ 4) × (count * 256 * chunk ≤ length (now sums)) × (e * most + most ≤ length (now vectors)) × (first + 16 ≤ most) × (length (now mask) ≡ pair) × (e < lanes) × (polar ≡ false → (h f : ℕ) → h < 2 → f < chunk → byteAt (now mask) (h * chunk + f) ≡ 0) ⌝ }
+    ensures { λ _. ⌜ ((S : List ℕ) (χ : ℕ → ℕ) (m h f z : ℕ) → Weighed S χ m (now (sums .entry)) (now (words .entry)) count (e * 8) → h < 2 → f < 16 → stackOf 15 (now (stacks .exit)) e (h * 16 + f) z ≡ bitXor (stackOf 15 (now (stacks .entry)) e (h * 16 + f) z) (product (byteAt (now (vectors .entry)) (e * most + (first + f))) (xorSum m (λ i. bitOf (cellAt S i (h * 16 + f)) z * χ i)))) ⌝ }
+    ensures { λ _. ⌜ ((S : List ℕ) (χ : ℕ → ℕ) (m x f z : ℕ) → Weighed S χ m (now (sums .entry)) (now (words .entry)) count (e * 8) → x < 2 → ((h : ℕ) → h < 2 → byteAt (now (mask .entry)) (h * chunk + f) ≡ x * 255) → f < chunk → stackOf 8 (now (sides .exit)) e f z ≡ bitXor (stackOf 8 (now (sides .entry)) e f z) (x * xorSum m (λ i. bitOf (cellAt S i f) z * χ i))) ⌝ }
     ensures { λ _. ⌜ ((q b : ℕ) → (q ≡ e → ⊥) → b < 15 * chunk → byteAt (now (stacks .exit)) (q * (15 * chunk) + b) ≡ byteAt (now (stacks .entry)) (q * (15 * chunk) + b)) ⌝ }
     ensures { λ _. ⌜ ((q b : ℕ) → (q ≡ e → ⊥) → b < 8 * chunk → byteAt (now (sides .exit)) (q * (8 * chunk) + b) ≡ byteAt (now (sides .entry)) (q * (8 * chunk) + b)) ⌝ }
 {
@@ -166,9 +166,9 @@ fn absorb_lane(
     absorb(
         &mut stacks[at..at + STACK],
         &mut sides[beside..beside + SIDE],
-        offsets,
+        words,
         e * 8,
-        groups,
+        count,
         sums,
         &masks,
         mask,
@@ -181,17 +181,17 @@ fn absorb_lanes(
     stacks: &mut [u8],
     sides: &mut [u8],
     tau: usize,
-    offsets: &[u16],
-    groups: usize,
+    words: &[u64],
+    count: usize,
     sums: &[u8],
     vectors: &[u8],
     first: usize,
     mask: &[u8],
     polar: bool,
 )
-    requires { ⌜ (tau * (15 * chunk) ≤ length (now stacks)) × (tau * (8 * chunk) ≤ length (now sides)) × (tau * 8 * groups ≤ length (now offsets)) × ((k : ℕ) → k < tau * 8 * groups → byteAt (now offsets) k * 16 + chunk ≤ length (now sums)) × (tau * most ≤ length (now vectors)) × (first + 16 ≤ most) × (length (now mask) ≡ pair) × (tau ≤ lanes) × (polar ≡ false → (h f : ℕ) → h < 2 → f < chunk → byteAt (now mask) (h * chunk + f) ≡ 0) ⌝ }
-    ensures { λ _. ⌜ ((S : List ℕ) (χ : ℕ → ℕ → ℕ) (m e h f z : ℕ) → ((q : ℕ) → q < tau → Weighed S (χ q) m (now (sums .entry)) (now (offsets .entry)) groups (q * 8)) → e < tau → h < 2 → f < 16 → stackOf 15 (now (stacks .exit)) e (h * 16 + f) z ≡ bitXor (stackOf 15 (now (stacks .entry)) e (h * 16 + f) z) (product (byteAt (now (vectors .entry)) (e * most + (first + f))) (xorSum m (λ i. bitOf (cellAt S i (h * 16 + f)) z * χ e i)))) ⌝ }
-    ensures { λ _. ⌜ ((S : List ℕ) (χ : ℕ → ℕ → ℕ) (m x e f z : ℕ) → ((q : ℕ) → q < tau → Weighed S (χ q) m (now (sums .entry)) (now (offsets .entry)) groups (q * 8)) → x < 2 → ((h : ℕ) → h < 2 → byteAt (now (mask .entry)) (h * chunk + f) ≡ x * 255) → e < tau → f < chunk → stackOf 8 (now (sides .exit)) e f z ≡ bitXor (stackOf 8 (now (sides .entry)) e f z) (x * xorSum m (λ i. bitOf (cellAt S i f) z * χ e i))) ⌝ }
+    requires { ⌜ (tau * (15 * chunk) ≤ length (now stacks)) × (tau * (8 * chunk) ≤ length (now sides)) × (tau * 8 * count ≤ length (now words)) × (count ≤ 4) × (count * 256 * chunk ≤ length (now sums)) × (tau * most ≤ length (now vectors)) × (first + 16 ≤ most) × (length (now mask) ≡ pair) × (tau ≤ lanes) × (polar ≡ false → (h f : ℕ) → h < 2 → f < chunk → byteAt (now mask) (h * chunk + f) ≡ 0) ⌝ }
+    ensures { λ _. ⌜ ((S : List ℕ) (χ : ℕ → ℕ → ℕ) (m e h f z : ℕ) → ((q : ℕ) → q < tau → Weighed S (χ q) m (now (sums .entry)) (now (words .entry)) count (q * 8)) → e < tau → h < 2 → f < 16 → stackOf 15 (now (stacks .exit)) e (h * 16 + f) z ≡ bitXor (stackOf 15 (now (stacks .entry)) e (h * 16 + f) z) (product (byteAt (now (vectors .entry)) (e * most + (first + f))) (xorSum m (λ i. bitOf (cellAt S i (h * 16 + f)) z * χ e i)))) ⌝ }
+    ensures { λ _. ⌜ ((S : List ℕ) (χ : ℕ → ℕ → ℕ) (m x e f z : ℕ) → ((q : ℕ) → q < tau → Weighed S (χ q) m (now (sums .entry)) (now (words .entry)) count (q * 8)) → x < 2 → ((h : ℕ) → h < 2 → byteAt (now (mask .entry)) (h * chunk + f) ≡ x * 255) → e < tau → f < chunk → stackOf 8 (now (sides .exit)) e f z ≡ bitXor (stackOf 8 (now (sides .entry)) e f z) (x * xorSum m (λ i. bitOf (cellAt S i f) z * χ e i))) ⌝ }
 {
     let mut e = 0;
     while e < tau {
@@ -199,8 +199,8 @@ fn absorb_lanes(
             stacks,
             sides,
             e,
-            offsets,
-            groups,
+            words,
+            count,
             sums,
             vectors,
             first,
@@ -221,28 +221,28 @@ pub fn collect(
     panel: usize,
     m: usize,
     tau: usize,
-    offsets: &[u16],
-    groups: usize,
+    words: &[u64],
+    count: usize,
     vectors: &[u8],
     bits: &[u8],
     polar: bool,
 )
-    requires { ⌜ (tau * (15 * chunk) ≤ length (now stacks)) × (tau * (8 * chunk) ≤ length (now sides)) × (length (now sums) ≡ 32768) × ((panel + 1) * (m * chunk) ≤ length (now cells)) × (panel * 16 + 16 ≤ most) × (0 < m) × (m ≤ 160) × (0 < tau) × (tau ≤ lanes) × (groups ≡ (m + 9) / 10 * 2) × (tau * 8 * groups ≤ length (now offsets)) × ((k : ℕ) → k < tau * 8 * groups → byteAt (now offsets) k * 16 + chunk ≤ 32768) × (tau * most ≤ length (now vectors)) × (length (now bits) ≡ most) × (polar ≡ false → (c : ℕ) → c < most → byteAt (now bits) c ≡ 0) ⌝ }
-    ensures { λ _. ⌜ ((χ : List ℕ) (e h f z : ℕ) → ((k : ℕ) → byteAt χ k < 256) → ((r : ℕ) → r < tau * 8 → Chosen χ m groups (now (offsets .entry)) r) → e < tau → h < 2 → f < 16 → stackOf 15 (now (stacks .exit)) e (h * 16 + f) z ≡ bitXor (stackOf 15 (now (stacks .entry)) e (h * 16 + f) z) (xorSum (panel + 1) (λ q. product (byteAt (now (vectors .entry)) (e * most + (q * 16 + f))) (cellSum (now (cells .entry)) m χ e q (h * 16 + f) z)))) ⌝ }
-    ensures { λ _. ⌜ ((χ : List ℕ) (x : ℕ → ℕ) (e h f z : ℕ) → ((k : ℕ) → byteAt χ k < 256) → ((r : ℕ) → r < tau * 8 → Chosen χ m groups (now (offsets .entry)) r) → ((c : ℕ) → x c < 2) → ((c : ℕ) → c < most → byteAt (now (bits .entry)) c ≡ x c * 255) → e < tau → h < 2 → f < 16 → stackOf 8 (now (sides .exit)) e (h * 16 + f) z ≡ bitXor (stackOf 8 (now (sides .entry)) e (h * 16 + f) z) (xorSum (panel + 1) (λ q. x (q * 16 + f) * cellSum (now (cells .entry)) m χ e q (h * 16 + f) z))) ⌝ }
+    requires { ⌜ (tau * (15 * chunk) ≤ length (now stacks)) × (tau * (8 * chunk) ≤ length (now sides)) × (length (now sums) ≡ 32768) × ((panel + 1) * (m * chunk) ≤ length (now cells)) × (panel * 16 + 16 ≤ most) × (0 < m) × (m ≤ 160) × (0 < tau) × (tau ≤ lanes) × (count ≡ (m + 39) / 40) × (tau * 8 * count ≤ length (now words)) × (tau * most ≤ length (now vectors)) × (length (now bits) ≡ most) × (polar ≡ false → (c : ℕ) → c < most → byteAt (now bits) c ≡ 0) ⌝ }
+    ensures { λ _. ⌜ ((χ : List ℕ) (e h f z : ℕ) → ((k : ℕ) → byteAt χ k < 256) → ((r : ℕ) → r < tau * 8 → Chosen χ m count (now (words .entry)) r) → e < tau → h < 2 → f < 16 → stackOf 15 (now (stacks .exit)) e (h * 16 + f) z ≡ bitXor (stackOf 15 (now (stacks .entry)) e (h * 16 + f) z) (xorSum (panel + 1) (λ q. product (byteAt (now (vectors .entry)) (e * most + (q * 16 + f))) (cellSum (now (cells .entry)) m χ e q (h * 16 + f) z)))) ⌝ }
+    ensures { λ _. ⌜ ((χ : List ℕ) (x : ℕ → ℕ) (e h f z : ℕ) → ((k : ℕ) → byteAt χ k < 256) → ((r : ℕ) → r < tau * 8 → Chosen χ m count (now (words .entry)) r) → ((c : ℕ) → x c < 2) → ((c : ℕ) → c < most → byteAt (now (bits .entry)) c ≡ x c * 255) → e < tau → h < 2 → f < 16 → stackOf 8 (now (sides .exit)) e (h * 16 + f) z ≡ bitXor (stackOf 8 (now (sides .entry)) e (h * 16 + f) z) (xorSum (panel + 1) (λ q. x (q * 16 + f) * cellSum (now (cells .entry)) m χ e q (h * 16 + f) z))) ⌝ }
 {
     let mut q = 0;
     while q <= panel {
         let mut mask = [0u8; PAIR];
-        choices::sums::fill_sums(sums, groups, m, strings::row_at(cells, m * CHUNK, q));
+        choices::sums::fill_sums(sums, count * 8, m, strings::row_at(cells, m * CHUNK, q));
         choices::sums::add_first(stacks, sums);
         spread_twice(&mut mask, bits, q * ROWS);
         absorb_lanes(
             stacks,
             sides,
             tau,
-            offsets,
-            groups,
+            words,
+            count,
             sums,
             vectors,
             q * ROWS,

@@ -81,9 +81,3 @@ both-all f l done g h = go (decLt g 16)
         let at : g ≡ 16 + (g - 16) = omega arith in
         let e : 1 * 16 + (g - 16) ≡ g = omega arith in
         ap (byteAt l) at ∙ done (g - 16) (omega arith) .1 ∙ ap f e
-
--- ---- offsets
-
--- what stands at place g of a row, whatever stood there, when its numbers stand from `at` on
-abbrev pub offset : List ℕ → ℕ → ℕ → ℕ → ℕ
-offset picks at g x = (g * 32 + byteAt picks (at + g)) * 2

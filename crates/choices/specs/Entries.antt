@@ -3,13 +3,16 @@
 --   Tabled S sums count == sums holds the first count entries, one after the other
 --   choice χ p g == the number that bit p of each of the bytes χ(5·g), .., χ(5·g + 4) writes, the first lowest
 --   inRows R i == byte i of two sixteens of fives, which R holds in eight rows each: row z has byte z of each five
---   Chosen χ m G O r == row r of O is G offsets: offset g is that of the entry, among the 32 of the rows 5·g, .., 5·g + 4, which
---     bit r mod 8 of the m bytes χ of repetition ⌊r/8⌋ chooses; offsets count sixteen bytes, of which an entry has two
---   Weighed S χ m sums O G r == sums is the table of the m rows S, and the eight rows of O from r on are the offsets which the bits of χ choose
+--   five w j == five j of the word w: the number that its bits 5·j, .., 5·j + 4 write
+--   wordOf P at == the word of the eight fives that P has from at on
+--   eightByte sums k w f == byte f of the sum of the entries that the eight fives of w choose, in the tables of the groups 8·k, .., 8·k + 7
+--   Chosen χ m G W r == row r of W is G words: five j of word k is the number of the entry, among the 32 of the rows 5·g, .., 5·g + 4 where g = 8·k + j,
+--     which bit r mod 8 of the m bytes χ of repetition ⌊r/8⌋ chooses
+--   Weighed S χ m sums W G r == sums is the table of the m rows S, and the eight rows of W from r on are the words which the bits of χ choose
 -- Assumes nothing.
 use mathlib.Core.Path.{_≡_}
 use mathlib.Core.List.{List}
-use Prim.Native.Nat.{ℕ, _+_, _*_, _/_, _%_, _≤_, _<_}
+use Prim.Native.Nat.{ℕ, _+_, _*_, _/_, _%_, _^_, _≤_, _<_}
 use lib.ListN.{length}
 use Rattle.protocol.specs.Lists.{blockAt}
 use Rattle.strings.specs.Sums.{byteAt, bitOf, xorSum}
@@ -27,8 +30,18 @@ choice χ p g = bitOf (χ (g * 5)) p + bitOf (χ (g * 5 + 1)) p * 2 + bitOf (χ 
 abbrev pub inRows : List ℕ → ℕ → ℕ
 inRows R i = byteAt R (i / 80 * 128 + (i % 5 * 16 + i / 5 % 16))
 
+unfoldable pub five : ℕ → ℕ → ℕ
+five w j = w / 2 ^ (5 * j) % 32
+
+abbrev pub wordOf : List ℕ → ℕ → ℕ
+wordOf P at =
+    byteAt P at + byteAt P (at + 1) * 32 + byteAt P (at + 2) * 1024 + byteAt P (at + 3) * 32768 + (byteAt P (at + 4) + byteAt P (at + 5) * 32 + byteAt P (at + 6) * 1024 + byteAt P (at + 7) * 32768) * 1048576
+
+abbrev pub eightByte : List ℕ → ℕ → ℕ → ℕ → ℕ
+eightByte sums k w f = xorSum 8 (λ j. cellAt sums ((k * 8 + j) * 32 + five w j) f)
+
 abbrev pub Chosen : List ℕ → ℕ → ℕ → List ℕ → ℕ → Type 0
-Chosen χ m G O r = (g : ℕ) → g < G → byteAt O (r * G + g) ≡ (g * 32 + choice (byteAt (blockAt χ m (r / 8))) (r % 8) g) * 2
+Chosen χ m G W r = (k j : ℕ) → k < G → j < 8 → five (byteAt W (r * G + k)) j ≡ choice (byteAt (blockAt χ m (r / 8))) (r % 8) (k * 8 + j)
 
 abbrev pub Weighed : List ℕ → (ℕ → ℕ) → ℕ → List ℕ → List ℕ → ℕ → ℕ → Type 0
-Weighed S χ m sums O G r = Tabled S sums (G * 32) × (length S ≡ m * chunk) × (m ≤ G * 5) × ((i : ℕ) → i < m → χ i < 256) × ((p g : ℕ) → p < 8 → g < G → byteAt O ((r + p) * G + g) ≡ (g * 32 + choice χ p g) * 2)
+Weighed S χ m sums W G r = Tabled S sums (G * 8 * 32) × (length S ≡ m * chunk) × (m ≤ G * 8 * 5) × ((i : ℕ) → i < m → χ i < 256) × ((p k j : ℕ) → p < 8 → k < G → j < 8 → five (byteAt W ((r + p) * G + k)) j ≡ choice χ p (k * 8 + j))

@@ -6,20 +6,11 @@ ghost use lib.ListN.{length};
 ghost use lib.Bits.{bitXor};
 ghost use Rattle.strings.specs.Sums.{byteAt, xorSum};
 ghost use Rattle.chunks.specs.Chunks.{chunk, pair, cellAt};
-ghost use Rattle.choices.specs.Entries.{entryByte, Tabled};
+ghost use Rattle.choices.specs.Entries.{entryByte, Tabled, five, eightByte};
 use chunks::CHUNK;
 
 // The entries of the table of sums for five rows, one for each value of five bits.
 const ENTRIES: usize = 32;
-
-// The bytes that offsets count.
-pub const UNIT: usize = 16;
-
-fn wide(x: u16) -> usize
-    ensures { λ r. ⌜ r ≡ x ⌝ }
-{
-    x as usize
-}
 
 // dst[f] ^= s[at + f], for a chunk. The count is a constant, so that a caller's local array stays in registers.
 fn add_at(dst: &mut [u8; CHUNK], s: &[u8], at: usize)
@@ -110,20 +101,49 @@ pub fn fill_sums(sums: &mut [u8], groups: usize, n: usize, table: &[u8])
     }
 }
 
-// Chunk 0 of out is the sum of the entries that stand at the offsets, and chunk 1 of those at the offsets `next`: both in one loop, so that
-// neither waits for the other.
-pub fn look_up_two(out: &mut [u8], offsets: &[u16], next: &[u16], sums: &[u8])
-    requires { ⌜ (length (now out) ≡ pair) × (length (now next) ≡ length (now offsets)) × ((g : ℕ) → g < length (now offsets) → byteAt (now offsets) g * 16 + chunk ≤ length (now sums)) × ((g : ℕ) → g < length (now offsets) → byteAt (now next) g * 16 + chunk ≤ length (now sums)) ⌝ }
-    ensures { λ _. ⌜ ((f : ℕ) → f < chunk → cellAt (now (out .exit)) 0 f ≡ xorSum (length (now (offsets .entry))) (λ g. byteAt (now (sums .entry)) (byteAt (now (offsets .entry)) g * 16 + f))) ⌝ }
-    ensures { λ _. ⌜ ((f : ℕ) → f < chunk → cellAt (now (out .exit)) 1 f ≡ xorSum (length (now (offsets .entry))) (λ g. byteAt (now (sums .entry)) (byteAt (now (next .entry)) g * 16 + f))) ⌝ }
+// Where the entry stands that five j of a word chooses among the 32 of group g.
+fn place_of(w: u64, g: usize, j: usize) -> usize
+    requires { ⌜ (j < 8) × (g < 32) ⌝ }
+    ensures { λ r. ⌜ (r ≡ (g * 32 + five w j) * chunk) × (five w j < 32) ⌝ }
+{
+    (g * ENTRIES + ((w >> (5 * j)) % 32) as usize) * CHUNK
+}
+
+// Adds the entries that word k chooses, w for the first and x for the second: side by side, so that neither waits for the other.
+fn add_eight(
+    first: &mut [u8; CHUNK],
+    second: &mut [u8; CHUNK],
+    w: u64,
+    x: u64,
+    sums: &[u8],
+    k: usize,
+)
+    requires { ⌜ (length (now first) ≡ chunk) × (length (now second) ≡ chunk) × (k < 4) × ((k + 1) * 256 * chunk ≤ length (now sums)) ⌝ }
+    ensures { λ _. ⌜ (length (now (first .exit)) ≡ chunk) × (length (now (second .exit)) ≡ chunk) ⌝ }
+    ensures { λ _. ⌜ ((f : ℕ) → f < chunk → byteAt (now (first .exit)) f ≡ bitXor (byteAt (now (first .entry)) f) (eightByte (now (sums .entry)) k w f)) ⌝ }
+    ensures { λ _. ⌜ ((f : ℕ) → f < chunk → byteAt (now (second .exit)) f ≡ bitXor (byteAt (now (second .entry)) f) (eightByte (now (sums .entry)) k x f)) ⌝ }
+{
+    let mut j = 0;
+    while j < 8 {
+        let g = k * 8 + j;
+        add_at(first, sums, place_of(w, g, j));
+        add_at(second, sums, place_of(x, g, j));
+        j += 1;
+    }
+}
+
+// Chunk 0 of out is the sum of the entries that the words choose, and chunk 1 of those that the words `next` choose.
+pub fn look_up_two(out: &mut [u8], words: &[u64], next: &[u64], sums: &[u8])
+    requires { ⌜ (length (now out) ≡ pair) × (length (now next) ≡ length (now words)) × (length (now words) ≤ 4) × (length (now words) * 256 * chunk ≤ length (now sums)) ⌝ }
+    ensures { λ _. ⌜ ((f : ℕ) → f < chunk → cellAt (now (out .exit)) 0 f ≡ xorSum (length (now (words .entry))) (λ k. eightByte (now (sums .entry)) k (byteAt (now (words .entry)) k) f)) ⌝ }
+    ensures { λ _. ⌜ ((f : ℕ) → f < chunk → cellAt (now (out .exit)) 1 f ≡ xorSum (length (now (words .entry))) (λ k. eightByte (now (sums .entry)) k (byteAt (now (next .entry)) k) f)) ⌝ }
 {
     let mut first = [0u8; CHUNK];
     let mut second = [0u8; CHUNK];
-    let mut g = 0;
-    while g < offsets.len() {
-        add_at(&mut first, sums, wide(offsets[g]) * UNIT);
-        add_at(&mut second, sums, wide(next[g]) * UNIT);
-        g += 1;
+    let mut k = 0;
+    while k < words.len() {
+        add_eight(&mut first, &mut second, words[k], next[k], sums, k);
+        k += 1;
     }
     store(out, 0, &first);
     store(out, 1, &second);

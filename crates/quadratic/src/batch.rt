@@ -17,8 +17,8 @@ use super::EQUATIONS;
 use equations::VARIABLES;
 use lanes::LANES;
 
-// The offsets that as many batching bytes as a key may have choose.
-const OFFSETS: usize = 8 * LANES * (EQUATIONS / 5);
+// The words of the choices of as many batching bytes as a key may have, forty equations to a word.
+const WORDS: usize = 8 * LANES * (EQUATIONS / 40);
 
 // The batched forms of a key, added to what stands there: fᵀ·A·f to quad, and xᵀ·A·f + (A·x)ᵀ·f + b·f to lin, where f is the vector of
 // repetition e, which the table holds. The bits of x are lent one to a byte, 0 from n on. Where `polar` is
@@ -40,10 +40,10 @@ pub fn batch_forms(
     ensures { λ _. ⌜ ((e : ℕ) → e < tau → byteAt (now (quad .exit)) e ≡ bitXor (byteAt (now (quad .entry)) e) (batchByte m (now (chi .entry)) e (λ i. formByte n (matrixOf n (now (a .entry)) i) (now (table .entry)) e))) ⌝ }
     ensures { λ _. ⌜ ((e : ℕ) → e < tau → byteAt (now (lin .exit)) e ≡ bitXor (byteAt (now (lin .entry)) e) (batchByte m (now (chi .entry)) e (λ i. middleByte n (matrixOf n (now (a .entry)) i) (rowOf n (now (b .entry)) i) (byteAt (now (xs .entry))) (now (table .entry)) e))) ⌝ }
 {
-    let groups = (m + 9) / 10 * 2;
+    let count = (m + 39) / 40;
     let width = (n + 7) / 8;
-    let mut offsets = [0u16; OFFSETS];
-    choices::offsets::fill_offsets(&mut offsets, chi, m, groups, tau);
+    let mut words = [0u64; WORDS];
+    choices::fives::fill_words(&mut words, chi, m, count, tau);
     batching::forms::add_forms(
         quad,
         lin,
@@ -52,8 +52,8 @@ pub fn batch_forms(
         width,
         m,
         tau,
-        &offsets,
-        groups,
+        &words,
+        count,
         table,
         xs,
         polar,

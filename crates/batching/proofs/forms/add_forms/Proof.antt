@@ -27,10 +27,10 @@ abbrev polar : ℕ → ℕ → ℕ → List ℕ → List ℕ → List ℕ → Li
 polar n w m A T xs χ e J = xorSum 16 (λ s. bitXor (product (laneAt T (J * 16 + s) e) (leftSum w (n * w) m A χ e (byteAt xs) J (J * 16 + s))) (product (byteAt xs (J * 16 + s)) (leftSum w (n * w) m A χ e (λ ρ. laneAt T ρ e) J (J * 16 + s))))
 
 abbrev Inv-loop : tie.InvT-loop
-Inv-loop quad₀ mid₀ a n width m tau offsets groups table xs asked cells₀ sums₀ vectors bits panel₀ quad mid cells sums panel = (panel * 16 < n + 16) × (length quad ≡ lanes) × (length mid ≡ lanes) × (length cells ≡ 51200) × (length sums ≡ 32768) × ((e c : ℕ) → e < tau → c < most → byteAt vectors (e * most + c) ≡ laneAt table c e) × ((c : ℕ) → c < most → byteAt bits c ≡ byteAt xs c * 255) × ((χ : List ℕ) (e : ℕ) → ((k : ℕ) → byteAt χ k < 256) → ((r : ℕ) → r < tau * 8 → Chosen χ m groups offsets r) → e < tau → byteAt quad e ≡ bitXor (byteAt quad₀ e) (xorSum panel (term n width m a table χ e))) × ((χ : List ℕ) (e : ℕ) → ((k : ℕ) → byteAt χ k < 256) → ((r : ℕ) → r < tau * 8 → Chosen χ m groups offsets r) → e < tau → byteAt mid e ≡ bitXor (byteAt mid₀ e) (xorSum panel (polar n width m a table xs χ e))) × (length vectors ≡ 7680) × (length bits ≡ most)
+Inv-loop quad₀ mid₀ a n width m tau words count table xs asked cells₀ sums₀ vectors bits panel₀ quad mid cells sums panel = (panel * 16 < n + 16) × (length quad ≡ lanes) × (length mid ≡ lanes) × (length cells ≡ 51200) × (length sums ≡ 32768) × ((e c : ℕ) → e < tau → c < most → byteAt vectors (e * most + c) ≡ laneAt table c e) × ((c : ℕ) → c < most → byteAt bits c ≡ byteAt xs c * 255) × ((χ : List ℕ) (e : ℕ) → ((k : ℕ) → byteAt χ k < 256) → ((r : ℕ) → r < tau * 8 → Chosen χ m count words r) → e < tau → byteAt quad e ≡ bitXor (byteAt quad₀ e) (xorSum panel (term n width m a table χ e))) × ((χ : List ℕ) (e : ℕ) → ((k : ℕ) → byteAt χ k < 256) → ((r : ℕ) → r < tau * 8 → Chosen χ m count words r) → e < tau → byteAt mid e ≡ bitXor (byteAt mid₀ e) (xorSum panel (polar n width m a table xs χ e))) × (length vectors ≡ 7680) × (length bits ≡ most)
 
 abbrev μ-loop : tie.MeasureT-loop
-μ-loop quad₀ mid₀ a n width m tau offsets groups table xs asked cells₀ sums₀ vectors bits panel₀ quad mid cells sums panel = n + 16 - panel * 16
+μ-loop quad₀ mid₀ a n width m tau words count table xs asked cells₀ sums₀ vectors bits panel₀ quad mid cells sums panel = n + 16 - panel * 16
 
 slice-aggregate-fill-vectors : tie.Need-slice-aggregate-fill-vectors Inv-loop μ-loop
 slice-aggregate-fill-vectors c = search needs
@@ -38,7 +38,7 @@ slice-aggregate-fill-vectors c = search needs
 fill-vectors-requires : tie.Need-fill-vectors-requires Inv-loop μ-loop
 fill-vectors-requires c κs =
     let pre = c .before .before .before .before .before .before .before .pre in
-    (pre .12, pre .8, omega (arith, pre .8))
+    (pre .11, pre .8, omega (arith, pre .8))
 
 slice-aggregate-widen : tie.Need-slice-aggregate-widen Inv-loop μ-loop
 slice-aggregate-widen c = search needs
@@ -46,7 +46,7 @@ slice-aggregate-widen c = search needs
 widen-requires : tie.Need-widen-requires Inv-loop μ-loop
 widen-requires c κs =
     let pre = c .before .before .before .before .before .before .before .before .before .before .pre in
-    (omega (arith, pre .13), pre .14)
+    (omega (arith, pre .12), pre .13)
 
 loop-holds : tie.Need-loop-holds Inv-loop μ-loop
 unfolding xorSum
@@ -75,7 +75,7 @@ add-panel-requires : tie.Need-add-panel-requires Inv-loop μ-loop
 add-panel-requires c κs =
     let pre = c .before .before .before .before .before .before .before .before .before .before .before .before .before .before .before .before .before .before .before .before .pre in
     let l = c .before .before .before .before .before .before .before .loop in
-    ((l .inv .1, l .inv .2, l .inv .3, l .inv .4, pre .2, pre .3, pre .4, pre .5, pre .6, pre .7, pre .8, pre .9, pre .10, pre .11, pre .12, c .before .before .before .before .before .before .loop-test .taken), (omega (arith, pre .8, l .inv .9), l .inv .10, pre .13, pre .14, pre .15, l .inv .5, l .inv .6, pre .16))
+    ((l .inv .1, l .inv .2, l .inv .3, l .inv .4, pre .2, pre .3, pre .4, pre .5, pre .6, pre .7, pre .8, pre .9, pre .10, pre .11, c .before .before .before .before .before .before .loop-test .taken), (omega (arith, pre .8, l .inv .9), l .inv .10, pre .12, pre .13, pre .14, l .inv .5, l .inv .6, pre .15))
 
 add-panel : tie.Need-add-panel Inv-loop μ-loop
 add-panel c = search needs
@@ -113,9 +113,9 @@ returns c =
     let pre = c .before .before .before .before .before .before .before .before .before .before .before .before .before .before .pre in
     let l = c .before .loop in
     let enough : a .n ≤ l .panel * 16 = omega arith in
-    let gone : (e k : ℕ) → a .n ≤ k → laneAt (now (a .table)) k e ≡ 0 = λ e k h. lane-past (now (a .table)) (a .n) k e (pre .12) h in (
+    let gone : (e k : ℕ) → a .n ≤ k → laneAt (now (a .table)) k e ≡ 0 = λ e k h. lane-past (now (a .table)) (a .n) k e (pre .11) h in (
       (λ χ e small chosen he. l .inv .7 χ e small chosen he ∙ ap (bitXor (byteAt (now (a .quad)) e)) (form-is (l .panel) (a .n) (a .width) (a .m) (now (a .a)) χ e enough (λ k. laneAt (now (a .table)) k e) (gone e))),
-      (λ χ e small chosen he. l .inv .8 χ e small chosen he ∙ ap (bitXor (byteAt (now (a .mid)) e)) (polar-is (l .panel) (a .n) (a .width) (a .m) (now (a .a)) χ e enough (λ k. laneAt (now (a .table)) k e) (gone e) (byteAt (now (a .xs))) (pre .15))),
+      (λ χ e small chosen he. l .inv .8 χ e small chosen he ∙ ap (bitXor (byteAt (now (a .mid)) e)) (polar-is (l .panel) (a .n) (a .width) (a .m) (now (a .a)) χ e enough (λ k. laneAt (now (a .table)) k e) (gone e) (byteAt (now (a .xs))) (pre .14))),
     )
 
 pub add-forms-spec : {M : Type 1} → statement M

@@ -37,7 +37,7 @@ load-panel-requires : tie.Need-load-panel-requires
 load-panel-requires c κs =
     let a = c .before .before .before .before .before .before .before .before .before .before .before .args in
     let pre = c .before .before .before .before .before .before .before .before .before .before .before .pre .0 in
-    (pre .5, pre .6, pre .8, pre .15, pre .4, rw (mul-assoc (a .panel + 1) (a .m) chunk) (fit (a .panel) (a .n) (a .m) (length (now (a .cells))) (pre .15) (pre .6) (pre .8) (pre .2)))
+    (pre .5, pre .6, pre .8, pre .14, pre .4, rw (mul-assoc (a .panel + 1) (a .m) chunk) (fit (a .panel) (a .n) (a .m) (length (now (a .cells))) (pre .14) (pre .6) (pre .8) (pre .2)))
 
 slice-aggregate-collect : tie.Need-slice-aggregate-collect
 slice-aggregate-collect c = search needs
@@ -51,7 +51,7 @@ collect-requires c κs =
     let pre = c .before .before .before .before .before .before .before .before .before .before .before .before .before .before .before .before .before .before .pre .0 in
     let more = c .before .before .before .before .before .before .before .before .before .before .before .before .before .before .before .before .before .before .pre .1 in
     let loaded = c .before .before .before .before .before .before .load-panel in
-    (omega (arith, pre .10), omega (arith, pre .10), pre .3, omega (arith, loaded .kept .0, fit (a .panel) (a .n) (a .m) (length (now (a .cells))) (pre .15) (pre .6) (pre .8) (pre .2)), omega (arith, pre .15, pre .6), pre .7, pre .8, pre .9, pre .10, pre .11, pre .12, pre .13, more .0, more .1, λ off k hk. more .6 k hk ∙ ap (λ x. x * 255) (more .7 off k))
+    (omega (arith, pre .10), omega (arith, pre .10), pre .3, omega (arith, loaded .kept .0, fit (a .panel) (a .n) (a .m) (length (now (a .cells))) (pre .14) (pre .6) (pre .8) (pre .2)), omega (arith, pre .14, pre .6), pre .7, pre .8, pre .9, pre .10, pre .11, pre .12, more .0, more .1, λ off k hk. more .6 k hk ∙ ap (λ x. x * 255) (more .7 off k))
 
 slice-aggregate-finish : tie.Need-slice-aggregate-finish
 slice-aggregate-finish c = search needs
@@ -64,7 +64,7 @@ finish-requires c κs =
     let pre = c .before .before .before .before .before .before .before .before .before .before .before .before .before .before .before .before .before .before .before .before .before .before .before .before .before .before .before .pre .0 in
     let more = c .before .before .before .before .before .before .before .before .before .before .before .before .before .before .before .before .before .before .before .before .before .before .before .before .before .before .before .pre .1 in
     let collected = c .before .before .before .before .before .before .before .before .collect in
-    (pre .0, pre .1, pre .10, omega (arith, pre .10, collected .kept .0), omega (arith, pre .10, collected .kept .1 .0), pre .14, omega (arith, pre .15, pre .6, more .2), more .3, pre .6)
+    (pre .0, pre .1, pre .10, omega (arith, pre .10, collected .kept .0), omega (arith, pre .10, collected .kept .1 .0), pre .13, omega (arith, pre .14, pre .6, more .2), more .3, pre .6)
 
 same-length : tie.Need-same-length
 same-length c = search needs
@@ -91,8 +91,8 @@ returns c =
     let J = a .panel in
     let cells = loaded .last .0 in
     let size = a .n * a .width in
-    let gone : (e ρ : ℕ) → a .n ≤ ρ → laneAt T ρ e ≡ 0 = λ e ρ h. lane-past T (a .n) ρ e (pre .14) h in
-    let column : (χ : List ℕ) (e s : ℕ) → ((k : ℕ) → byteAt χ k < 256) → ((r : ℕ) → r < a .tau * 8 → Chosen χ (a .m) (a .groups) (now (a .offsets)) r) → e < a .tau → s < 16 → J * 16 + s < a .n
+    let gone : (e ρ : ℕ) → a .n ≤ ρ → laneAt T ρ e ≡ 0 = λ e ρ h. lane-past T (a .n) ρ e (pre .13) h in
+    let column : (χ : List ℕ) (e s : ℕ) → ((k : ℕ) → byteAt χ k < 256) → ((r : ℕ) → r < a .tau * 8 → Chosen χ (a .m) (a .count) (now (a .words)) r) → e < a .tau → s < 16 → J * 16 + s < a .n
     → foldOf 15 (collected .last .0) e (s / 8) (s % 8) ≡ leftSum (a .width) size (a .m) (now (a .a)) χ e (λ ρ. laneAt T ρ e) J (J * 16 + s) =
     λ χ e s small chosen he hs col.
     fold-is (a .n) (a .width) (a .m) (now (a .a)) χ cells e J (loaded .ensures) (λ ρ. laneAt T ρ e) (gone e) 15 (collected .last .0) s hs col
@@ -100,8 +100,8 @@ returns c =
     collected .ensures .0 χ e (s / 8) f (s % 8) small chosen he (omega arith) hf
     ∙ ap (λ (x : ℕ). bitXor x (xorSum (J + 1) (λ q. product (byteAt (now (a .vectors)) (e * most + (q * 16 + f))) (cellSum cells (a .m) χ e q (s / 8 * 16 + f) (s % 8))))) (stack-none 15 (replicate 23040 0) e (s / 8 * 16 + f) (s % 8) (zeros 23040))
     ∙ xor-zero-l _
-    ∙ sum-same (J + 1) _ _ (λ q hq. ap (λ (x : ℕ). product x (cellSum cells (a .m) χ e q (s / 8 * 16 + f) (s % 8))) (more .5 e (q * 16 + f) he (omega (arith, pre .15, pre .6))))) in
-    let beside : (χ : List ℕ) (e s : ℕ) → ((k : ℕ) → byteAt χ k < 256) → ((r : ℕ) → r < a .tau * 8 → Chosen χ (a .m) (a .groups) (now (a .offsets)) r) → e < a .tau → s < 16 → J * 16 + s < a .n
+    ∙ sum-same (J + 1) _ _ (λ q hq. ap (λ (x : ℕ). product x (cellSum cells (a .m) χ e q (s / 8 * 16 + f) (s % 8))) (more .5 e (q * 16 + f) he (omega (arith, pre .14, pre .6))))) in
+    let beside : (χ : List ℕ) (e s : ℕ) → ((k : ℕ) → byteAt χ k < 256) → ((r : ℕ) → r < a .tau * 8 → Chosen χ (a .m) (a .count) (now (a .words)) r) → e < a .tau → s < 16 → J * 16 + s < a .n
     → foldOf 8 (collected .last .1 .0) e (s / 8) (s % 8) ≡ leftSum (a .width) size (a .m) (now (a .a)) χ e (byteAt xs) J (J * 16 + s) =
     λ χ e s small chosen he hs col.
     fold-is (a .n) (a .width) (a .m) (now (a .a)) χ cells e J (loaded .ensures) (byteAt xs) (more .4) 8 (collected .last .1 .0) s hs col

@@ -15,7 +15,7 @@ use Rattle.strings.proofs.Rows.{row-end, row-byte}
 use Rattle.strings.proofs.SumLaws.{sum-same, sum-step}
 use Rattle.strings.proofs.Meaning.{bitOf-lt, bitOf-sum, bit-times}
 use Rattle.chunks.specs.Chunks.{chunk, cellAt, Masks}
-use Rattle.choices.specs.Entries.{Weighed}
+use Rattle.choices.specs.Entries.{eightByte, Weighed}
 use Rattle.choices.proofs.ChoiceLaws.{chosen-sum}
 use Rattle.columns.specs.Stacks.{alpha, product, stackAt}
 use Rattle.batching.proofs.StackLaws.{planes-added, side-sum}
@@ -36,14 +36,14 @@ all-terms S v χ m f z small =
 abbrev aside : List ℕ → (ℕ → ℕ) → ℕ → ℕ → ℕ → ℕ → ℕ → ℕ
 aside S χ m x f z p = x * (bitOf (xorSum m (λ i. bitOf (χ i) p * cellAt S i f)) z * alpha p)
 
--- what a row of offsets looks up, where it is row r of them all
-looked-sum : (S sums offsets row : List ℕ) (χ : ℕ → ℕ) (m n groups base p r f : ℕ) → Weighed S χ m sums offsets groups base → p < 8 → f < chunk → r ≡ base + p → row ≡ blockAt offsets groups r → n ≡ groups
-    → xorSum n (λ g. byteAt sums (byteAt row g * 16 + f)) ≡ xorSum m (λ i. bitOf (χ i) p * cellAt S i f)
-looked-sum S sums offsets row χ m n groups base p r f weighed hp h at is count =
-    ap (λ k. xorSum k (λ g. byteAt sums (byteAt row g * 16 + f))) count
-    ∙ sum-same groups _ (λ g. byteAt sums (byteAt offsets ((base + p) * groups + g) * 16 + f))
-    (λ g k. ap (λ x. byteAt sums (x * 16 + f)) (ap (λ l. byteAt l g) is ∙ row-byte offsets groups r g k ∙ ap (λ j. byteAt offsets (j * groups + g)) at))
-    ∙ chosen-sum S χ m sums offsets groups base p f weighed hp h
+-- what a row of words looks up, where it is row r of them all
+looked-sum : (S sums words row : List ℕ) (χ : ℕ → ℕ) (m n count base p r f : ℕ) → Weighed S χ m sums words count base → p < 8 → f < chunk → r ≡ base + p → row ≡ blockAt words count r → n ≡ count
+    → xorSum n (λ k. eightByte sums k (byteAt row k) f) ≡ xorSum m (λ i. bitOf (χ i) p * cellAt S i f)
+looked-sum S sums words row χ m n count base p r f weighed hp h at is long =
+    ap (λ l. xorSum l (λ k. eightByte sums k (byteAt row k) f)) long
+    ∙ sum-same count _ (λ k. eightByte sums k (byteAt words ((base + p) * count + k)) f)
+    (λ k l. ap (λ w. eightByte sums k w f) (ap (λ s. byteAt s k) is ∙ row-byte words count r k l ∙ ap (λ j. byteAt words (j * count + k)) at))
+    ∙ chosen-sum S χ m sums words count base p f weighed hp h
 
 -- two more terms
 step-two : (a s k : ℕ) (f : ℕ → ℕ) → s ≡ bitXor a (xorSum (2 * k) f) → bitXor s (bitXor (f (2 * k)) (f (2 * k + 1))) ≡ bitXor a (xorSum (2 * (k + 1)) f)
@@ -52,10 +52,10 @@ step-two a s k f h =
     sym (xor-assoc s (f (2 * k)) (f (2 * k + 1))) ∙ ap (λ x. bitXor x (f (2 * k + 1))) (sum-step a s (2 * k) f h) ∙ sum-step a _ (2 * k + 1) f refl ∙ ap (λ n. bitXor a (xorSum n f)) e
 
 abbrev Inv-loop : tie.InvT-loop
-Inv-loop t₀ side₀ offsets base groups sums masks mask polar k₀ t side k = (k ≤ 4) × (length t ≡ 15 * chunk) × (length side ≡ 8 * chunk) × ((S : List ℕ) (χ : ℕ → ℕ) (m x f z : ℕ) → Weighed S χ m sums offsets groups base → x < 2 → ((h : ℕ) → h < 2 → byteAt mask (h * chunk + f) ≡ x * 255) → f < chunk → stackAt 8 side f z ≡ bitXor (stackAt 8 side₀ f z) (xorSum (2 * k) (aside S χ m x f z))) × ((S v : List ℕ) (χ : ℕ → ℕ) (m f z : ℕ) → Weighed S χ m sums offsets groups base → Masks v masks → byteAt v f < 256 → f < chunk → stackAt 15 t f z ≡ bitXor (stackAt 15 t₀ f z) (xorSum (2 * k) (term S v χ m f z)))
+Inv-loop t₀ side₀ words base count sums masks mask polar k₀ t side k = (k ≤ 4) × (length t ≡ 15 * chunk) × (length side ≡ 8 * chunk) × ((S : List ℕ) (χ : ℕ → ℕ) (m x f z : ℕ) → Weighed S χ m sums words count base → x < 2 → ((h : ℕ) → h < 2 → byteAt mask (h * chunk + f) ≡ x * 255) → f < chunk → stackAt 8 side f z ≡ bitXor (stackAt 8 side₀ f z) (xorSum (2 * k) (aside S χ m x f z))) × ((S v : List ℕ) (χ : ℕ → ℕ) (m f z : ℕ) → Weighed S χ m sums words count base → Masks v masks → byteAt v f < 256 → f < chunk → stackAt 15 t f z ≡ bitXor (stackAt 15 t₀ f z) (xorSum (2 * k) (term S v χ m f z)))
 
 abbrev μ-loop : tie.MeasureT-loop
-μ-loop t₀ side₀ offsets base groups sums masks mask polar k₀ t side k = 4 - k
+μ-loop t₀ side₀ words base count sums masks mask polar k₀ t side k = 4 - k
 
 loop-holds : tie.Need-loop-holds Inv-loop μ-loop
 unfolding xorSum
@@ -75,7 +75,7 @@ row-at-requires : tie.Need-row-at-requires Inv-loop μ-loop
 row-at-requires c κs =
     let a = c .before .before .before .before .before .before .before .before .before .args in
     let k = c .before .before .loop .k in
-    omega (arith, row-end (a .base + 2 * k) (a .base + 8) (a .groups) (omega (arith, c .before .loop-test .taken)))
+    omega (arith, row-end (a .base + 2 * k) (a .base + 8) (a .count) (omega (arith, c .before .loop-test .taken)))
 
 mul-row-at-2 : tie.Need-mul-row-at-2 Inv-loop μ-loop
 mul-row-at-2 c = search needs
@@ -90,30 +90,13 @@ row-at-requires-2 : tie.Need-row-at-requires-2 Inv-loop μ-loop
 row-at-requires-2 c κs =
     let a = c .before .before .before .before .before .before .before .before .before .before .args in
     let k = c .before .before .before .loop .k in
-    omega (arith, row-end (a .base + 2 * k + 1) (a .base + 8) (a .groups) (omega (arith, c .before .before .loop-test .taken)))
+    omega (arith, row-end (a .base + 2 * k + 1) (a .base + 8) (a .count) (omega (arith, c .before .before .loop-test .taken)))
 
 look-up-two-requires : tie.Need-look-up-two-requires Inv-loop μ-loop
 look-up-two-requires c κs =
-    let a = c .before .before .before .before .before .before .before .before .before .before .before .args in
     let pre = c .before .before .before .before .before .before .before .before .before .before .before .pre in
-    let lt = c .before .before .before .loop-test .taken in
-    let r : ℕ = a .base + 2 * c .before .before .before .before .loop .k in
     let first = c .before .row-at in
-    let second = c .row-at2 in
-    let groups = a .groups in
-    let O = now (a .offsets) in
-    let fits : (i g : ℕ) → i < a .base + 8 → g < groups → byteAt O (i * groups + g) * 16 + chunk ≤ length (now (a .sums)) = λ i g hi hg. pre .3 (i * groups + g) (omega (arith, hg, row-end i (a .base + 8) groups hi)) in (
-      refl,
-      second .ensures .1 ∙ sym (first .ensures .1),
-      (λ g h.
-          let inside : g < groups = omega (arith, h, first .ensures .1) in
-          let is : byteAt (now (first .result)) g ≡ byteAt O (r * groups + g) = ap (λ (x : List ℕ). byteAt x g) (first .ensures .0) ∙ row-byte O groups r g inside in
-          rw is (fits r g (omega (arith, lt)) inside)),
-      (λ g h.
-          let inside : g < groups = omega (arith, h, first .ensures .1) in
-          let is : byteAt (now (second .result)) g ≡ byteAt O ((r + 1) * groups + g) = ap (λ (x : List ℕ). byteAt x g) (second .ensures .0) ∙ row-byte O groups (r + 1) g inside in
-          rw is (fits (r + 1) g (omega (arith, lt)) inside)),
-    )
+    (refl, c .row-at2 .ensures .1 ∙ sym (first .ensures .1), omega (arith, pre .3, first .ensures .1), rw (first .ensures .1) (pre .4))
 
 mul-absorb-planes : tie.Need-mul-absorb-planes Inv-loop μ-loop
 mul-absorb-planes c = search needs
@@ -133,7 +116,7 @@ slice-aggregate-absorb-polar c = search needs
 absorb-polar-requires : tie.Need-absorb-polar-requires Inv-loop μ-loop
 absorb-polar-requires c κs =
     let pre = c .before .before .before .before .before .before .before .before .before .before .before .before .before .before .before .before .before .before .before .before .pre in
-    (search needs, search needs, search needs, search needs, pre .7)
+    (search needs, search needs, search needs, search needs, pre .8)
 
 add-k : tie.Need-add-k Inv-loop μ-loop
 add-k c = search needs
@@ -152,12 +135,12 @@ loop-again c =
     let done = c .before .before .before .before .before .before .before .absorb-planes in
     let beside = c .before .before .absorb-polar in
     let p : ℕ = 2 * l .k in
-    let one : (S : List ℕ) (χ : ℕ → ℕ) (m f : ℕ) → Weighed S χ m (now (a .sums)) (now (a .offsets)) (a .groups) (a .base) → f < chunk → cellAt both 0 f ≡ xorSum m (λ i. bitOf (χ i) p * cellAt S i f) =
+    let one : (S : List ℕ) (χ : ℕ → ℕ) (m f : ℕ) → Weighed S χ m (now (a .sums)) (now (a .words)) (a .count) (a .base) → f < chunk → cellAt both 0 f ≡ xorSum m (λ i. bitOf (χ i) p * cellAt S i f) =
     λ S χ m f weighed h.
-    c .before .before .before .before .before .before .before .before .before .before .before .look-up-two .ensures .0 f h ∙ looked-sum S (now (a .sums)) (now (a .offsets)) (now (first .result)) χ m _ (a .groups) (a .base) p (a .base + p) f weighed (omega (arith, lt)) h refl (first .ensures .0) (first .ensures .1) in
-    let two : (S : List ℕ) (χ : ℕ → ℕ) (m f : ℕ) → Weighed S χ m (now (a .sums)) (now (a .offsets)) (a .groups) (a .base) → f < chunk → cellAt both 1 f ≡ xorSum m (λ i. bitOf (χ i) (p + 1) * cellAt S i f) =
+    c .before .before .before .before .before .before .before .before .before .before .before .look-up-two .ensures .0 f h ∙ looked-sum S (now (a .sums)) (now (a .words)) (now (first .result)) χ m _ (a .count) (a .base) p (a .base + p) f weighed (omega (arith, lt)) h refl (first .ensures .0) (first .ensures .1) in
+    let two : (S : List ℕ) (χ : ℕ → ℕ) (m f : ℕ) → Weighed S χ m (now (a .sums)) (now (a .words)) (a .count) (a .base) → f < chunk → cellAt both 1 f ≡ xorSum m (λ i. bitOf (χ i) (p + 1) * cellAt S i f) =
     λ S χ m f weighed h.
-    c .before .before .before .before .before .before .before .before .before .before .before .look-up-two .ensures .1 f h ∙ looked-sum S (now (a .sums)) (now (a .offsets)) (now (second .result)) χ m _ (a .groups) (a .base) (p + 1) (a .base + p + 1) f weighed (omega (arith, lt)) h (omega arith) (second .ensures .0) (first .ensures .1) in (
+    c .before .before .before .before .before .before .before .before .before .before .before .look-up-two .ensures .1 f h ∙ looked-sum S (now (a .sums)) (now (a .words)) (now (second .result)) χ m _ (a .count) (a .base) (p + 1) (a .base + p + 1) f weighed (omega (arith, lt)) h (omega arith) (second .ensures .0) (first .ensures .1) in (
       omega (arith, lt),
       done .kept .0 ∙ l .inv .1,
       beside .kept .0 ∙ l .inv .2,

@@ -81,7 +81,7 @@ slice-aggregate-absorb c = search needs
 absorb-requires : tie.Need-absorb-requires
 absorb-requires c κs =
     let pre = c .before .before .before .before .before .before .before .before .before .before .before .before .before .before .before .before .pre in
-    (search needs, search needs, search needs, pre .3, search needs, search needs, search needs, pre .8)
+    (search needs, search needs, search needs, pre .3, pre .4, search needs, search needs, search needs, pre .9)
 
 same-length : tie.Need-same-length
 same-length c = search needs
@@ -112,9 +112,9 @@ returns c =
     let kept : length r ≡ 15 * chunk = rw e at (done .kept .0) ∙ long in
     let kept′ : length s ≡ 8 * chunk = rw d at (done .kept .1 .0) ∙ long′ in
     let filled = c .before .before .before .before .before .before .before .before .before .fill-masks in
-    let sums : ((S v : List ℕ) (χ : ℕ → ℕ) (m f z : ℕ) → Weighed S χ m (now (a .sums)) (now (a .offsets)) (a .groups) (a .e * 8) → Masks v (filled .last .0) → byteAt v f < 256 → f < chunk → stackAt 15 r f z ≡ bitXor (stackAt 15 (blockAt l (15 * chunk) (a .e)) f z) (product (byteAt v f) (xorSum m (λ i. bitOf (cellAt S i f) z * χ i)))) =
+    let sums : ((S v : List ℕ) (χ : ℕ → ℕ) (m f z : ℕ) → Weighed S χ m (now (a .sums)) (now (a .words)) (a .count) (a .e * 8) → Masks v (filled .last .0) → byteAt v f < 256 → f < chunk → stackAt 15 r f z ≡ bitXor (stackAt 15 (blockAt l (15 * chunk) (a .e)) f z) (product (byteAt v f) (xorSum m (λ i. bitOf (cellAt S i f) z * χ i)))) =
     rw e at (done .ensures .0) in
-    let asides : ((S : List ℕ) (χ : ℕ → ℕ) (m x f z : ℕ) → Weighed S χ m (now (a .sums)) (now (a .offsets)) (a .groups) (a .e * 8) → x < 2 → ((h : ℕ) → h < 2 → byteAt (now (a .mask)) (h * chunk + f) ≡ x * 255) → f < chunk → stackAt 8 s f z ≡ bitXor (stackAt 8 (blockAt k (8 * chunk) (a .e)) f z) (x * xorSum m (λ i. bitOf (cellAt S i f) z * χ i))) =
+    let asides : ((S : List ℕ) (χ : ℕ → ℕ) (m x f z : ℕ) → Weighed S χ m (now (a .sums)) (now (a .words)) (a .count) (a .e * 8) → x < 2 → ((h : ℕ) → h < 2 → byteAt (now (a .mask)) (h * chunk + f) ≡ x * 255) → f < chunk → stackAt 8 s f z ≡ bitXor (stackAt 8 (blockAt k (8 * chunk) (a .e)) f z) (x * xorSum m (λ i. bitOf (cellAt S i f) z * χ i))) =
     rw d at (done .ensures .1) in
     rw (e, d) (
       (λ S χ m h f z weighed hh hf.

@@ -25,10 +25,10 @@ abbrev weight : List ℕ → (ℕ → ℕ → ℕ) → ℕ → ℕ → ℕ → �
 weight S χ m e f z = xorSum m (λ i. bitOf (cellAt S i f) z * χ e i)
 
 abbrev Inv-loop : tie.InvT-loop
-Inv-loop stacks₀ sides₀ tau offsets groups sums vectors first mask polar e₀ stacks sides e = (e ≤ tau) × (length stacks ≡ length stacks₀) × (length sides ≡ length sides₀) × ((S : List ℕ) (χ : ℕ → ℕ → ℕ) (m q h f z : ℕ) → ((q : ℕ) → q < tau → Weighed S (χ q) m sums offsets groups (q * 8)) → q < e → h < 2 → f < 16 → stackOf 15 stacks q (h * 16 + f) z ≡ bitXor (stackOf 15 stacks₀ q (h * 16 + f) z) (product (byteAt vectors (q * most + (first + f))) (weight S χ m q (h * 16 + f) z))) × ((S : List ℕ) (χ : ℕ → ℕ → ℕ) (m x q f z : ℕ) → ((q : ℕ) → q < tau → Weighed S (χ q) m sums offsets groups (q * 8)) → x < 2 → ((h : ℕ) → h < 2 → byteAt mask (h * chunk + f) ≡ x * 255) → q < e → f < chunk → stackOf 8 sides q f z ≡ bitXor (stackOf 8 sides₀ q f z) (x * weight S χ m q f z)) × ((q b : ℕ) → e ≤ q → b < 15 * chunk → byteAt stacks (q * (15 * chunk) + b) ≡ byteAt stacks₀ (q * (15 * chunk) + b)) × ((q b : ℕ) → e ≤ q → b < 8 * chunk → byteAt sides (q * (8 * chunk) + b) ≡ byteAt sides₀ (q * (8 * chunk) + b))
+Inv-loop stacks₀ sides₀ tau words count sums vectors first mask polar e₀ stacks sides e = (e ≤ tau) × (length stacks ≡ length stacks₀) × (length sides ≡ length sides₀) × ((S : List ℕ) (χ : ℕ → ℕ → ℕ) (m q h f z : ℕ) → ((q : ℕ) → q < tau → Weighed S (χ q) m sums words count (q * 8)) → q < e → h < 2 → f < 16 → stackOf 15 stacks q (h * 16 + f) z ≡ bitXor (stackOf 15 stacks₀ q (h * 16 + f) z) (product (byteAt vectors (q * most + (first + f))) (weight S χ m q (h * 16 + f) z))) × ((S : List ℕ) (χ : ℕ → ℕ → ℕ) (m x q f z : ℕ) → ((q : ℕ) → q < tau → Weighed S (χ q) m sums words count (q * 8)) → x < 2 → ((h : ℕ) → h < 2 → byteAt mask (h * chunk + f) ≡ x * 255) → q < e → f < chunk → stackOf 8 sides q f z ≡ bitXor (stackOf 8 sides₀ q f z) (x * weight S χ m q f z)) × ((q b : ℕ) → e ≤ q → b < 15 * chunk → byteAt stacks (q * (15 * chunk) + b) ≡ byteAt stacks₀ (q * (15 * chunk) + b)) × ((q b : ℕ) → e ≤ q → b < 8 * chunk → byteAt sides (q * (8 * chunk) + b) ≡ byteAt sides₀ (q * (8 * chunk) + b))
 
 abbrev μ-loop : tie.MeasureT-loop
-μ-loop stacks₀ sides₀ tau offsets groups sums vectors first mask polar e₀ stacks sides e = tau - e
+μ-loop stacks₀ sides₀ tau words count sums vectors first mask polar e₀ stacks sides e = tau - e
 
 loop-holds : tie.Need-loop-holds Inv-loop μ-loop
 loop-holds c =
@@ -41,7 +41,7 @@ absorb-lane-requires c κs =
     let l = c .before .before .before .loop in
     let lt = c .before .before .loop-test .taken in
     let within : l .e * 8 + 8 ≤ a .tau * 8 = omega arith in
-    (omega (arith, l .inv .1, pre .0, lt), omega (arith, l .inv .2, pre .1, lt), omega (arith, pre .2, mul-le-mul-right (a .groups) within), (λ k h. pre .3 k (omega (arith, h, mul-le-mul-right (a .groups) within))), omega (arith, pre .4, lt), pre .5, pre .6, omega (arith, pre .7, lt), pre .8)
+    (omega (arith, l .inv .1, pre .0, lt), omega (arith, l .inv .2, pre .1, lt), omega (arith, pre .2, mul-le-mul-right (a .count) within), pre .3, pre .4, omega (arith, pre .5, lt), pre .6, pre .7, omega (arith, pre .8, lt), pre .9)
 
 add-e : tie.Need-add-e Inv-loop μ-loop
 add-e c = search needs

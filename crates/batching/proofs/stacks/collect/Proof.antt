@@ -32,11 +32,11 @@ term cells m χ vectors e h f z q = product (byteAt vectors (e * most + (q * 16 
 abbrev aside : List ℕ → ℕ → List ℕ → (ℕ → ℕ) → ℕ → ℕ → ℕ → ℕ → ℕ → ℕ
 aside cells m χ x e h f z q = x (q * 16 + f) * cellSum cells m χ e q (h * 16 + f) z
 
--- the offsets of a repetition, among those of all
-weighed : (S sums O χ : List ℕ) (m G tau : ℕ) → Tabled S sums (G * 32) → length S ≡ m * chunk → m ≤ G * 5 → ((k : ℕ) → byteAt χ k < 256)
-    → ((r : ℕ) → r < tau * 8 → Chosen χ m G O r) → (q : ℕ) → q < tau → Weighed S (byteAt (blockAt χ m q)) m sums O G (q * 8)
-weighed S sums O χ m G tau tabled long enough small chosen q h =
-    (tabled, long, enough, (λ i l. row-lt χ m q 256 (lit< tt) small i), λ p g hp hg. chosen (q * 8 + p) (omega arith) g hg ∙ ap₂ (λ x y. (g * 32 + choice (byteAt (blockAt χ m x)) y g) * 2) (digits-div q hp) (digits-mod q hp))
+-- the words of a repetition, among those of all
+weighed : (S sums W χ : List ℕ) (m G tau : ℕ) → Tabled S sums (G * 8 * 32) → length S ≡ m * chunk → m ≤ G * 8 * 5 → ((k : ℕ) → byteAt χ k < 256)
+    → ((r : ℕ) → r < tau * 8 → Chosen χ m G W r) → (q : ℕ) → q < tau → Weighed S (byteAt (blockAt χ m q)) m sums W G (q * 8)
+weighed S sums W χ m G tau tabled long enough small chosen q h =
+    (tabled, long, enough, (λ i l. row-lt χ m q 256 (lit< tt) small i), λ p k j hp hk hj. chosen (q * 8 + p) (omega arith) k j hk hj ∙ ap₂ (λ x y. choice (byteAt (blockAt χ m x)) y (k * 8 + j)) (digits-div q hp) (digits-mod q hp))
 
 -- the first entry of a table of sums is 0
 first-zero : (S sums : List ℕ) (count f : ℕ) → 0 < count → Tabled S sums count → f < chunk → byteAt sums f ≡ 0
@@ -65,15 +65,18 @@ sum-is cells χ m e q f z h =
     ap₂ (λ x y. bitOf x z * y) (row-byte cells (m * chunk) q (i * chunk + f) inside ∙ ap (byteAt cells) (place q m i f)) (row-byte χ m e i l))
 
 abbrev Inv-loop : tie.InvT-loop
-Inv-loop stacks₀ sides₀ sums₀ cells panel m tau offsets groups vectors bits polar q₀ stacks sides sums q = (q ≤ panel + 1) × (length stacks ≡ length stacks₀) × (length sides ≡ length sides₀) × (length sums ≡ 32768) × ((χ : List ℕ) (e h f z : ℕ) → ((k : ℕ) → byteAt χ k < 256) → ((r : ℕ) → r < tau * 8 → Chosen χ m groups offsets r) → e < tau → h < 2 → f < 16 → stackOf 15 stacks e (h * 16 + f) z ≡ bitXor (stackOf 15 stacks₀ e (h * 16 + f) z) (xorSum q (term cells m χ vectors e h f z))) × ((χ : List ℕ) (x : ℕ → ℕ) (e h f z : ℕ) → ((k : ℕ) → byteAt χ k < 256) → ((r : ℕ) → r < tau * 8 → Chosen χ m groups offsets r) → ((c : ℕ) → x c < 2) → ((c : ℕ) → c < most → byteAt bits c ≡ x c * 255) → e < tau → h < 2 → f < 16 → stackOf 8 sides e (h * 16 + f) z ≡ bitXor (stackOf 8 sides₀ e (h * 16 + f) z) (xorSum q (aside cells m χ x e h f z)))
+Inv-loop stacks₀ sides₀ sums₀ cells panel m tau words count vectors bits polar q₀ stacks sides sums q = (q ≤ panel + 1) × (length stacks ≡ length stacks₀) × (length sides ≡ length sides₀) × (length sums ≡ 32768) × ((χ : List ℕ) (e h f z : ℕ) → ((k : ℕ) → byteAt χ k < 256) → ((r : ℕ) → r < tau * 8 → Chosen χ m count words r) → e < tau → h < 2 → f < 16 → stackOf 15 stacks e (h * 16 + f) z ≡ bitXor (stackOf 15 stacks₀ e (h * 16 + f) z) (xorSum q (term cells m χ vectors e h f z))) × ((χ : List ℕ) (x : ℕ → ℕ) (e h f z : ℕ) → ((k : ℕ) → byteAt χ k < 256) → ((r : ℕ) → r < tau * 8 → Chosen χ m count words r) → ((c : ℕ) → x c < 2) → ((c : ℕ) → c < most → byteAt bits c ≡ x c * 255) → e < tau → h < 2 → f < 16 → stackOf 8 sides e (h * 16 + f) z ≡ bitXor (stackOf 8 sides₀ e (h * 16 + f) z) (xorSum q (aside cells m χ x e h f z)))
 
 abbrev μ-loop : tie.MeasureT-loop
-μ-loop stacks₀ sides₀ sums₀ cells panel m tau offsets groups vectors bits polar q₀ stacks sides sums q = panel + 1 - q
+μ-loop stacks₀ sides₀ sums₀ cells panel m tau words count vectors bits polar q₀ stacks sides sums q = panel + 1 - q
 
 loop-holds : tie.Need-loop-holds Inv-loop μ-loop
 unfolding xorSum
 loop-holds c =
     (search needs, refl, refl, c .before .before .before .before .before .before .before .pre .2, (λ χ e h f z s k l i j. sym (xor-zero-r _)), λ χ x e h f z s k b i j l r. sym (xor-zero-r _))
+
+mul-fill-sums : tie.Need-mul-fill-sums Inv-loop μ-loop
+mul-fill-sums c = search needs
 
 mul-row-at : tie.Need-mul-row-at Inv-loop μ-loop
 mul-row-at c = search needs
@@ -106,7 +109,7 @@ mul-spread-twice c = search needs
 spread-twice-requires : tie.Need-spread-twice-requires Inv-loop μ-loop
 spread-twice-requires c κs =
     let pre = c .before .before .before .before .before .before .before .before .before .before .before .before .before .before .before .before .before .before .before .before .pre in
-    (search needs, omega (arith, pre .4, pre .13, c .before .before .before .before .before .before .before .before .before .before .before .loop-test .taken))
+    (search needs, omega (arith, pre .4, pre .12, c .before .before .before .before .before .before .before .before .before .before .before .loop-test .taken))
 
 mul-absorb-lanes : tie.Need-mul-absorb-lanes Inv-loop μ-loop
 mul-absorb-lanes c = search needs
@@ -124,14 +127,15 @@ absorb-lanes-requires c κs =
       omega (arith, pre .0, settled .kept .0, l .inv .1),
       omega (arith, pre .1, l .inv .2),
       pre .10,
-      (λ k h. omega (arith, pre .11 k h, filled .kept .0, l .inv .3)),
-      pre .12,
+      omega (arith, pre .9, pre .6),
+      omega (arith, pre .9, pre .6, filled .kept .0, l .inv .3),
+      pre .11,
       omega (arith, pre .4, c .before .before .before .before .before .before .before .before .before .before .before .before .before .before .before .before .before .loop-test .taken),
       search needs,
       pre .8,
       λ off h f hh hf.
           let at : f / 16 * 16 + f % 16 ≡ f = omega arith in
-          rw at at (masked .ensures h (f / 16) (f % 16) hh (omega arith) (omega arith)) ∙ pre .14 off (l .q * 16 + f % 16) (omega (arith, pre .4, c .before .before .before .before .before .before .before .before .before .before .before .before .before .before .before .before .before .loop-test .taken)),
+          rw at at (masked .ensures h (f / 16) (f % 16) hh (omega arith) (omega arith)) ∙ pre .13 off (l .q * 16 + f % 16) (omega (arith, pre .4, c .before .before .before .before .before .before .before .before .before .before .before .before .before .before .before .before .before .loop-test .taken)),
     )
 
 add-q : tie.Need-add-q Inv-loop μ-loop
@@ -155,13 +159,13 @@ loop-again c =
     let done = c .before .before .before .before .absorb-lanes in
     let cells = now (a .cells) in
     let S = blockAt cells (a .m * chunk) (l .q) in
-    let tabled : Tabled S (filled .last .0) (a .groups * 32) = rw (sym (row .ensures .0)) (filled .ensures) in
+    let tabled : Tabled S (filled .last .0) (a .count * 8 * 32) = rw (sym (row .ensures .0)) (filled .ensures) in
     let long : length S ≡ a .m * chunk = ap length (sym (row .ensures .0)) ∙ row .ensures .1 in
-    let enough : a .m ≤ a .groups * 5 = omega (arith, pre .9) in
-    let some : 0 < a .groups * 32 = omega (arith, pre .9, pre .5) in
-    let same = unchanged S (filled .last .0) (l .stacks) (settled .last .0) (a .groups * 32) some tabled (settled .ensures .0) (settled .ensures .1) in
-    let all : (χ : List ℕ) → ((k : ℕ) → byteAt χ k < 256) → ((r : ℕ) → r < a .tau * 8 → Chosen χ (a .m) (a .groups) (now (a .offsets)) r) → (q : ℕ) → q < a .tau → Weighed S (byteAt (blockAt χ (a .m) q)) (a .m) (filled .last .0) (now (a .offsets)) (a .groups) (q * 8) =
-    λ χ. weighed S (filled .last .0) (now (a .offsets)) χ (a .m) (a .groups) (a .tau) tabled long enough in (
+    let enough : a .m ≤ a .count * 8 * 5 = omega (arith, pre .9) in
+    let some : 0 < a .count * 8 * 32 = omega (arith, pre .9, pre .5) in
+    let same = unchanged S (filled .last .0) (l .stacks) (settled .last .0) (a .count * 8 * 32) some tabled (settled .ensures .0) (settled .ensures .1) in
+    let all : (χ : List ℕ) → ((k : ℕ) → byteAt χ k < 256) → ((r : ℕ) → r < a .tau * 8 → Chosen χ (a .m) (a .count) (now (a .words)) r) → (q : ℕ) → q < a .tau → Weighed S (byteAt (blockAt χ (a .m) q)) (a .m) (filled .last .0) (now (a .words)) (a .count) (q * 8) =
+    λ χ. weighed S (filled .last .0) (now (a .words)) χ (a .m) (a .count) (a .tau) tabled long enough in (
       omega (arith, c .before .before .before .before .before .before .before .before .before .before .before .before .before .before .before .before .before .before .before .before .before .before .loop-test .taken),
       done .kept .0 ∙ settled .kept .0 ∙ l .inv .1,
       done .kept .1 .0 ∙ l .inv .2,
@@ -204,6 +208,7 @@ collect-spec =
     Inv-loop
     μ-loop
     loop-holds
+    mul-fill-sums
     mul-row-at
     row-at-requires
     fill-sums-requires

@@ -1,4 +1,4 @@
--- `quadratic::batch::batch_forms` meets its contract: the offsets that the batching bytes choose, the forms of the batched matrix, and the linear part
+-- `quadratic::batch::batch_forms` meets its contract: the words that the batching bytes choose, the forms of the batched matrix, and the linear part
 -- (`BatchLaws`).
 -- Assumes nothing.
 use borrow.Author.Needs.{needs}
@@ -17,29 +17,26 @@ use Rattle.quadratic.proofs.BatchLaws.{form-is, polar-is, middle-is}
 use Rattle.quadratic.proofs.batch.batch_forms.Statement.{statement}
 use Rattle.quadratic.proofs.batch.batch_forms.Tie as tie
 
-offsets-fit : (tau m : ℕ) → tau ≤ lanes → m ≤ 160 → tau * 8 * ((m + 9) / 10 * 2) ≤ 12288
-offsets-fit tau m h k =
+words-fit : (tau m : ℕ) → tau ≤ lanes → m ≤ 160 → tau * 8 * ((m + 39) / 40) ≤ 1536
+words-fit tau m h k =
     let t≤ : tau * 8 ≤ 384 = omega arith in
-    let g≤ : (m + 9) / 10 * 2 ≤ 32 = omega arith in
-    omega (arith, mul-le-mul t≤ g≤)
+    let c≤ : (m + 39) / 40 ≤ 4 = omega arith in
+    omega (arith, mul-le-mul t≤ c≤)
 
-add-groups : tie.Need-add-groups
-add-groups c = search needs
-
-mul-groups : tie.Need-mul-groups
-mul-groups c = search needs
+add-count : tie.Need-add-count
+add-count c = search needs
 
 add-width : tie.Need-add-width
 add-width c = search needs
 
-slice-aggregate-fill-offsets : tie.Need-slice-aggregate-fill-offsets
-slice-aggregate-fill-offsets c = search needs
+slice-aggregate-fill-words : tie.Need-slice-aggregate-fill-words
+slice-aggregate-fill-words c = search needs
 
-fill-offsets-requires : tie.Need-fill-offsets-requires
-fill-offsets-requires c κs =
+fill-words-requires : tie.Need-fill-words-requires
+fill-words-requires c κs =
     let pre = c .before .before .before .before .before .before .before .before .pre in
     let a = c .before .before .before .before .before .before .before .before .args in
-    (refl, pre .3, offsets-fit (a .tau) (a .m) (pre .4) (pre .3), pre .7, omega (arith, pre .4), pre .12)
+    (refl, pre .3, words-fit (a .tau) (a .m) (pre .4) (pre .3), pre .7, omega (arith, pre .4))
 
 slice-aggregate-add-forms : tie.Need-slice-aggregate-add-forms
 slice-aggregate-add-forms c = search needs
@@ -49,8 +46,8 @@ unfolding bytesFor
 add-forms-requires c κs =
     let pre = c .before .before .before .before .before .before .before .before .before .before .before .before .before .pre in
     let a = c .before .before .before .before .before .before .before .before .before .before .before .before .before .args in
-    let chosen = c .before .before .before .before .fill-offsets in
-    (pre .0, pre .1, pre .5, refl, pre .2, pre .12, pre .3, pre .13, pre .4, refl, omega (arith, chosen .kept .0, offsets-fit (a .tau) (a .m) (pre .4) (pre .3)), chosen .ensures .1, pre .8, pre .9, pre .10, pre .11, pre .14)
+    let chosen = c .before .before .before .before .fill-words in
+    (pre .0, pre .1, pre .5, refl, pre .2, pre .12, pre .3, pre .13, pre .4, refl, omega (arith, chosen .kept .0, words-fit (a .tau) (a .m) (pre .4) (pre .3)), pre .8, pre .9, pre .10, pre .11, pre .14)
 
 add-linear-requires : tie.Need-add-linear-requires
 unfolding bytesFor
@@ -70,17 +67,17 @@ unfolding bytesFor
 returns c =
     let pre = c .before .before .before .before .before .before .before .before .before .before .before .before .before .before .before .before .before .before .before .before .before .before .pre in
     let a = c .before .before .before .before .before .before .before .before .before .before .before .before .before .before .before .before .before .before .before .before .before .before .args in
-    let chosen = c .before .before .before .before .before .before .before .before .before .before .before .before .before .fill-offsets in
+    let chosen = c .before .before .before .before .before .before .before .before .before .before .before .before .before .fill-words in
     let formed = c .before .before .before .before .before .before .before .before .add-forms in
     let added = c .before .before .add-linear in
     let T = now (a .table) in
     let χ = now (a .chi) in
     let small : (k : ℕ) → byteAt χ k < 256 = λ k. c .before .before .before .before .before .before .before .before .before .before .before .before .before .before .before .before .shared-slice-known4 .given k .fits in
     let bytes : (k : ℕ) → byteAt T k < 256 = λ k. c .before .before .before .before .before .before .before .before .before .before .before .before .before .before .before .shared-slice-known5 .given k .fits in (
-      (λ e h. formed .ensures .0 χ e small (chosen .ensures .0) h ∙ ap (bitXor (byteAt (now (a .quad)) e)) (form-is (a .n) (a .m) e (now (a .a)) T χ)),
+      (λ e h. formed .ensures .0 χ e small (chosen .ensures) h ∙ ap (bitXor (byteAt (now (a .quad)) e)) (form-is (a .n) (a .m) e (now (a .a)) T χ)),
       (λ e h.
           added .ensures e h
-          ∙ ap (λ (v : ℕ). bitXor v (batchByte (a .m) χ e (λ i. selected (a .n) (rowOf (a .n) (now (a .b)) i) T lanes e))) (formed .ensures .1 χ e small (chosen .ensures .0) h ∙ ap (bitXor (byteAt (now (a .lin)) e)) (polar-is (a .n) (a .m) e (now (a .a)) T χ bytes (byteAt (now (a .xs))) (pre .10)))
+          ∙ ap (λ (v : ℕ). bitXor v (batchByte (a .m) χ e (λ i. selected (a .n) (rowOf (a .n) (now (a .b)) i) T lanes e))) (formed .ensures .1 χ e small (chosen .ensures) h ∙ ap (bitXor (byteAt (now (a .lin)) e)) (polar-is (a .n) (a .m) e (now (a .a)) T χ bytes (byteAt (now (a .xs))) (pre .10)))
           ∙ middle-is (a .n) (a .m) e (now (a .a)) T χ bytes (byteAt (now (a .xs))) (pre .10) (now (a .b)) (byteAt (now (a .lin)) e)),
     )
 
@@ -88,11 +85,10 @@ pub batch-forms-spec : {M : Type 1} → statement M
 batch-forms-spec =
     tie.close
     (tie.spec
-    add-groups
-    mul-groups
+    add-count
     add-width
-    slice-aggregate-fill-offsets
-    fill-offsets-requires
+    slice-aggregate-fill-words
+    fill-words-requires
     slice-aggregate-add-forms
     add-forms-requires
     add-linear-requires

@@ -1,4 +1,4 @@
--- `choices::offsets::fill_offsets` meets its contract. The invariant: the rows of the repetitions below e are filled.
+-- `choices::fives::fill_words` meets its contract. The invariant: the rows of the repetitions below e are filled.
 -- Assumes nothing.
 use borrow.Author.Needs.{needs}
 use Prim.Native.Nat.{ℕ, _+_, _*_, _-_, _≤_, _<_}
@@ -9,15 +9,15 @@ use denote.Ref.{now}
 use lib.ListN.{length}
 use Rattle.strings.proofs.Rows.{row-end}
 use Rattle.choices.specs.Entries.{Chosen}
-use Rattle.choices.proofs.ChoiceLaws.{chosen-next, chosen-fits}
-use Rattle.choices.proofs.offsets.fill_offsets.Statement.{statement}
-use Rattle.choices.proofs.offsets.fill_offsets.Tie as tie
+use Rattle.choices.proofs.ChoiceLaws.{chosen-next}
+use Rattle.choices.proofs.fives.fill_words.Statement.{statement}
+use Rattle.choices.proofs.fives.fill_words.Tie as tie
 
 abbrev Inv-loop : tie.InvT-loop
-Inv-loop offsets₀ chi m groups tau e₀ offsets e = (e ≤ tau) × (length offsets ≡ length offsets₀) × ((q : ℕ) → q < e * 8 → Chosen chi m groups offsets q)
+Inv-loop words₀ chi m count tau e₀ words e = (e ≤ tau) × (length words ≡ length words₀) × ((q : ℕ) → q < e * 8 → Chosen chi m count words q)
 
 abbrev μ-loop : tie.MeasureT-loop
-μ-loop offsets₀ chi m groups tau e₀ offsets e = tau - e
+μ-loop words₀ chi m count tau e₀ words e = tau - e
 
 loop-holds : tie.Need-loop-holds Inv-loop μ-loop
 loop-holds c = (search needs, refl, λ q h. absurd (omega arith))
@@ -28,7 +28,7 @@ fill-repetition-requires c κs =
     let a = start .args in
     let l = c .before .before .loop in
     let eight : l .e * 8 + 8 ≤ a .tau * 8 = omega arith in
-    let whole : a .groups ≤ a .groups = omega arith in
+    let whole : a .count ≤ a .count = omega arith in
     (start .pre .0, start .pre .1, omega (arith, l .inv .1, mul-le-mul eight whole), omega (arith, row-end (l .e) (a .tau) (a .m) (omega arith)), omega arith)
 
 add-e : tie.Need-add-e Inv-loop μ-loop
@@ -42,21 +42,18 @@ loop-again c =
     let a = c .before .before .before .before .before .before .before .before .args in
     let l = c .before .before .before .before .before .loop in
     let done = c .before .before .fill-repetition in
-    (omega arith, done .kept .0 ∙ l .inv .1, chosen-next (now (a .chi)) (l .offsets) (done .last .0) (a .m) (a .groups) (l .e) (done .ensures .0) (done .ensures .1) (l .inv .2))
+    (omega arith, done .kept .0 ∙ l .inv .1, chosen-next (now (a .chi)) (l .words) (done .last .0) (a .m) (a .count) (l .e) (done .ensures .0) (done .ensures .1) (l .inv .2))
 
 same-length : tie.Need-same-length Inv-loop μ-loop
 same-length c = search needs
 
 returns : tie.Need-returns Inv-loop μ-loop
 returns c =
-    let a = c .before .before .before .before .args in
-    let pre = c .before .before .before .before .pre in
     let l = c .before .loop in
-    let chosen : (r : ℕ) → r < a .tau * 8 → Chosen (now (a .chi)) (a .m) (a .groups) (l .offsets) r = λ r h. l .inv .2 r (omega arith) in
-    (chosen, λ k h. chosen-fits (now (a .chi)) (l .offsets) (a .m) (a .groups) (a .tau * 8) k (omega (arith, pre .0, pre .5)) (omega (arith, pre .0, pre .1)) chosen h)
+    λ r h. l .inv .2 r (omega arith)
 
-pub fill-offsets-spec : {M : Type 1} → statement M
-fill-offsets-spec =
+pub fill-words-spec : {M : Type 1} → statement M
+fill-words-spec =
     tie.close
     (tie.spec
     Inv-loop

@@ -1,9 +1,10 @@
--- `choices::offsets::fill_repetition` meets its contract. The bytes of the repetition are taken with zeros past them, as its block has them.
+-- `choices::fives::fill_repetition` meets its contract. The bytes of the repetition are taken with zeros past them, as its block has them.
 -- Assumes nothing.
 use borrow.Author.Needs.{needs}
 use Prim.Native.Nat.{ℕ, _+_, _*_, _/_, _%_, _≤_, _<_}
 use mathlib.Core.List.{List}
 use mathlib.Core.Path.{_≡_, sym, ap, _∙_}
+use native.Mathlib.Nat.{add-assoc}
 use native.Mathlib.Decide.{decLt}
 use native.Mathlib.Omega.{arith}
 use denote.Ref.{now}
@@ -12,11 +13,11 @@ use Rattle.protocol.specs.Lists.{blockAt}
 use Rattle.strings.specs.Sums.{byteAt}
 use Rattle.strings.proofs.Rows.{RowsAre, rows-more, row-byte}
 use Rattle.chunks.proofs.BlockLaws.{block-past}
-use Rattle.choices.specs.Entries.{inRows}
-use Rattle.choices.proofs.ChoiceLaws.{choice-same}
+use Rattle.choices.specs.Entries.{five, inRows}
+use Rattle.choices.proofs.ChoiceLaws.{choice-lt, choice-same, word-five}
 use Rattle.choices.proofs.PickLaws.{rows-held}
-use Rattle.choices.proofs.offsets.fill_repetition.Statement.{statement}
-use Rattle.choices.proofs.offsets.fill_repetition.Tie as tie
+use Rattle.choices.proofs.fives.fill_repetition.Statement.{statement}
+use Rattle.choices.proofs.fives.fill_repetition.Tie as tie
 
 -- the bytes of a block, and zeros
 padded : (bytes χ : List ℕ) (m e : ℕ) → ((f : ℕ) → f < m → byteAt bytes f ≡ byteAt χ (e * m + f)) → ((f : ℕ) → m ≤ f → byteAt bytes f ≡ byteAt (replicate 168 0) f)
@@ -76,7 +77,7 @@ returns : tie.Need-returns
 returns c =
     let start = c .before .before .before .before .before .before .before .before .before .before .before .before .before .before .before .before .before .before .before .before .before .before in
     let a = start .args in
-    let few : a .groups ≤ 32 = omega (arith, start .pre .0, start .pre .1) in
+    let few : a .count ≤ 4 = omega (arith, start .pre .0, start .pre .1) in
     let chi = now (a .chi) in
     let copy = c .before .before .before .before .before .before .before .before .before .before .before .before .before .before .before .before .before .before .copy-front in
     let first = c .before .before .before .before .before .before .before .before .before .before .before .before .before .before .fill-rows in
@@ -89,14 +90,19 @@ returns c =
     rows-more (λ h i. byteAt bytes (h * 80 + i % 16 * 5 + i / 16)) (first .last .0) rows 1 128
     (rows-more (λ h i. byteAt bytes (h * 80 + i % 16 * 5 + i / 16)) (replicate 256 0) (first .last .0) 0 128 (λ q i h. absurd (omega arith)) (first .ensures .0) (first .ensures .1))
     (second .ensures .0) (second .ensures .1) in (
-      (λ p hp g hg.
+      (λ p hp k j hk hj.
+          let g : ℕ = k * 8 + j in
+          let hg : g < 32 = omega (arith, few, hk, hj) in
           let q : (a .e * 8 + p) / 8 ≡ a .e = omega arith in
           let r : (a .e * 8 + p) % 8 ≡ p = omega arith in
+          let small : (i : ℕ) → i < 8 → byteAt (picks .last .0) (p * 32 + k * 8 + i) < 32 =
+          λ i hi. rw (add-assoc (p * 32) (k * 8) i, picks .ensures p (k * 8 + i) hp (omega (arith, few, hk, hi))) (choice-lt (inRows rows) p (k * 8 + i)) in
           rw (q, r)
-          (put .ensures .0 p g hp hg
-          ∙ ap (λ (x : ℕ). (g * 32 + x) * 2)
-          (picks .ensures p g hp (omega (arith, few, hg))
-          ∙ choice-same (inRows rows) (byteAt (blockAt chi (a .m) (a .e))) p g (λ i hi. rows-held bytes rows held i (omega (arith, few, hg, hi)) ∙ padded bytes chi (a .m) (a .e) (copy .ensures .0) (copy .ensures .1) i (omega (arith, few, hg, hi)))))),
+          (ap (λ (w : ℕ). five w j) (put .ensures .0 p k hp hk)
+          ∙ word-five (picks .last .0) (p * 32 + k * 8) small j hj
+          ∙ ap (byteAt (picks .last .0)) (add-assoc (p * 32) (k * 8) j)
+          ∙ picks .ensures p g hp hg
+          ∙ choice-same (inRows rows) (byteAt (blockAt chi (a .m) (a .e))) p g (λ i hi. rows-held bytes rows held i (omega (arith, hg, hi)) ∙ padded bytes chi (a .m) (a .e) (copy .ensures .0) (copy .ensures .1) i (omega (arith, hg, hi))))),
       put .ensures .1,
     )
 

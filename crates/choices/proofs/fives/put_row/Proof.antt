@@ -1,4 +1,4 @@
--- `choices::offsets::put_row` meets its contract. The part that was lent is row r, and the others stand outside it.
+-- `choices::fives::put_row` meets its contract. The part that was lent is row r, and the others stand outside it.
 -- Assumes nothing.
 use borrow.Author.Needs.{needs}
 use Prim.Native.Nat.{ℕ, _+_, _*_, _-_, _≤_, _<_}
@@ -9,8 +9,9 @@ use denote.Ref.{now}
 use lib.ListN.{length, take, drop, length-take, length-drop}
 use Rattle.strings.proofs.Rows.{put-in, put-other}
 use Rattle.strings.specs.Sums.{byteAt}
-use Rattle.choices.proofs.offsets.put_row.Statement.{statement}
-use Rattle.choices.proofs.offsets.put_row.Tie as tie
+use Rattle.choices.specs.Entries.{wordOf}
+use Rattle.choices.proofs.fives.put_row.Statement.{statement}
+use Rattle.choices.proofs.fives.put_row.Tie as tie
 
 mul-at : tie.Need-mul-at
 mul-at c = search needs
@@ -42,8 +43,8 @@ same-length c = search needs
 returns : tie.Need-returns
 returns c =
     let a = c .before .before .before .before .before .before .args in
-    let l = now (a .offsets) in
-    let w = a .groups in
+    let l = now (a .words) in
+    let w = a .count in
     let at = a .r * w in
     let done = c .before .before .put in
     let r = done .last .0 in
@@ -51,7 +52,7 @@ returns c =
     let fits : at + w ≤ length l = omega arith in
     let long : length (take w (drop at l)) ≡ w = simp (length-take, length-drop) (omega arith) in
     let kept : length r ≡ w = rw e at (done .kept .0) ∙ long in
-    let filled : (g : ℕ) → g < length (take w (drop at l)) → byteAt r g ≡ (g * 32 + byteAt (now (a .picks)) (a .p * 32 + g)) * 2 = rw e at (done .ensures) in
+    let filled : (k : ℕ) → k < length (take w (drop at l)) → byteAt r k ≡ wordOf (now (a .picks)) (a .p * 32 + k * 8) = rw e at (done .ensures) in
     rw e ((λ g h. put-in at w l r fits kept g h ∙ filled g (omega (arith, long))), put-other (a .r) w l r fits kept)
 
 pub put-row-spec : {M : Type 1} → statement M

@@ -1,4 +1,4 @@
--- `choices::offsets::row_at` meets its contract. The part has the length asked for.
+-- `choices::fives::row_at` meets its contract. The part has the length asked for.
 -- Assumes nothing.
 use mathlib.Core.Path.{_≡_}
 use Prim.Native.Nat.{_+_, _*_, _-_}
@@ -7,8 +7,8 @@ use native.Mathlib.Omega.{arith}
 use lib.ListN.{length-take, length-drop}
 use borrow.Author.Needs.{needs}
 use Rattle.protocol.specs.Lists.{part, blockAt}
-use Rattle.choices.proofs.offsets.row_at.Statement.{statement}
-use Rattle.choices.proofs.offsets.row_at.Tie as tie
+use Rattle.choices.proofs.fives.row_at.Statement.{statement}
+use Rattle.choices.proofs.fives.row_at.Tie as tie
 
 mul-from : tie.Need-mul-from
 mul-from c = search needs
@@ -32,7 +32,7 @@ returns : tie.Need-returns
 unfolding blockAt part
 returns c =
     let a = c .before .args in
-    let e : a .r * a .groups + a .groups - a .r * a .groups ≡ a .groups = add-sub-cancel-left (a .r * a .groups) (a .groups) in (
+    let e : a .r * a .count + a .count - a .r * a .count ≡ a .count = add-sub-cancel-left (a .r * a .count) (a .count) in (
       rw e,
       rw e (simp (length-take, length-drop) (omega arith)),
     )

@@ -1,4 +1,4 @@
--- `choices::offsets::put_rows` meets its contract. The invariant: the rows of the bits below p are filled, and those of earlier repetitions are as they were.
+-- `choices::fives::put_rows` meets its contract. The invariant: the rows of the bits below p are filled, and those of earlier repetitions are as they were.
 -- Assumes nothing.
 use borrow.Author.Needs.{needs}
 use Prim.Native.Nat.{ℕ, _+_, _*_, _-_, _≤_, _<_}
@@ -9,17 +9,18 @@ use native.Mathlib.Numerals.{add-one}
 use native.Mathlib.Omega.{arith}
 use lib.ListN.{length}
 use Rattle.strings.specs.Sums.{byteAt}
+use Rattle.choices.specs.Entries.{wordOf}
 use Rattle.strings.proofs.Rows.{row-end}
-use Rattle.choices.proofs.offsets.put_rows.Statement.{statement}
-use Rattle.choices.proofs.offsets.put_rows.Tie as tie
+use Rattle.choices.proofs.fives.put_rows.Statement.{statement}
+use Rattle.choices.proofs.fives.put_rows.Tie as tie
 
 abbrev Inv-loop : tie.InvT-loop
-Inv-loop offsets₀ e picks groups p₀ offsets p =
-    (p ≤ 8) × (length offsets ≡ length offsets₀) × ((q g : ℕ) → q < p → g < groups → byteAt offsets ((e * 8 + q) * groups + g) ≡ (g * 32 + byteAt picks (q * 32 + g)) * 2)
-    × ((q g : ℕ) → q < e * 8 → g < groups → byteAt offsets (q * groups + g) ≡ byteAt offsets₀ (q * groups + g))
+Inv-loop words₀ e picks count p₀ words p =
+    (p ≤ 8) × (length words ≡ length words₀) × ((q k : ℕ) → q < p → k < count → byteAt words ((e * 8 + q) * count + k) ≡ wordOf picks (q * 32 + k * 8))
+    × ((q k : ℕ) → q < e * 8 → k < count → byteAt words (q * count + k) ≡ byteAt words₀ (q * count + k))
 
 abbrev μ-loop : tie.MeasureT-loop
-μ-loop offsets₀ e picks groups p₀ offsets p = 8 - p
+μ-loop words₀ e picks count p₀ words p = 8 - p
 
 loop-holds : tie.Need-loop-holds Inv-loop μ-loop
 loop-holds c = (search needs, refl, (λ q g h. absurd (omega arith)), λ q g h k. refl)
@@ -34,7 +35,7 @@ put-row-requires : tie.Need-put-row-requires Inv-loop μ-loop
 put-row-requires c κs =
     let a = c .before .before .before .before .before .args in
     let l = c .before .before .loop in
-    (omega arith, omega (arith, l .inv .1, row-end (a .e * 8 + l .p) (a .e * 8 + 8) (a .groups) (omega arith)), omega arith, omega arith)
+    (omega arith, omega (arith, l .inv .1, row-end (a .e * 8 + l .p) (a .e * 8 + 8) (a .count) (omega arith)), omega arith, omega arith)
 
 add-p : tie.Need-add-p Inv-loop μ-loop
 add-p c = search needs
