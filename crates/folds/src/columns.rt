@@ -1,11 +1,11 @@
-// Two byte columns of a matrix, folded, and put among the cells.
+// Four byte columns of a matrix, that is two panels, folded, and put among the cells.
 ghost use mathlib.Core.Path.{_≡_};
 ghost use Prim.Native.Nat.{ℕ, _+_, _*_, _/_, _%_, _<_, _≤_};
 ghost use lib.ListN.{length};
 ghost use Rattle.protocol.specs.Strings.{bytesFor};
 ghost use Rattle.strings.specs.Sums.{byteAt, bitOf};
 ghost use Rattle.chunks.specs.Chunks.{chunk, cellAt};
-ghost use Rattle.folds.specs.Columns.{Paired, TurnedIn, Mirrored, Reflected, Joined, Put, Kept, FoldedAt};
+ghost use Rattle.folds.specs.Columns.{Quad, Quads, TurnedIn, Mirrored, Reflected, Joined, Put, Kept, FoldedAt};
 use chunks::CHUNK;
 use chunks::cells::copy_front;
 use chunks::cells::least;
@@ -17,53 +17,80 @@ use turns::turn_rows;
 // The most bytes that eight rows have, and the most rows.
 pub const ROWS: usize = 160;
 
-fn wide(x: u8) -> u16
+fn wide(x: u8) -> u32
     ensures { λ r. ⌜ r ≡ x ⌝ }
 {
-    x as u16
+    x as u32
 }
 
-// Two bytes side by side, which the machine loads as one word.
-fn pair_at(s: &[u8], at: usize) -> u16
-    requires { ⌜ at + 1 < length (now s) ⌝ }
-    ensures { λ r. ⌜ (r % 256 ≡ byteAt (now (s .entry)) at) × (r / 256 ≡ byteAt (now (s .entry)) (at + 1)) ⌝ }
+// Four bytes side by side, which the machine loads as one word.
+fn quad_at(s: &[u8], at: usize) -> u32
+    requires { ⌜ at + 4 ≤ length (now s) ⌝ }
+    ensures { λ r. ⌜ Quad (now (s .entry)) at r ⌝ }
 {
-    wide(s[at]) + wide(s[at + 1]) * 256
+    wide(s[at]) + wide(s[at + 1]) * 256 + wide(s[at + 2]) * 65536 + wide(s[at + 3]) * 16777216
 }
 
-// Byte columns col and col + 1 of each row.
-fn gather_both(pairs: &mut [u16], matrix: &[u8], width: usize, col: usize, rows: usize)
-    requires { ⌜ (rows ≤ length (now pairs)) × (col + 1 < width) × (rows * width ≤ length (now matrix)) ⌝ }
-    ensures { λ _. ⌜ Paired width (now (matrix .entry)) col rows (now (pairs .exit)) ⌝ }
+fn byte_or_0(s: &[u8], at: usize) -> u32
+    ensures { λ r. ⌜ r ≡ byteAt (now (s .entry)) at ⌝ }
 {
-    let mut r = 0;
-    while r < rows {
-        pairs[r] = pair_at(matrix, r * width + col);
-        r += 1;
-    }
+    if at < s.len() { wide(s[at]) } else { 0 }
 }
 
-// The last column of a matrix that has an odd number of them.
-fn gather_one(pairs: &mut [u16], matrix: &[u8], width: usize, col: usize, rows: usize)
-    requires { ⌜ (rows ≤ length (now pairs)) × (col + 1 ≡ width) × (rows * width ≤ length (now matrix)) ⌝ }
-    ensures { λ _. ⌜ Paired width (now (matrix .entry)) col rows (now (pairs .exit)) ⌝ }
+// The same where the string may end among the four.
+fn quad_end(s: &[u8], at: usize) -> u32
+    requires { ⌜ at ≤ length (now s) ⌝ }
+    ensures { λ r. ⌜ Quad (now (s .entry)) at r ⌝ }
 {
-    let mut r = 0;
-    while r < rows {
-        pairs[r] = wide(matrix[r * width + col]);
-        r += 1;
-    }
+    byte_or_0(s, at)
+        + byte_or_0(s, at + 1) * 256
+        + byte_or_0(s, at + 2) * 65536
+        + byte_or_0(s, at + 3) * 16777216
 }
 
-fn gather(pairs: &mut [u16], matrix: &[u8], width: usize, col: usize, rows: usize)
-    requires { ⌜ (rows ≤ length (now pairs)) × (col < width) × (width ≤ 20) × (rows * width ≤ length (now matrix)) ⌝ }
-    ensures { λ _. ⌜ Paired width (now (matrix .entry)) col rows (now (pairs .exit)) ⌝ }
+// How many rows have four bytes from col on before the end of the matrix.
+fn whole_rows(len: usize, width: usize, col: usize) -> usize
+    requires { ⌜ (col < width) × (width ≤ 20) ⌝ }
+    ensures { λ k. ⌜ ((r : ℕ) → r < k → r * width + col + 4 ≤ len) ⌝ }
 {
-    if col + 1 < width {
-        gather_both(pairs, matrix, width, col, rows);
+    if len < col + 4 {
+        0
     } else {
-        gather_one(pairs, matrix, width, col, rows);
+        (len - col - 4) / width + 1
     }
+}
+
+fn gather_whole(quads: &mut [u32], matrix: &[u8], width: usize, col: usize, rows: usize)
+    requires { ⌜ (rows ≤ length (now quads)) × ((r : ℕ) → r < rows → r * width + col + 4 ≤ length (now matrix)) ⌝ }
+    ensures { λ _. ⌜ Quads width (now (matrix .entry)) col rows (now (quads .exit)) ⌝ }
+{
+    let mut r = 0;
+    while r < rows {
+        quads[r] = quad_at(matrix, r * width + col);
+        r += 1;
+    }
+}
+
+// The rows from `from` on, after those that are gathered.
+fn gather_end(quads: &mut [u32], matrix: &[u8], width: usize, col: usize, from: usize, rows: usize)
+    requires { ⌜ (from ≤ rows) × (rows ≤ length (now quads)) × (col < width) × (rows * width ≤ length (now matrix)) × Quads width (now matrix) col from (now quads) ⌝ }
+    ensures { λ _. ⌜ Quads width (now (matrix .entry)) col rows (now (quads .exit)) ⌝ }
+{
+    let mut r = from;
+    while r < rows {
+        quads[r] = quad_end(matrix, r * width + col);
+        r += 1;
+    }
+}
+
+// Only the last rows can have fewer than four bytes after them, so the others are gathered without a test.
+fn gather(quads: &mut [u32], matrix: &[u8], width: usize, col: usize, rows: usize)
+    requires { ⌜ (rows ≤ length (now quads)) × (col < width) × (width ≤ 20) × (rows * width ≤ length (now matrix)) ⌝ }
+    ensures { λ _. ⌜ Quads width (now (matrix .entry)) col rows (now (quads .exit)) ⌝ }
+{
+    let whole = least(rows, whole_rows(matrix.len(), width, col));
+    gather_whole(quads, matrix, width, col, whole);
+    gather_end(quads, matrix, width, col, whole, rows);
 }
 
 // Near the end of a matrix there may be less than is turned.
@@ -130,29 +157,37 @@ fn reflect(t: &mut [u8], matrix: &[u8], n: usize, width: usize, col: usize)
     fill_part(t, col / 2, SIXTEEN, 0);
 }
 
-// The sixteen rows q of both columns, one column after the other.
-fn join(out: &mut [u8], pairs: &[u16], first: &[u8], last: &[u8], q: usize)
-    requires { ⌜ (length (now out) ≡ chunk) × (q * 16 + 16 ≤ length (now pairs)) × (q * 16 + 16 ≤ length (now first)) × (q * 16 + 16 ≤ length (now last)) ⌝ }
-    ensures { λ _. ⌜ ((f : ℕ) → f < 16 → Joined (now (pairs .entry)) (now (first .entry)) (now (last .entry)) (q * 16 + f) (byteAt (now (out .exit)) f) (byteAt (now (out .exit)) (16 + f))) ⌝ }
+// The sixteen rows q of columns 2h and 2h + 1 of the four, one column after the other.
+fn join(out: &mut [u8], quads: &[u32], h: usize, first: &[u8], last: &[u8], q: usize)
+    requires { ⌜ (length (now out) ≡ chunk) × (h < 2) × (q * 16 + 16 ≤ length (now quads)) × (q * 16 + 16 ≤ length (now first)) × (q * 16 + 16 ≤ length (now last)) ⌝ }
+    ensures { λ _. ⌜ ((f : ℕ) → f < 16 → Joined (now (quads .entry)) h (now (first .entry)) (now (last .entry)) (q * 16 + f) (byteAt (now (out .exit)) f) (byteAt (now (out .exit)) (16 + f))) ⌝ }
 {
     let mut f = 0;
     while f < SIXTEEN {
         let r = q * SIXTEEN + f;
-        let pair = pairs[r];
+        let pair = quads[r] >> (16 * h);
         out[f] = (pair % 256) as u8 ^ first[r];
-        out[SIXTEEN + f] = (pair / 256) as u8 ^ last[r];
+        out[SIXTEEN + f] = (pair / 256 % 256) as u8 ^ last[r];
         f += 1;
     }
 }
 
 // Chunk `at` of the cells. It is made beside them, so that no store to them stands between its loads.
-fn put_chunk(cells: &mut [u8], at: usize, pairs: &[u16], first: &[u8], last: &[u8], q: usize)
-    requires { ⌜ (at * chunk + chunk ≤ length (now cells)) × (q * 16 + 16 ≤ length (now pairs)) × (q * 16 + 16 ≤ length (now first)) × (q * 16 + 16 ≤ length (now last)) ⌝ }
-    ensures { λ _. ⌜ ((f : ℕ) → f < 16 → Joined (now (pairs .entry)) (now (first .entry)) (now (last .entry)) (q * 16 + f) (cellAt (now (cells .exit)) at f) (cellAt (now (cells .exit)) at (16 + f))) ⌝ }
+fn put_chunk(
+    cells: &mut [u8],
+    at: usize,
+    quads: &[u32],
+    h: usize,
+    first: &[u8],
+    last: &[u8],
+    q: usize,
+)
+    requires { ⌜ (at * chunk + chunk ≤ length (now cells)) × (h < 2) × (q * 16 + 16 ≤ length (now quads)) × (q * 16 + 16 ≤ length (now first)) × (q * 16 + 16 ≤ length (now last)) ⌝ }
+    ensures { λ _. ⌜ ((f : ℕ) → f < 16 → Joined (now (quads .entry)) h (now (first .entry)) (now (last .entry)) (q * 16 + f) (cellAt (now (cells .exit)) at f) (cellAt (now (cells .exit)) at (16 + f))) ⌝ }
     ensures { λ _. ⌜ ((p e : ℕ) → (p ≡ at → ⊥) → e < chunk → cellAt (now (cells .exit)) p e ≡ cellAt (now (cells .entry)) p e) ⌝ }
 {
     let mut made = [0u8; CHUNK];
-    join(&mut made, pairs, first, last, q);
+    join(&mut made, quads, h, first, last, q);
     let from = at * CHUNK;
     copy_front(&mut cells[from..from + CHUNK], &made, 0, CHUNK);
 }
@@ -160,28 +195,30 @@ fn put_chunk(cells: &mut [u8], at: usize, pairs: &[u16], first: &[u8], last: &[u
 // Matrix i of m: a chunk in each sixteen rows below `count`.
 fn put_chunks(
     cells: &mut [u8],
-    pairs: &[u16],
+    quads: &[u32],
+    h: usize,
     first: &[u8],
     last: &[u8],
     m: usize,
     i: usize,
     count: usize,
 )
-    requires { ⌜ (i < m) × (count * m * chunk ≤ length (now cells)) × (count * 16 ≤ length (now pairs)) × (count * 16 ≤ length (now first)) × (count * 16 ≤ length (now last)) ⌝ }
-    ensures { λ _. ⌜ Put m i (now (pairs .entry)) (now (first .entry)) (now (last .entry)) count (now (cells .exit)) ⌝ }
+    requires { ⌜ (i < m) × (h < 2) × (count * m * chunk ≤ length (now cells)) × (count * 16 ≤ length (now quads)) × (count * 16 ≤ length (now first)) × (count * 16 ≤ length (now last)) ⌝ }
+    ensures { λ _. ⌜ Put m i (now (quads .entry)) h (now (first .entry)) (now (last .entry)) count (now (cells .exit)) ⌝ }
     ensures { λ _. ⌜ Kept m i (now (cells .entry)) (now (cells .exit)) ⌝ }
 {
     let mut q = 0;
     while q < count {
-        put_chunk(cells, q * m + i, pairs, first, last, q);
+        put_chunk(cells, q * m + i, quads, h, first, last, q);
         q += 1;
     }
 }
 
-// Panel `panel` of a matrix, as the i-th of m. The lent buffers are for what is made on the way.
+// Panels `panel` and panel + 1 of a matrix, as the i-th of m. The lent buffers are for what is made on the way.
 pub fn load_matrix(
     cells: &mut [u8],
-    pairs: &mut [u16],
+    after: &mut [u8],
+    quads: &mut [u32],
     first: &mut [u8],
     last: &mut [u8],
     matrix: &[u8],
@@ -191,19 +228,23 @@ pub fn load_matrix(
     m: usize,
     i: usize,
 )
-    requires { ⌜ (width ≡ bytesFor n) × (n ≤ 160) × (length (now matrix) ≡ n * width) × (panel * 16 < n) × (i < m) × ((panel + 1) * m * chunk ≤ length (now cells)) × (length (now pairs) ≡ 160) × (length (now first) ≡ 160) × (length (now last) ≡ 160) ⌝ }
+    requires { ⌜ (width ≡ bytesFor n) × (n ≤ 160) × (length (now matrix) ≡ n * width) × (panel * 16 < n) × (panel < 9) × (i < m) × ((panel + 1) * m * chunk ≤ length (now cells)) × ((panel + 2) * m * chunk ≤ length (now after)) × (length (now quads) ≡ 160) × (length (now first) ≡ 160) × (length (now last) ≡ 160) ⌝ }
     ensures { λ _. ⌜ FoldedAt n width m i (now (matrix .entry)) panel (now (cells .exit)) ⌝ }
+    ensures { λ _. ⌜ FoldedAt n width m i (now (matrix .entry)) (panel + 1) (now (after .exit)) ⌝ }
     ensures { λ _. ⌜ Kept m i (now (cells .entry)) (now (cells .exit)) ⌝ }
+    ensures { λ _. ⌜ Kept m i (now (after .entry)) (now (after .exit)) ⌝ }
 {
-    let col = panel * 2;
     gather(
-        pairs,
+        quads,
         matrix,
         width,
-        col,
-        least(panel * SIXTEEN + SIXTEEN, n),
+        panel * 2,
+        least(panel * SIXTEEN + 2 * SIXTEEN, n),
     );
-    reflect(first, matrix, n, width, col);
-    reflect(last, matrix, n, width, col + 1);
-    put_chunks(cells, pairs, first, last, m, i, panel + 1);
+    reflect(first, matrix, n, width, panel * 2);
+    reflect(last, matrix, n, width, panel * 2 + 1);
+    put_chunks(cells, quads, 0, first, last, m, i, panel + 1);
+    reflect(first, matrix, n, width, panel * 2 + 2);
+    reflect(last, matrix, n, width, panel * 2 + 3);
+    put_chunks(after, quads, 1, first, last, m, i, panel + 2);
 }

@@ -1,10 +1,10 @@
--- `batching::forms::add_panel` meets its contract: the cells, their stacks and sides, from zeros, and the columns of these.
+-- `batching::forms::add_panel` meets its contract: the stacks and sides of the cells, from zeros, and the columns of these.
 -- Assumes nothing.
 use borrow.Author.Needs.{needs}
 use Prim.Native.Nat.{ℕ, zero, suc, _+_, _*_, _-_, _/_, _%_, _≤_, _<_}
 use mathlib.Core.List.{List}
 use mathlib.Core.Path.{_≡_, refl, sym, ap, ap₂, _∙_}
-use native.Mathlib.Nat.{mul-assoc, mul-le-mul}
+use native.Mathlib.Nat.{mul-le-mul}
 use native.Mathlib.Omega.{arith}
 use denote.Ref.{now}
 use lib.ListN.{length, replicate}
@@ -14,6 +14,7 @@ use Rattle.strings.proofs.SumLaws.{sum-same}
 use Rattle.lanes.specs.Lanes.{laneAt}
 use Rattle.chunks.specs.Chunks.{chunk}
 use Rattle.choices.specs.Entries.{Chosen}
+use Rattle.folds.specs.Folds.{Folded}
 use Rattle.columns.specs.Stacks.{product, foldOf}
 use Rattle.batching.specs.Batched.{most, cellSum, leftSum}
 use Rattle.batching.proofs.FormLaws.{product-scale}
@@ -33,12 +34,6 @@ fit J n m l h k i e =
     let room : m * chunk ≤ 5120 = omega arith in
     omega (arith, mul-le-mul few room)
 
-load-panel-requires : tie.Need-load-panel-requires
-load-panel-requires c κs =
-    let a = c .before .before .before .before .before .before .before .before .before .before .before .args in
-    let pre = c .before .before .before .before .before .before .before .before .before .before .before .pre .0 in
-    (pre .5, pre .6, pre .8, pre .14, pre .4, rw (mul-assoc (a .panel + 1) (a .m) chunk) (fit (a .panel) (a .n) (a .m) (length (now (a .cells))) (pre .14) (pre .6) (pre .8) (pre .2)))
-
 slice-aggregate-collect : tie.Need-slice-aggregate-collect
 slice-aggregate-collect c = search needs
 
@@ -47,11 +42,10 @@ slice-aggregate-collect-2 c = search needs
 
 collect-requires : tie.Need-collect-requires
 collect-requires c κs =
-    let a = c .before .before .before .before .before .before .before .before .before .before .before .before .before .before .before .before .before .before .args in
-    let pre = c .before .before .before .before .before .before .before .before .before .before .before .before .before .before .before .before .before .before .pre .0 in
-    let more = c .before .before .before .before .before .before .before .before .before .before .before .before .before .before .before .before .before .before .pre .1 in
-    let loaded = c .before .before .before .before .before .before .load-panel in
-    (omega (arith, pre .10), omega (arith, pre .10), pre .3, omega (arith, loaded .kept .0, fit (a .panel) (a .n) (a .m) (length (now (a .cells))) (pre .14) (pre .6) (pre .8) (pre .2)), omega (arith, pre .14, pre .6), pre .7, pre .8, pre .9, pre .10, pre .11, pre .12, more .0, more .1, λ off k hk. more .6 k hk ∙ ap (λ x. x * 255) (more .7 off k))
+    let a = c .before .before .before .before .before .before .before .before .before .before .before .before .args in
+    let pre = c .before .before .before .before .before .before .before .before .before .before .before .before .pre .0 in
+    let more = c .before .before .before .before .before .before .before .before .before .before .before .before .pre .1 in
+    (omega (arith, pre .8), omega (arith, pre .8), pre .2, fit (a .panel) (a .n) (a .m) (length (now (a .cells))) (pre .12) (pre .4) (pre .6) (pre .3), omega (arith, pre .12, pre .4), pre .5, pre .6, pre .7, pre .8, pre .9, pre .10, more .0, more .1, λ off k hk. more .6 k hk ∙ ap (λ x. x * 255) (more .7 off k))
 
 slice-aggregate-finish : tie.Need-slice-aggregate-finish
 slice-aggregate-finish c = search needs
@@ -61,10 +55,10 @@ slice-aggregate-finish-2 c = search needs
 
 finish-requires : tie.Need-finish-requires
 finish-requires c κs =
-    let pre = c .before .before .before .before .before .before .before .before .before .before .before .before .before .before .before .before .before .before .before .before .before .before .before .before .before .before .before .pre .0 in
-    let more = c .before .before .before .before .before .before .before .before .before .before .before .before .before .before .before .before .before .before .before .before .before .before .before .before .before .before .before .pre .1 in
+    let pre = c .before .before .before .before .before .before .before .before .before .before .before .before .before .before .before .before .before .before .before .before .before .pre .0 in
+    let more = c .before .before .before .before .before .before .before .before .before .before .before .before .before .before .before .before .before .before .before .before .before .pre .1 in
     let collected = c .before .before .before .before .before .before .before .before .collect in
-    (pre .0, pre .1, pre .10, omega (arith, pre .10, collected .kept .0), omega (arith, pre .10, collected .kept .1 .0), pre .13, omega (arith, pre .14, pre .6, more .2), more .3, pre .6)
+    (pre .0, pre .1, pre .8, omega (arith, pre .8, collected .kept .0), omega (arith, pre .8, collected .kept .1 .0), pre .11, omega (arith, pre .12, pre .4, more .2), more .3, pre .4)
 
 same-length : tie.Need-same-length
 same-length c = search needs
@@ -75,59 +69,53 @@ same-length-2 c = search needs
 same-length-3 : tie.Need-same-length-3
 same-length-3 c = search needs
 
-same-length-4 : tie.Need-same-length-4
-same-length-4 c = search needs
-
 returns : tie.Need-returns
 returns c =
-    let a = c .before .before .before .before .before .before .before .before .before .before .before .before .before .before .before .before .before .before .before .before .before .before .before .before .before .before .before .before .before .before .before .before .args in
-    let pre = c .before .before .before .before .before .before .before .before .before .before .before .before .before .before .before .before .before .before .before .before .before .before .before .before .before .before .before .before .before .before .before .before .pre .0 in
-    let more = c .before .before .before .before .before .before .before .before .before .before .before .before .before .before .before .before .before .before .before .before .before .before .before .before .before .before .before .before .before .before .before .before .pre .1 in
-    let loaded = c .before .before .before .before .before .before .before .before .before .before .before .before .before .before .before .before .before .before .before .before .load-panel in
+    let a = c .before .before .before .before .before .before .before .before .before .before .before .before .before .before .before .before .before .before .before .before .before .before .before .before .before .before .args in
+    let pre = c .before .before .before .before .before .before .before .before .before .before .before .before .before .before .before .before .before .before .before .before .before .before .before .before .before .before .pre .0 in
+    let more = c .before .before .before .before .before .before .before .before .before .before .before .before .before .before .before .before .before .before .before .before .before .before .before .before .before .before .pre .1 in
     let collected = c .before .before .before .before .before .before .before .before .before .before .before .before .before .collect in
     let finished = c .before .before .before .before .finish in
     let T = now (a .table) in
     let xs = now (a .xs) in
     let J = a .panel in
-    let cells = loaded .last .0 in
-    let size = a .n * a .width in
-    let gone : (e ρ : ℕ) → a .n ≤ ρ → laneAt T ρ e ≡ 0 = λ e ρ h. lane-past T (a .n) ρ e (pre .13) h in
-    let column : (χ : List ℕ) (e s : ℕ) → ((k : ℕ) → byteAt χ k < 256) → ((r : ℕ) → r < a .tau * 8 → Chosen χ (a .m) (a .count) (now (a .words)) r) → e < a .tau → s < 16 → J * 16 + s < a .n
-    → foldOf 15 (collected .last .0) e (s / 8) (s % 8) ≡ leftSum (a .width) size (a .m) (now (a .a)) χ e (λ ρ. laneAt T ρ e) J (J * 16 + s) =
-    λ χ e s small chosen he hs col.
-    fold-is (a .n) (a .width) (a .m) (now (a .a)) χ cells e J (loaded .ensures) (λ ρ. laneAt T ρ e) (gone e) 15 (collected .last .0) s hs col
+    let cells = now (a .cells) in
+    let gone : (e ρ : ℕ) → a .n ≤ ρ → laneAt T ρ e ≡ 0 = λ e ρ h. lane-past T (a .n) ρ e (pre .11) h in
+    let column : (A χ : List ℕ) (w e s : ℕ) → Folded (a .n) w (a .m) A J cells → ((k : ℕ) → byteAt χ k < 256) → ((r : ℕ) → r < a .tau * 8 → Chosen χ (a .m) (a .count) (now (a .words)) r) → e < a .tau → s < 16 → J * 16 + s < a .n
+    → foldOf 15 (collected .last .0) e (s / 8) (s % 8) ≡ leftSum w (a .n * w) (a .m) A χ e (λ ρ. laneAt T ρ e) J (J * 16 + s) =
+    λ A χ w e s folded small chosen he hs col.
+    fold-is (a .n) w (a .m) A χ cells e J folded (λ ρ. laneAt T ρ e) (gone e) 15 (collected .last .0) s hs col
     (λ f hf.
     collected .ensures .0 χ e (s / 8) f (s % 8) small chosen he (omega arith) hf
     ∙ ap (λ (x : ℕ). bitXor x (xorSum (J + 1) (λ q. product (byteAt (now (a .vectors)) (e * most + (q * 16 + f))) (cellSum cells (a .m) χ e q (s / 8 * 16 + f) (s % 8))))) (stack-none 15 (replicate 23040 0) e (s / 8 * 16 + f) (s % 8) (zeros 23040))
     ∙ xor-zero-l _
-    ∙ sum-same (J + 1) _ _ (λ q hq. ap (λ (x : ℕ). product x (cellSum cells (a .m) χ e q (s / 8 * 16 + f) (s % 8))) (more .5 e (q * 16 + f) he (omega (arith, pre .14, pre .6))))) in
-    let beside : (χ : List ℕ) (e s : ℕ) → ((k : ℕ) → byteAt χ k < 256) → ((r : ℕ) → r < a .tau * 8 → Chosen χ (a .m) (a .count) (now (a .words)) r) → e < a .tau → s < 16 → J * 16 + s < a .n
-    → foldOf 8 (collected .last .1 .0) e (s / 8) (s % 8) ≡ leftSum (a .width) size (a .m) (now (a .a)) χ e (byteAt xs) J (J * 16 + s) =
-    λ χ e s small chosen he hs col.
-    fold-is (a .n) (a .width) (a .m) (now (a .a)) χ cells e J (loaded .ensures) (byteAt xs) (more .4) 8 (collected .last .1 .0) s hs col
+    ∙ sum-same (J + 1) _ _ (λ q hq. ap (λ (x : ℕ). product x (cellSum cells (a .m) χ e q (s / 8 * 16 + f) (s % 8))) (more .5 e (q * 16 + f) he (omega (arith, pre .12, pre .4))))) in
+    let beside : (A χ : List ℕ) (w e s : ℕ) → Folded (a .n) w (a .m) A J cells → ((k : ℕ) → byteAt χ k < 256) → ((r : ℕ) → r < a .tau * 8 → Chosen χ (a .m) (a .count) (now (a .words)) r) → e < a .tau → s < 16 → J * 16 + s < a .n
+    → foldOf 8 (collected .last .1 .0) e (s / 8) (s % 8) ≡ leftSum w (a .n * w) (a .m) A χ e (byteAt xs) J (J * 16 + s) =
+    λ A χ w e s folded small chosen he hs col.
+    fold-is (a .n) w (a .m) A χ cells e J folded (byteAt xs) (more .4) 8 (collected .last .1 .0) s hs col
     (λ f hf.
     collected .ensures .1 χ (byteAt xs) e (s / 8) f (s % 8) small chosen (more .3) (more .6) he (omega arith) hf
     ∙ ap (λ (x : ℕ). bitXor x (xorSum (J + 1) (λ q. byteAt xs (q * 16 + f) * cellSum cells (a .m) χ e q (s / 8 * 16 + f) (s % 8)))) (stack-none 8 (replicate 12288 0) e (s / 8 * 16 + f) (s % 8) (zeros 12288))
     ∙ xor-zero-l _
-    ∙ sum-same (J + 1) _ _ (λ q hq. sym (product-scale (byteAt xs (q * 16 + f)) (cellSum cells (a .m) χ e q (s / 8 * 16 + f) (s % 8)) (more .3 (q * 16 + f)) (cell-lt (a .n) (a .width) (a .m) (now (a .a)) χ cells e J (loaded .ensures) small q (s / 8 * 16 + f) (s % 8))))) in (
-      (λ χ e small chosen he.
+    ∙ sum-same (J + 1) _ _ (λ q hq. sym (product-scale (byteAt xs (q * 16 + f)) (cellSum cells (a .m) χ e q (s / 8 * 16 + f) (s % 8)) (more .3 (q * 16 + f)) (cell-lt (a .n) w (a .m) A χ cells e J folded small q (s / 8 * 16 + f) (s % 8))))) in (
+      (λ A χ w e folded small chosen he.
           finished .ensures .0 e he
           ∙ ap (bitXor (byteAt (now (a .quad)) e))
-          (sum-same 16 _ _ (λ s hs. column-is (a .n) (a .width) (a .m) (now (a .a)) χ cells e J (loaded .ensures) (λ ρ. laneAt T ρ e) (gone e) (laneAt T (J * 16 + s) e) (foldOf 15 (collected .last .0) e (s / 8) (s % 8)) (J * 16 + s) (gone e (J * 16 + s)) (column χ e s small chosen he hs)))),
-      (λ χ e small chosen he.
+          (sum-same 16 _ _ (λ s hs. column-is (a .n) w (a .m) A χ cells e J folded (λ ρ. laneAt T ρ e) (gone e) (laneAt T (J * 16 + s) e) (foldOf 15 (collected .last .0) e (s / 8) (s % 8)) (J * 16 + s) (gone e (J * 16 + s)) (column A χ w e s folded small chosen he hs)))),
+      (λ A χ w e folded small chosen he.
           finished .ensures .1 e he
           ∙ ap (bitXor (byteAt (now (a .mid)) e))
           (sum-same 16 _ _ (λ s hs.
           ap₂ bitXor
-          (column-is (a .n) (a .width) (a .m) (now (a .a)) χ cells e J (loaded .ensures) (byteAt xs) (more .4) (laneAt T (J * 16 + s) e) (foldOf 8 (collected .last .1 .0) e (s / 8) (s % 8)) (J * 16 + s) (gone e (J * 16 + s)) (beside χ e s small chosen he hs))
-          (bit-column-is (a .n) (a .width) (a .m) (now (a .a)) χ cells e J (loaded .ensures) (λ ρ. laneAt T ρ e) (gone e) (byteAt xs (J * 16 + s)) (foldOf 15 (collected .last .0) e (s / 8) (s % 8)) (J * 16 + s) (more .3 (J * 16 + s)) (more .4 (J * 16 + s)) (column χ e s small chosen he hs))))),
+          (column-is (a .n) w (a .m) A χ cells e J folded (byteAt xs) (more .4) (laneAt T (J * 16 + s) e) (foldOf 8 (collected .last .1 .0) e (s / 8) (s % 8)) (J * 16 + s) (gone e (J * 16 + s)) (beside A χ w e s folded small chosen he hs))
+          (bit-column-is (a .n) w (a .m) A χ cells e J folded (λ ρ. laneAt T ρ e) (gone e) (byteAt xs (J * 16 + s)) (foldOf 15 (collected .last .0) e (s / 8) (s % 8)) (J * 16 + s) (more .3 (J * 16 + s)) (more .4 (J * 16 + s)) (column A χ w e s folded small chosen he hs))))),
     )
 
 pub add-panel-spec : {M : Type 1} → statement M
 add-panel-spec =
     tie.close
     (tie.spec
-    load-panel-requires
     slice-aggregate-collect
     slice-aggregate-collect-2
     collect-requires
@@ -137,5 +125,4 @@ add-panel-spec =
     same-length
     same-length-2
     same-length-3
-    same-length-4
     returns)

@@ -55,7 +55,7 @@ returns c =
     let fits : at + chunk ≤ length l = omega arith in
     let long : length (take chunk (drop at l)) ≡ chunk = simp (length-take, length-drop) (omega arith) in
     let kept : length r ≡ chunk = rw e at (copy .kept .0) ∙ long in
-    rw e (put-joined (now (a .pairs)) (now (a .first)) (now (a .last)) l r (join .last .0) (a .at) (a .q) fits kept (copy .ensures .0) (join .ensures), put-other (a .at) chunk l r fits kept)
+    rw e (put-joined (now (a .quads)) (a .h) (now (a .first)) (now (a .last)) l r (join .last .0) (a .at) (a .q) fits kept (copy .ensures .0) (join .ensures), put-other (a .at) chunk l r fits kept)
 
 pub put-chunk-spec : {M : Type 1} → statement M
 put-chunk-spec =

@@ -13,10 +13,10 @@ use Rattle.folds.proofs.columns.put_chunks.Statement.{statement}
 use Rattle.folds.proofs.columns.put_chunks.Tie as tie
 
 abbrev Inv-loop : tie.InvT-loop
-Inv-loop cells₀ pairs first last m i count q₀ cells q = (q ≤ count) × (length cells ≡ length cells₀) × Put m i pairs first last q cells × Kept m i cells₀ cells
+Inv-loop cells₀ quads h first last m i count q₀ cells q = (q ≤ count) × (length cells ≡ length cells₀) × Put m i quads h first last q cells × Kept m i cells₀ cells
 
 abbrev μ-loop : tie.MeasureT-loop
-μ-loop cells₀ pairs first last m i count q₀ cells q = count - q
+μ-loop cells₀ quads h first last m i count q₀ cells q = count - q
 
 loop-holds : tie.Need-loop-holds Inv-loop μ-loop
 loop-holds c = (search needs, refl, (λ p f hp hf. absurd (omega arith)), (λ p x e hx other he. refl))
@@ -31,7 +31,7 @@ put-chunk-requires : tie.Need-put-chunk-requires Inv-loop μ-loop
 put-chunk-requires c κs =
     let a = c .before .before .before .before .before .before .before .args in
     let end = row-end (c .before .before .loop .q) (a .count) (a .m) (omega arith) in
-    (omega arith, omega arith, omega arith, omega arith)
+    (omega arith, omega arith, omega arith, omega arith, omega arith)
 
 add-q : tie.Need-add-q Inv-loop μ-loop
 add-q c = search needs
@@ -47,8 +47,8 @@ loop-again c =
     let done = c .before .before .put-chunk in (
       omega arith,
       done .kept .0 ∙ l .inv .1,
-      put-more (a .m) (a .i) (l .q) (now (a .pairs)) (now (a .first)) (now (a .last)) (l .cells) (done .last .0) (start .pre .0) (done .ensures .0) (done .ensures .1) (l .inv .2),
-      kept-more (a .m) (a .i) (l .q) (now (a .pairs)) (now (a .first)) (now (a .last)) (l .cells) (done .last .0) (start .pre .0) (done .ensures .0) (done .ensures .1) (now (a .cells)) (l .inv .3),
+      put-more (a .m) (a .i) (l .q) (a .h) (now (a .quads)) (now (a .first)) (now (a .last)) (l .cells) (done .last .0) (start .pre .0) (done .ensures .0) (done .ensures .1) (l .inv .2),
+      kept-more (a .m) (a .i) (l .q) (a .h) (now (a .quads)) (now (a .first)) (now (a .last)) (l .cells) (done .last .0) (start .pre .0) (done .ensures .0) (done .ensures .1) (now (a .cells)) (l .inv .3),
     )
 
 same-length : tie.Need-same-length Inv-loop μ-loop
