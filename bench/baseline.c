@@ -4,38 +4,44 @@
  * branch and no address that depends on leaves or witness, but for what the answer tells. Nothing here is
  * proved.
  *
- * Lanes. Sixteen repetitions make a group. An element of K for each of the sixteen is one register:
- * eight words of 16 bits, word p being bit p of the sixteen elements. A sum is one exclusive or for the
- * group. At most three groups are needed.
- *
  * Leaf sums. With U_j the sum of the leaves up to j, bit plane p of v is the sum of the U_j where 2^p
  * divides j + 1. Each U_j is added at its highest such p alone, and the planes are added up at the end:
- * two exclusive ors for a leaf.
+ * two exclusive ors for a leaf. The elements of v, a byte for each coordinate, are the planes turned.
  *
- * Forms. v^T A v depends on A only through its upper triangle with the lower one folded onto it, so
- * each matrix is cut into 8 x 8 blocks and folded. A row's sum is looked up, four coordinates at a
- * time, in a table of the sixteen sums of these, indexed by the row, which is public. The products of
- * eight rows' sums with v are taken at once, by Karatsuba on the planes: 27 ands, added up over all
- * rows; they are joined and reduced once for each equation. The witness test and g = A x + A^T x + b
- * come from the same blocks, and a1 = g v is a masked sum.
+ * Hash. A row of hash_matrix is public: four coordinates at a time are looked up in a table of their sixteen
+ * sums, the bytes of all repetitions side by side.
+ *
+ * Forms. The matrices are summed first: sum_i chi(e, i) v^T A_i v = v^T B v with B = sum_i chi(e, i) A_i. Each bit
+ * plane of B is a sum of matrices that bits of chi choose, which are public: five equations at a time are
+ * looked up in a table of their 32 sums. v^T A v depends on A only through A + A^T and the diagonal, so each
+ * matrix is folded, by squares of sixteen: square (q, J), q < J, gets the transpose of square (J, q). A
+ * square is two registers, each a byte column of sixteen rows. The eight planes of a square of B, masked by the bits
+ * of v at its rows, are added to a stack of 15 planes for each repetition. When a panel of sixteen columns is done,
+ * the rows of the stack are added up, and it is reduced: then v^T B is eight planes of bits, as v is. So are the
+ * sums of chi(e, i) times g_i = A_i x + A_i^T x + b_i, which one more table gives. Both are multiplied with v by
+ * Karatsuba on the planes. g_i and the witness test are made of the squares as these are folded.
+ *
+ * What a look-up costs is its two loads, and the machine has time for little else beside them. So there are two
+ * tables, each for half of the equations, and one is filled while the other is in use.
  *
  * Verifier. With 0 for the leaf that is not opened, W = v + delta (u + C), so K = v + delta (u + C + d), made
- * on the bit planes; then lanes, table and forms are the prover's, with K for v. The hash of W is that of K
- * plus delta H' d, which goes over to u~. Nothing is secret there.
+ * on the bit planes; then all is as in the prover, with K for v and b_i for g_i. y_i is one more coordinate of b_i,
+ * at which K has delta. The hash of W is that of K plus delta H' d, which goes over to u~. Nothing is secret there.
  */
 #include <emmintrin.h>
 
 #include "form.h"
 
 #define INLINE static inline __attribute__((always_inline))
+#define NOINLINE __attribute__((noinline)) /* what it has on the stack goes with it */
 
 enum {
-    GROUP = 16,
-    MAX_GROUPS = MQ_MAX_REPETITIONS / GROUP,
+    STRIDE = 48, /* a leaf has at most 41 bytes: three registers */
+    LANES = MQ_MAX_REPETITIONS,
     MAX_ROW = MQ_STRING_SIZE(MQ_MAX_VARIABLES),
     MAX_HASH_ROW = MQ_STRING_SIZE(MQ_MAX_VARIABLES + MQ_FIELD_DEGREE),
-    STRIDE = 48, /* a leaf has at most 41 bytes: three registers */
-    MAX_ROWS = 8, /* looked up together, so that their sums stay in registers */
+    PANELS = MQ_MAX_VARIABLES / 16,
+    FIVES = MQ_MAX_EQUATIONS / 5,
     PRODUCTS = 27
 };
 
@@ -121,7 +127,7 @@ static void sum_leaves(const uint8_t *leaves, size_t w, size_t missing, struct s
     sum_sixteen(leaves, w, &patch, sums, w - 16);
 }
 
-/* ---- Lanes -------------------------------------------------------------------------------- */
+/* ---- Turns -------------------------------------------------------------------------------- */
 
 /* Byte i of row j becomes byte j of row i. */
 INLINE void transpose_bytes(reg r[16])
@@ -157,55 +163,61 @@ INLINE void transpose_words(const reg in[8], reg out[8])
     }
 }
 
-/* Bit c of byte r becomes bit r of byte c, in each half of the register. */
-INLINE reg transpose_bits(reg x)
+/* Exchanges the bits of a under the mask, moved up, with those of b under the mask. */
+#define EXCHANGE(a, b, shift, mask) \
+    do { \
+        const reg t = and(xor(_mm_srli_epi16(a, shift), b), _mm_set1_epi8(mask)); \
+        b = xor(b, t); \
+        a = xor(a, shift == 1 ? _mm_add_epi8(t, t) : _mm_slli_epi16(t, shift)); \
+    } while (0)
+
+/* Eight rows of 128 bits: column c becomes byte c, with bit i from row i. */
+INLINE void turn(reg r[8])
 {
-    reg s = and(xor(x, _mm_srli_epi64(x, 7)), _mm_set1_epi64x(0x00AA00AA00AA00AA));
-    x = xor(xor(x, s), _mm_slli_epi64(s, 7));
-    s = and(xor(x, _mm_srli_epi64(x, 14)), _mm_set1_epi64x(0x0000CCCC0000CCCC));
-    x = xor(xor(x, s), _mm_slli_epi64(s, 14));
-    s = and(xor(x, _mm_srli_epi64(x, 28)), _mm_set1_epi64x(0x00000000F0F0F0F0));
-    return xor(xor(x, s), _mm_slli_epi64(s, 28));
+    reg s[8];
+    for (int i = 0; i < 4; i++)
+        EXCHANGE(r[i], r[i + 4], 4, 0x0F);
+    for (int i = 0; i < 8; i += 4)
+        for (int j = i; j < i + 2; j++)
+            EXCHANGE(r[j], r[j + 2], 2, 0x33);
+    for (int i = 0; i < 8; i += 2)
+        EXCHANGE(r[i], r[i + 1], 1, 0x55);
+    for (int i = 0; i < 4; i++) {
+        s[2 * i] = _mm_unpacklo_epi8(r[i], r[i + 4]);
+        s[2 * i + 1] = _mm_unpackhi_epi8(r[i], r[i + 4]);
+    }
+    for (int i = 0; i < 4; i++) {
+        r[2 * i] = _mm_unpacklo_epi8(s[i], s[i + 4]);
+        r[2 * i + 1] = _mm_unpackhi_epi8(s[i], s[i + 4]);
+    }
+    for (int i = 0; i < 4; i++) {
+        s[2 * i] = _mm_unpacklo_epi8(r[i], r[i + 4]);
+        s[2 * i + 1] = _mm_unpackhi_epi8(r[i], r[i + 4]);
+    }
+    for (int i = 0; i < 8; i++)
+        r[i] = s[i];
 }
 
-/* The sixteen elements of a group, as bytes. */
-INLINE reg lanes_to_bytes(reg lanes)
+/* Byte i of the answer is the sum of the bytes of row i. */
+INLINE reg add_up(const reg r[16])
 {
-    return transpose_bits(_mm_packus_epi16(and(lanes, _mm_set1_epi16(0xFF)), _mm_srli_epi16(lanes, 8)));
+    reg a[8], b[4], c[2];
+    for (int i = 0; i < 8; i++)
+        a[i] = xor(_mm_unpacklo_epi8(r[2 * i], r[2 * i + 1]), _mm_unpackhi_epi8(r[2 * i], r[2 * i + 1]));
+    for (int i = 0; i < 4; i++)
+        b[i] = xor(_mm_unpacklo_epi16(a[2 * i], a[2 * i + 1]), _mm_unpackhi_epi16(a[2 * i], a[2 * i + 1]));
+    for (int i = 0; i < 2; i++)
+        c[i] = xor(_mm_unpacklo_epi32(b[2 * i], b[2 * i + 1]), _mm_unpackhi_epi32(b[2 * i], b[2 * i + 1]));
+    return xor(_mm_unpacklo_epi64(c[0], c[1]), _mm_unpackhi_epi64(c[0], c[1]));
 }
 
-/* Lane e of so many, its bit planes given as bits: planes[p] is the sixteen bytes over e at plane p.
- * Writes the lanes of the eight coordinates of these bytes, `groups` registers apart. */
-INLINE void put_lanes(reg at[8], reg *lanes, size_t groups)
+/* The parity of each byte, as a bit. */
+INLINE unsigned parities(reg x)
 {
-    uint16_t words[8][8];
-    for (int bit = 7; bit >= 0; bit--)
-        for (int p = 0; p < 8; p++) {
-            words[bit][p] = (uint16_t)_mm_movemask_epi8(at[p]);
-            at[p] = _mm_add_epi8(at[p], at[p]);
-        }
-    for (int bit = 0; bit < 8; bit++)
-        lanes[(size_t)bit * groups] = load(words[bit]);
-}
-
-/* The lanes of v for each coordinate, group after group. */
-static void make_lanes(const struct sums *sums, size_t tau, size_t w, size_t groups, reg *lanes)
-{
-    for (size_t g = 0; g < groups; g++)
-        for (size_t at = 0; at < w; at += 16) {
-            reg r[8][16];
-            for (size_t p = 0; p < 8; p++) {
-                for (size_t e = 0; e < GROUP; e++)
-                    r[p][e] = GROUP * g + e < tau ? load(sums[GROUP * g + e].plane[p] + at) : _mm_setzero_si128();
-                transpose_bytes(r[p]);
-            }
-            for (size_t b = 0; b < 16 && at + b < w; b++) {
-                reg planes[8];
-                for (size_t p = 0; p < 8; p++)
-                    planes[p] = r[p][b];
-                put_lanes(planes, lanes + 8 * (at + b) * groups + g, groups);
-            }
-        }
+    x = xor(x, _mm_slli_epi16(x, 4));
+    x = xor(x, _mm_slli_epi16(x, 2));
+    x = xor(x, _mm_slli_epi16(x, 1));
+    return (unsigned)_mm_movemask_epi8(x);
 }
 
 /* ---- Products ----------------------------------------------------------------------------- */
@@ -227,14 +239,10 @@ INLINE void karatsuba_sums(const reg plane[8], reg out[PRODUCTS])
     }
 }
 
-/* Which of these sums is plane p alone. */
-static const uint8_t alone[8] = { 0, 1, 3, 4, 9, 10, 12, 13 };
-
-/* Adds the products of eight rows of lanes with eight others, whose sums of planes are given. */
-INLINE void add_products(reg acc[PRODUCTS], const reg factor[PRODUCTS], const reg rows[8])
+/* Adds the products of planes with others, whose sums are given. */
+INLINE void add_products(reg acc[PRODUCTS], const reg factor[PRODUCTS], const reg plane[8])
 {
-    reg plane[8], sum[PRODUCTS];
-    transpose_words(rows, plane);
+    reg sum[PRODUCTS];
     karatsuba_sums(plane, sum);
     for (int i = 0; i < PRODUCTS; i++)
         acc[i] = xor(acc[i], and(sum[i], factor[i]));
@@ -252,16 +260,8 @@ INLINE void join(const reg *low, const reg *high, const reg *sums, int len, reg 
     }
 }
 
-/* Adds up the words of each plane: word p of the answer is the sum over plane p. */
-INLINE reg fold_words(const reg plane[8])
-{
-    reg row[8];
-    transpose_words(plane, row);
-    return xor(xor(xor(row[0], row[1]), xor(row[2], row[3])), xor(xor(row[4], row[5]), xor(row[6], row[7])));
-}
-
-/* The lanes that the added products come to. */
-INLINE reg finish(const reg acc[PRODUCTS])
+/* The planes of the added products. */
+INLINE void finish(const reg acc[PRODUCTS], reg plane[8])
 {
     reg two[9][3], four[3][7], all[15];
     for (int i = 0; i < 9; i++)
@@ -275,226 +275,24 @@ INLINE reg finish(const reg acc[PRODUCTS])
         all[i - 5] = xor(all[i - 5], all[i]);
         all[i - 4] = xor(all[i - 4], all[i]);
     }
-    return fold_words(all);
+    for (int i = 0; i < 8; i++)
+        plane[i] = all[i];
 }
 
-/* The lanes of alpha^s v[n + s], summed: by Horner, a product with alpha being one step of the planes. */
-static reg mask_lanes(const reg *lanes, size_t n, size_t groups, size_t g)
+/* Adds X^8 times seven words, each a plane, to eight, and reduces. */
+INLINE reg reduce_words(reg low, reg high)
 {
-    const reg taps = _mm_setr_epi16(-1, -1, 0, -1, -1, 0, 0, 0);
-    reg sum = _mm_setzero_si128();
-    for (int s = MQ_FIELD_DEGREE - 1; s >= 0; s--) {
-        reg top = _mm_srli_si128(sum, 14);
-        top = _mm_shuffle_epi32(_mm_shufflelo_epi16(top, 0), 0);
-        sum = xor(_mm_slli_si128(sum, 2), and(top, taps));
-        sum = xor(sum, lanes[(n + (size_t)s) * groups + g]);
-    }
-    return sum;
+    const reg over = xor(_mm_srli_si128(high, 8), _mm_srli_si128(high, 10));
+    high = xor(high, over);
+    low = xor(low, xor(high, _mm_slli_si128(high, 2)));
+    return xor(low, xor(_mm_slli_si128(high, 6), _mm_slli_si128(high, 8)));
 }
 
-/* ---- Tables ------------------------------------------------------------------------------- */
+/* ---- What the steps work on --------------------------------------------------------------- */
 
-/* For each four coordinates the sixteen sums of them, a sum being one register for each group. */
-struct table {
-    reg sum[2 * MAX_HASH_ROW * 16 * MAX_GROUPS];
-};
-
-static void make_table(const reg *lanes, size_t bytes, size_t groups, struct table *table)
-{
-    for (size_t q = 0; q < 2 * bytes; q++) {
-        reg *sum = table->sum + 16 * q * groups;
-        for (size_t g = 0; g < groups; g++)
-            sum[g] = _mm_setzero_si128();
-        for (size_t s = 0; s < 4; s++)
-            for (size_t v = 0; v < (size_t)1 << s; v++)
-                for (size_t g = 0; g < groups; g++)
-                    sum[(v + ((size_t)1 << s)) * groups + g] = xor(sum[v * groups + g], lanes[(4 * q + s) * groups + g]);
-    }
-}
-
-/* For `rows` public rows together, adds to each group the sum over the coordinates that are set in the row,
- * from byte `from` to byte `to`. Byte b of row r stands at b * step + r. */
-INLINE void look_up(const struct table *table, const uint8_t *bytes, size_t step, size_t from, size_t to,
-                    size_t rows, size_t groups, reg *sum)
-{
-    const uint8_t *at = (const uint8_t *)(table->sum + 32 * from * groups);
-    reg s[MAX_ROWS * MAX_GROUPS];
-    for (size_t i = 0; i < rows * groups; i++)
-        s[i] = sum[i];
-    for (size_t b = from; b < to; b++, at += 32 * 16 * groups)
-        for (size_t r = 0; r < rows; r++) {
-            const size_t x = bytes[b * step + r];
-            const reg *low = (const reg *)(at + (x & 15) * 16 * groups);
-            const reg *high = (const reg *)(at + 16 * 16 * groups + (x & 0xF0) * groups);
-            for (size_t g = 0; g < groups; g++)
-                s[r * groups + g] = xor(s[r * groups + g], xor(low[g], high[g]));
-        }
-    for (size_t i = 0; i < rows * groups; i++)
-        sum[i] = s[i];
-}
-
-/* ---- Equations ---------------------------------------------------------------------------- */
-
-/* A matrix in 8 x 8 blocks, byte r of a block being its row r; a copy of the matrix with room to read past it. */
-struct blocks {
-    uint64_t block[MAX_ROW + 1][MAX_ROW];
-    uint8_t copy[MQ_MAX_VARIABLES * MAX_ROW + 8 * MAX_ROW + 32];
-};
-
-/* Cuts up to sixteen columns of bytes of eight rows into blocks. */
-INLINE void cut(const uint8_t *rows, size_t row, int columns, uint64_t *block)
-{
-    reg r[8], s[8];
-    for (size_t i = 0; i < 8; i++)
-        r[i] = load(rows + i * row);
-    for (int i = 0; i < 4; i++) {
-        s[2 * i] = _mm_unpacklo_epi8(r[i], r[i + 4]);
-        s[2 * i + 1] = _mm_unpackhi_epi8(r[i], r[i + 4]);
-    }
-    for (int i = 0; i < 4; i++) {
-        r[2 * i] = _mm_unpacklo_epi8(s[i], s[i + 4]);
-        r[2 * i + 1] = _mm_unpackhi_epi8(s[i], s[i + 4]);
-    }
-    for (int i = 0; i < columns / 4; i++) {
-        store(block + 4 * i, _mm_unpacklo_epi8(r[i], r[i + 4]));
-        store(block + 4 * i + 2, _mm_unpackhi_epi8(r[i], r[i + 4]));
-    }
-}
-
-/* The matrix in blocks. What lies past its last row and column is not zero, but is not used either, or is
- * zero in the copy. */
-static void cut_matrix(const uint8_t *matrix, size_t n, size_t row, struct blocks *blocks)
-{
-    memcpy(blocks->copy, matrix, n * row);
-    for (size_t R = 0; R < row; R++) {
-        cut(blocks->copy + 8 * R * row, row, 16, blocks->block[R]);
-        if (row > 16)
-            cut(blocks->copy + 8 * R * row + 16, row, MAX_ROW - 16, blocks->block[R] + 16);
-    }
-}
-
-/* Folds the lower triangle onto the upper: block (R, C) gets the transpose of block (C, R), R < C. */
-static void fold_matrix(size_t row, struct blocks *blocks)
-{
-    const reg upper = _mm_set1_epi64x((long long)0x80C0E0F0F8FCFEFF);
-    for (size_t C = 0; C < row; C++) {
-        for (size_t R = 0; R < C; R += 2) {
-            reg turned = transpose_bits(load(blocks->block[C] + R));
-            reg there = _mm_unpacklo_epi64(_mm_loadl_epi64((reg *)&blocks->block[R][C]),
-                                           _mm_loadl_epi64((reg *)&blocks->block[R + 1][C]));
-            reg both = xor(there, turned);
-            _mm_storel_epi64((reg *)&blocks->block[R][C], both);
-            if (R + 1 < C)
-                _mm_storel_epi64((reg *)&blocks->block[R + 1][C], _mm_srli_si128(both, 8));
-        }
-        reg x = _mm_loadl_epi64((reg *)&blocks->block[C][C]);
-        x = xor(and(x, upper), transpose_bits(_mm_andnot_si128(upper, x)));
-        _mm_storel_epi64((reg *)&blocks->block[C][C], x);
-    }
-}
-
-/* The witness, as masks for the blocks: each byte eight times, and each bit as a byte. */
-struct masks {
-    uint64_t byte[MAX_ROW], bits[MAX_ROW];
-};
-
-static void make_masks(const uint8_t *x, size_t row, struct masks *masks)
-{
-    for (size_t i = 0; i < row; i++) {
-        const uint64_t each = x[i] * UINT64_C(0x0101010101010101);
-        /* Bit r of byte r, moved to the lowest place of its byte, times 255. */
-        const uint64_t bit = ((each & UINT64_C(0x8040201008040201)) + UINT64_C(0x00406070787C7E7F)) >> 7;
-        masks->byte[i] = each;
-        masks->bits[i] = (bit & UINT64_C(0x0101010101010101)) * 255;
-    }
-}
-
-INLINE uint8_t fold_bytes(uint64_t x)
-{
-    x ^= x >> 32;
-    x ^= x >> 16;
-    return (uint8_t)(x ^ x >> 8);
-}
-
-/* The parity of each byte, as the bits of one. */
-INLINE uint8_t parities(uint64_t x)
-{
-    x ^= x >> 4;
-    x ^= x >> 2;
-    x ^= x >> 1;
-    return (uint8_t)(((x & UINT64_C(0x0101010101010101)) * UINT64_C(0x0102040810204080)) >> 56);
-}
-
-/* From the folded matrix: g = A x + A^T x + b. Answers the equation's error. */
-static uint8_t try_witness(const struct key *key, size_t i, const struct blocks *blocks, const uint8_t *x,
-                           const struct masks *masks, uint8_t g[MAX_ROW])
-{
-    const uint8_t *b = key->b + i * key->row;
-    uint64_t down[MAX_ROW] = { 0 };
-    uint8_t error = 0;
-    for (size_t R = 0; R < key->row; R++) {
-        uint64_t across = 0;
-        for (size_t C = R; C < key->row; C++) {
-            across ^= blocks->block[R][C] & masks->byte[C];
-            down[C] ^= blocks->block[R][C] & masks->bits[R];
-        }
-        const uint8_t ax = parities(across);
-        error ^= (ax ^ b[R]) & x[R];
-        g[R] = ax ^ b[R] ^ fold_bytes(down[R]);
-    }
-    return parity(error) ^ (key->y[i / 8] >> i % 8 & 1);
-}
-
-/* The witness test alone, by x^T A: the rows masked by the bits of x, added, and taken with x. */
-static uint8_t equation_error(const struct key *key, size_t i, struct blocks *blocks, const uint8_t *x,
-                              const reg *mask)
-{
-    const uint8_t *b = key->b + i * key->row;
-    uint8_t sum[32], error = 0;
-    reg low = _mm_setzero_si128(), high = low;
-    memcpy(blocks->copy, key->a + i * key->n * key->row, key->n * key->row);
-    const uint8_t *at = blocks->copy;
-    for (size_t r = 0; r < key->n; r++, at += key->row) {
-        low = xor(low, and(mask[r], load(at)));
-        high = xor(high, and(mask[r], load(at + 16)));
-    }
-    store(sum, low);
-    store(sum + 16, high);
-    for (size_t c = 0; c < key->row; c++)
-        error ^= (sum[c] ^ b[c]) & x[c];
-    return parity(error) ^ (key->y[i / 8] >> i % 8 & 1);
-}
-
-/* Question 11, where nothing else is made of the matrices. */
-static uint32_t ask_solves(const struct key *key, const uint8_t *x)
-{
-    struct blocks blocks;
-    reg mask[MQ_MAX_VARIABLES];
-    memset(&blocks, 0, sizeof blocks);
-    for (size_t r = 0; r < key->n; r++)
-        mask[r] = _mm_set1_epi8((char)-(x[r / 8] >> r % 8 & 1));
-    for (size_t i = 0; i < key->m; i++) {
-        uint8_t error = equation_error(key, i, &blocks, x, mask);
-        PUBLISH(error);
-        if (error)
-            return MQ_REFUSED_EQUATION_FAILS * 65536 + (uint32_t)i;
-    }
-    return MQ_ACCEPTED;
-}
-
-/* ---- The three steps, once the form is known ---------------------------------------------- */
-
-/* What the steps work on. */
 struct work {
     struct sums sums[MQ_MAX_REPETITIONS];
-    reg lanes[8 * STRIDE * MAX_GROUPS];
-    struct table table;
 };
-
-static size_t groups_of(const struct key *key)
-{
-    return (key->tau + GROUP - 1) / GROUP;
-}
 
 static void sum_all(const struct key *key, const uint8_t *leaves, struct work *work)
 {
@@ -502,26 +300,33 @@ static void sum_all(const struct key *key, const uint8_t *leaves, struct work *w
         sum_leaves(leaves + e * MQ_FIELD_SIZE * key->w, key->w, NONE, &work->sums[e]);
 }
 
-/* What is looked up, from the sums. */
-static void make_look_up(const struct key *key, size_t bytes, struct work *work)
-{
-    make_lanes(work->sums, key->tau, key->w, groups_of(key), work->lanes);
-    make_table(work->lanes, bytes, groups_of(key), &work->table);
-}
-
+/* All else is made from the sums where it is used. */
 static void make_all(const struct key *key, const uint8_t *leaves, size_t bytes, struct work *work)
 {
+    (void)bytes;
     sum_all(key, leaves, work);
-    make_look_up(key, bytes, work);
 }
+
+/* The elements of v, a byte for each coordinate: those of sixteen bytes of the planes. */
+INLINE void turn_planes(const struct sums *sums, size_t at, reg r[8])
+{
+    for (int p = 0; p < 8; p++)
+        r[p] = load(sums->plane[p] + at);
+    turn(r);
+}
+
+/* ---- Commit and hash ---------------------------------------------------------------------- */
 
 static uint8_t *write_commit(const struct key *key, const struct work *work, const uint8_t *x, uint8_t *out)
 {
     const struct sums *sums = work->sums;
+    uint8_t one[STRIDE];
     out = put_count(out, (key->tau - 1) * key->w);
-    for (size_t e = 1; e < key->tau; e++)
-        for (size_t b = 0; b < key->w; b++)
-            *out++ = sums[e].u[b] ^ sums[0].u[b];
+    for (size_t e = 1; e < key->tau; e++, out += key->w) {
+        for (size_t b = 0; b < STRIDE; b += 16)
+            store(one + b, xor(load(sums[e].u + b), load(sums[0].u + b)));
+        memcpy(out, one, key->w);
+    }
     out = put_count(out, key->row);
     for (size_t b = 0; b < key->row; b++)
         out[b] = x[b] ^ sums[0].u[b];
@@ -529,25 +334,82 @@ static uint8_t *write_commit(const struct key *key, const struct work *work, con
     return out + key->row;
 }
 
+/* The vectors, their coordinates side by side for all repetitions, and for each four coordinates their sixteen
+ * sums. */
+struct table {
+    uint8_t vector[LANES][8 * STRIDE];
+    uint8_t coordinate[8 * STRIDE][LANES];
+    reg sum[2 * MAX_HASH_ROW * 16 * LANES / 16];
+};
+
+INLINE void make_table(const struct key *key, const struct work *work, size_t groups, struct table *table)
+{
+    for (size_t e = 0; e < key->tau; e++)
+        for (size_t at = 0; at < key->w; at += 16) {
+            reg r[8];
+            turn_planes(&work->sums[e], at, r);
+            for (size_t i = 0; i < 8; i++)
+                store(table->vector[e] + 8 * at + 16 * i, r[i]);
+        }
+    for (size_t g = 0; g < groups; g++)
+        for (size_t c = 0; c < key->L; c += 16) {
+            reg r[16];
+            for (size_t e = 0; e < 16; e++)
+                r[e] = 16 * g + e < key->tau ? load(table->vector[16 * g + e] + c) : _mm_setzero_si128();
+            transpose_bytes(r);
+            for (size_t i = 0; i < 16; i++)
+                store(table->coordinate[c + i] + 16 * g, r[i]);
+        }
+    for (size_t q = 0; q < 2 * key->hash_row; q++)
+        for (size_t g = 0; g < groups; g++) {
+            reg *sum = table->sum + 16 * q * groups + g;
+            sum[0] = _mm_setzero_si128();
+            for (size_t s = 0; s < 4; s++)
+                for (size_t v = 0; v < (size_t)1 << s; v++)
+                    sum[(v + ((size_t)1 << s)) * groups] =
+                        xor(sum[v * groups], load(table->coordinate[4 * q + s] + 16 * g));
+        }
+}
+
 INLINE void hash_rows(const struct key *key, const struct work *work, const uint8_t *h, uint8_t *out, size_t groups)
 {
-    for (size_t r = 0; r < key->t; r++, h += key->hash_row) {
-        reg sum[MAX_GROUPS];
-        uint8_t bytes[MQ_MAX_REPETITIONS];
-        for (size_t g = 0; g < groups; g++)
-            sum[g] = work->lanes[(key->k + r) * groups + g];
-        look_up(&work->table, h, 1, 0, key->hash_row, 1, groups, sum);
-        for (size_t g = 0; g < groups; g++)
-            store(bytes + GROUP * g, lanes_to_bytes(sum[g]));
-        for (size_t e = 0; e < key->tau; e++)
-            out[e * key->t + r] = bytes[e];
+    struct table table;
+    make_table(key, work, groups, &table);
+    for (size_t r = 0; r < key->t; r += 16) {
+        const size_t rows = key->t - r < 16 ? key->t - r : 16;
+        reg hashed[LANES / 16][16];
+        for (size_t i = 0; i < rows; i++, h += key->hash_row) {
+            const uint8_t *at = (const uint8_t *)table.sum;
+            reg sum[LANES / 16];
+            for (size_t g = 0; g < groups; g++)
+                sum[g] = load(table.coordinate[key->k + r + i] + 16 * g);
+            for (size_t b = 0; b < key->hash_row; b++, at += 32 * 16 * groups) {
+                const size_t x = h[b];
+                const reg *low = (const reg *)(at + (x & 15) * 16 * groups);
+                const reg *high = (const reg *)(at + 16 * 16 * groups + (x & 0xF0) * groups);
+                for (size_t g = 0; g < groups; g++)
+                    sum[g] = xor(sum[g], xor(low[g], high[g]));
+            }
+            for (size_t g = 0; g < groups; g++)
+                hashed[g][i] = sum[g];
+        }
+        for (size_t g = 0; g < groups; g++) {
+            for (size_t i = rows; i < 16; i++)
+                hashed[g][i] = _mm_setzero_si128();
+            transpose_bytes(hashed[g]);
+            for (size_t e = 0; e < 16 && 16 * g + e < key->tau; e++)
+                if (rows == 16)
+                    store(out + (16 * g + e) * key->t + r, hashed[g][e]);
+                else
+                    memcpy(out + (16 * g + e) * key->t + r, &hashed[g][e], rows);
+        }
     }
 }
 
 /* H v of all repetitions, as the proof has it. */
-static void hash_all(const struct key *key, const struct work *work, const uint8_t *h, uint8_t *out)
+static NOINLINE void hash_all(const struct key *key, const struct work *work, const uint8_t *h, uint8_t *out)
 {
-    switch (groups_of(key)) {
+    switch ((key->tau + 15) / 16) {
     case 1: hash_rows(key, work, h, out, 1); break;
     case 2: hash_rows(key, work, h, out, 2); break;
     default: hash_rows(key, work, h, out, 3);
@@ -578,161 +440,609 @@ static uint8_t *write_hash(const struct key *key, const struct work *work, const
     return out + key->tau * key->t;
 }
 
-/* The forms of one equation: lanes of v^T A v and, where gx is given, of gx v. */
-INLINE void forms(const struct key *key, const struct work *work, const struct blocks *blocks, const uint8_t *gx,
-                  const reg *factors, size_t groups, reg *a0, reg *a1)
-{
-    const reg bits = _mm_setr_epi16(1, 2, 4, 8, 16, 32, 64, 128);
-    const size_t together = groups == 1 ? 8 : groups == 2 ? 4 : 2;
-    reg acc[MAX_GROUPS][PRODUCTS], line[MAX_GROUPS][8];
-    memset(acc, 0, sizeof acc);
-    memset(line, 0, sizeof line);
-    for (size_t R = 0; R < key->row; R++) {
-        const reg set = _mm_cmpeq_epi16(and(_mm_set1_epi16(gx ? gx[R] : 0), bits), bits);
-        reg rows[8 * MAX_GROUPS], own[8];
-        for (size_t i = 0; i < 8 * groups; i++)
-            rows[i] = _mm_setzero_si128();
-        for (size_t r = 0; r < 8; r += together)
-            look_up(&work->table, (const uint8_t *)blocks->block[R] + r, 8, R, key->row, together, groups,
-                    rows + r * groups);
-        for (size_t g = 0; g < groups; g++) {
-            const reg *factor = factors + (R * groups + g) * PRODUCTS;
-            for (size_t r = 0; r < 8; r++)
-                own[r] = rows[r * groups + g];
-            add_products(acc[g], factor, own);
-            for (size_t p = 0; gx && p < 8; p++)
-                line[g][p] = xor(line[g][p], and(factor[alone[p]], set));
-        }
-    }
-    for (size_t g = 0; g < groups; g++) {
-        a0[g] = finish(acc[g]);
-        if (gx)
-            a1[g] = fold_words(line[g]);
-    }
-}
+/* ---- The witness -------------------------------------------------------------------------- */
 
-/* The sums of planes of so many rows of lanes, eight rows together. */
-static void make_factors(const reg *lanes, size_t eights, size_t groups, reg *factors)
-{
-    for (size_t i = 0; i < eights; i++)
-        for (size_t g = 0; g < groups; g++) {
-            reg rows[8], plane[8];
-            for (size_t r = 0; r < 8; r++)
-                rows[r] = lanes[(8 * i + r) * groups + g];
-            transpose_words(rows, plane);
-            karatsuba_sums(plane, factors + (i * groups + g) * PRODUCTS);
-        }
-}
-
-/* The lanes of the batching bytes, for each equation. */
-static void make_batching_lanes(const struct key *key, const uint8_t *batching, size_t groups, reg *lanes)
-{
-    uint8_t copy[MQ_MAX_REPETITIONS * MQ_MAX_EQUATIONS + 16];
-    memcpy(copy, batching, key->tau * key->m);
-    memset(copy + key->tau * key->m, 0, 16);
-    for (size_t g = 0; g < groups; g++)
-        for (size_t i = 0; i < key->m; i += 16) {
-            reg r[16];
-            for (size_t e = 0; e < GROUP; e++)
-                r[e] = GROUP * g + e < key->tau ? load(copy + (GROUP * g + e) * key->m + i) : _mm_setzero_si128();
-            transpose_bytes(r);
-            for (size_t b = 0; b < 16; b++) {
-                uint16_t words[8];
-                for (int p = 7; p >= 0; p--) {
-                    words[p] = (uint16_t)_mm_movemask_epi8(r[b]);
-                    r[b] = _mm_add_epi8(r[b], r[b]);
-                }
-                lanes[(i + b) * groups + g] = load(words);
-            }
-        }
-}
-
-/* Two forms of each equation, times its batching byte, summed: eight equations at a time. */
-struct batch {
-    reg chi[(MQ_MAX_EQUATIONS + 16) * MAX_GROUPS], weights[MAX_ROW * MAX_GROUPS * PRODUCTS];
-    reg sum0[MAX_GROUPS][PRODUCTS], sum1[MAX_GROUPS][PRODUCTS], a0[MAX_GROUPS][8], a1[MAX_GROUPS][8];
+/* As masks: for each row all of a byte, and for each eight columns their byte, sixteen times. */
+struct witness {
+    reg row[PANELS], column[MAX_ROW];
 };
 
-INLINE void start_batch(const struct key *key, const uint8_t *batching, size_t groups, struct batch *batch)
+static void make_witness(const uint8_t *x, size_t row, struct witness *witness)
 {
-    memset(batch->sum0, 0, sizeof batch->sum0);
-    memset(batch->sum1, 0, sizeof batch->sum1);
-    make_batching_lanes(key, batching, groups, batch->chi);
-    make_factors(batch->chi, (key->m + 7) / 8, groups, batch->weights);
-}
-
-INLINE void add_forms(const struct key *key, size_t i, size_t groups, const reg *one0, const reg *one1,
-                      struct batch *batch)
-{
-    if (i % 8 == 0) {
-        memset(batch->a0, 0, sizeof batch->a0);
-        memset(batch->a1, 0, sizeof batch->a1);
-    }
-    for (size_t g = 0; g < groups; g++) {
-        batch->a0[g][i % 8] = one0[g];
-        batch->a1[g][i % 8] = one1[g];
-    }
-    if (i % 8 == 7 || i + 1 == key->m)
-        for (size_t g = 0; g < groups; g++) {
-            const reg *weight = batch->weights + (i / 8 * groups + g) * PRODUCTS;
-            add_products(batch->sum0[g], weight, batch->a0[g]);
-            add_products(batch->sum1[g], weight, batch->a1[g]);
-        }
-}
-
-/* The two sums; the first with the mask. */
-INLINE void finish_batch(const struct key *key, const struct work *work, const struct batch *batch, size_t groups,
-                         uint8_t *sum0, uint8_t *sum1)
-{
-    for (size_t g = 0; g < groups; g++) {
-        const reg mask = mask_lanes(work->lanes, key->n, groups, g);
-        store(sum0 + GROUP * g, lanes_to_bytes(xor(finish(batch->sum0[g]), mask)));
-        store(sum1 + GROUP * g, lanes_to_bytes(finish(batch->sum1[g])));
+    uint8_t bytes[MAX_ROW] = { 0 };
+    memcpy(bytes, x, row);
+    for (size_t i = 0; i < MAX_ROW; i++)
+        witness->column[i] = _mm_set1_epi8((char)bytes[i]);
+    for (size_t q = 0; q < PANELS; q++) {
+        const reg bits = _mm_set1_epi64x((long long)0x8040201008040201);
+        const reg both = _mm_unpacklo_epi64(witness->column[2 * q], witness->column[2 * q + 1]);
+        witness->row[q] = _mm_cmpeq_epi8(and(both, bits), bits);
     }
 }
 
-/* QS0 and QS1 of all repetitions, and question 11 on the way. */
-INLINE uint32_t batch_equations(const struct key *key, const struct work *work, const uint8_t *x,
-                                const uint8_t *batching, size_t groups, uint8_t *qs0, uint8_t *qs1)
-{
-    reg factors[MAX_ROW * MAX_GROUPS * PRODUCTS];
-    struct batch batch;
-    struct blocks blocks;
-    struct masks masks;
-    uint8_t gx[MAX_ROW];
+/* A matrix, with so many bytes that can be read: in the key, or where that ends before, in a copy. */
+enum { MAX_ROOM = MQ_MAX_VARIABLES * MAX_ROW + 32 };
 
-    memset(&blocks, 0, sizeof blocks);
-    make_masks(x, key->row, &masks);
-    make_factors(work->lanes, key->row, groups, factors);
-    start_batch(key, batching, groups, &batch);
+INLINE const uint8_t *matrix_at(const struct key *key, size_t i, size_t room, uint8_t *copy)
+{
+    const uint8_t *at = key->a + i * key->n * key->row, *end = key->y + MQ_STRING_SIZE(key->m);
+    if ((size_t)(end - at) >= room)
+        return at;
+    memcpy(copy, at, key->n * key->row);
+    return copy;
+}
+
+/* Question 11, where nothing else is made of the matrices: by x^T A, the rows masked by the bits of x, added, and
+ * taken with x. Four rows at a time, which have at most 80 bytes; masks and x are 0 past them. */
+static uint32_t ask_solves(const struct key *key, const uint8_t *x)
+{
+    enum { REGS = 4 * MAX_ROW / 16, FOURS = MQ_MAX_VARIABLES / 4 };
+    const size_t four = 4 * key->row, fours = (key->n + 3) / 4, room = fours * four + 16 * REGS;
+    uint8_t copy[MAX_ROOM + 16 * REGS] = { 0 };
+    reg mask[FOURS][REGS], each[REGS];
+    memset(mask, 0, sizeof mask);
+    memset(each, 0, sizeof each);
+    for (size_t r = 0; r < key->n; r++)
+        memset((uint8_t *)mask[r / 4] + r % 4 * key->row, -(x[r / 8] >> r % 8 & 1), key->row);
+    for (size_t f = 0; f < 4; f++)
+        memcpy((uint8_t *)each + f * key->row, x, key->row);
     for (size_t i = 0; i < key->m; i++) {
-        reg one0[MAX_GROUPS], one1[MAX_GROUPS];
-        cut_matrix(key->a + i * key->n * key->row, key->n, key->row, &blocks);
-        fold_matrix(key->row, &blocks);
-        uint8_t error = try_witness(key, i, &blocks, x, &masks, gx);
+        const uint8_t *at = matrix_at(key, i, room, copy);
+        reg sum[REGS], all = _mm_setzero_si128();
+        for (int j = 0; j < REGS; j++)
+            sum[j] = _mm_setzero_si128();
+        for (size_t k = 0; k < fours; k++, at += four)
+            for (int j = 0; j < REGS; j++)
+                sum[j] = xor(sum[j], and(load(at + 16 * j), mask[k][j]));
+        for (int j = 0; j < REGS; j++)
+            all = xor(all, and(sum[j], each[j]));
+        const unsigned bits = parities(all);
+        const uint8_t form = parity((uint8_t)(bits ^ bits >> 8));
+        uint8_t error = form ^ hash_bit(key->b + i * key->row, x, key->row) ^ (key->y[i / 8] >> i % 8 & 1);
         PUBLISH(error);
         if (error)
             return MQ_REFUSED_EQUATION_FAILS * 65536 + (uint32_t)i;
-        forms(key, work, &blocks, gx, factors, groups, one0, one1);
-        add_forms(key, i, groups, one0, one1, &batch);
     }
-    finish_batch(key, work, &batch, groups, qs0, qs1);
     return MQ_ACCEPTED;
 }
 
+/* ---- Folded matrices ---------------------------------------------------------------------- */
+
+/* The panels are folded in three sets, 0 .. 3, 4 .. 7, 8 and 9, so that the stack is not too long. The squares of a
+ * set stand panel by panel, each for all equations; what is past m is 0. */
+enum {
+    MAX_SQUARES = 26,
+    SQUARE = 2 * MQ_MAX_EQUATIONS /* registers */
+};
+
+/* For each equation, as far as it is folded to F: the bits of F x + F^T x, and a register of the parity of x^T F x. */
+struct tried {
+    uint16_t line[MQ_MAX_EQUATIONS][PANELS];
+    reg error[MQ_MAX_EQUATIONS];
+};
+
+/* Eight bytes, and eight others above them. */
+INLINE reg load_two(const uint8_t *low, const uint8_t *high)
+{
+    const __m128 first = _mm_castsi128_ps(_mm_loadl_epi64((const reg *)low));
+    return _mm_castps_si128(_mm_loadh_pi(first, (const __m64 *)high));
+}
+
+/* The squares of panel J that are below the diagonal, turned. */
+INLINE void turn_panel(const uint8_t *matrix, size_t row, size_t J, reg turned[PANELS][2])
+{
+    const uint8_t *at = matrix + 16 * J * row;
+    reg r[8];
+    if (J > 4)
+        for (size_t h = 0; h < 2; h++) {
+            for (size_t i = 0; i < 8; i++)
+                r[i] = load(at + (8 * h + i) * row);
+            turn(r);
+            for (size_t q = 0; q < 8; q++)
+                turned[q][h] = r[q];
+        }
+    else if (J > 0) {
+        for (size_t i = 0; i < 8; i++)
+            r[i] = load_two(at + i * row, at + (8 + i) * row);
+        turn(r);
+        for (size_t q = 0; q < 4; q++) {
+            turned[q][0] = r[q];
+            turned[q][1] = r[q + 4];
+        }
+    }
+    if (J == 9) {
+        for (size_t i = 0; i < 8; i++)
+            r[i] = load_two(at + 16 + i * row, at + 16 + (8 + i) * row);
+        turn(r);
+        turned[8][0] = r[0];
+        turned[8][1] = r[4];
+    }
+}
+
+/* Eight byte columns of sixteen rows. */
+INLINE void gather(const uint8_t *at, size_t row, reg out[8])
+{
+    reg r[8], s[8];
+    for (size_t i = 0; i < 8; i++)
+        r[i] = _mm_unpacklo_epi8(_mm_loadl_epi64((const reg *)(at + i * row)),
+                                 _mm_loadl_epi64((const reg *)(at + (i + 8) * row)));
+    for (int i = 0; i < 4; i++) {
+        s[2 * i] = _mm_unpacklo_epi8(r[i], r[i + 4]);
+        s[2 * i + 1] = _mm_unpackhi_epi8(r[i], r[i + 4]);
+    }
+    for (int i = 0; i < 4; i++) {
+        r[2 * i] = _mm_unpacklo_epi8(s[i], s[i + 4]);
+        r[2 * i + 1] = _mm_unpackhi_epi8(s[i], s[i + 4]);
+    }
+    for (int i = 0; i < 4; i++) {
+        out[2 * i] = _mm_unpacklo_epi8(r[i], r[i + 4]);
+        out[2 * i + 1] = _mm_unpackhi_epi8(r[i], r[i + 4]);
+    }
+}
+
+/* Where the squares of panel J begin in a set whose first panel is `first`. */
+INLINE size_t squares_before(size_t first, size_t J)
+{
+    return J * (J + 1) / 2 - first * (first + 1) / 2;
+}
+
+/* Panels first .. first + count - 1 of a matrix, as equation i. */
+INLINE void fold_matrix(const uint8_t *matrix, size_t row, size_t first, size_t count, size_t panels, size_t i,
+                        reg *cells, const struct witness *witness, struct tried *tried)
+{
+    const size_t end = first + count < panels ? first + count : panels;
+    reg turned[4][PANELS][2], down[16];
+    for (size_t J = first; J < end; J++)
+        turn_panel(matrix, row, J, turned[J - first]);
+    if (tried)
+        for (int k = 0; k < 16; k++)
+            down[k] = _mm_setzero_si128();
+    for (size_t q = 0; q < end; q++) {
+        reg column[8], across = _mm_setzero_si128();
+        gather(matrix + 16 * q * row + 2 * first, row, column);
+        for (size_t k = 0; k < count; k++) {
+            const size_t J = first + k;
+            if (J < q || J >= end)
+                continue;
+            reg *cell = cells + (squares_before(first, J) + q) * SQUARE + 2 * i;
+            reg low = column[2 * k], high = column[2 * k + 1];
+            if (q < J) {
+                low = xor(low, turned[k][q][0]);
+                high = xor(high, turned[k][q][1]);
+            }
+            cell[0] = low;
+            cell[1] = high;
+            if (tried) {
+                down[2 * k] = xor(down[2 * k], and(low, witness->row[q]));
+                down[2 * k + 1] = xor(down[2 * k + 1], and(high, witness->row[q]));
+                across = xor(across, xor(and(low, witness->column[2 * J]), and(high, witness->column[2 * J + 1])));
+            }
+        }
+        if (tried)
+            tried->line[i][q] ^= (uint16_t)parities(across);
+    }
+    if (tried) {
+        const reg sums = add_up(down);
+        uint16_t words[8];
+        store(words, sums);
+        for (size_t J = first; J < end; J++) {
+            const size_t k = J - first;
+            tried->line[i][J] ^= words[k];
+            tried->error[i] = xor(tried->error[i], xor(and(down[2 * k], witness->column[2 * J]),
+                                                       and(down[2 * k + 1], witness->column[2 * J + 1])));
+        }
+    }
+}
+
+INLINE void fold_set(const struct key *key, size_t first, size_t count, reg *cells, uint8_t copy[MAX_ROOM],
+                     const struct witness *witness, struct tried *tried)
+{
+    const size_t panels = (key->n + 15) / 16, room = 16 * panels * key->row + 32;
+    for (size_t i = 0; i < key->m; i++)
+        fold_matrix(matrix_at(key, i, room, copy), key->row, first, count, panels, i, cells, witness, tried);
+}
+
+static NOINLINE void fold_before_4(const struct key *key, reg *cells, uint8_t *copy,
+                                   const struct witness *witness, struct tried *tried)
+{
+    if (tried)
+        fold_set(key, 0, 4, cells, copy, witness, tried);
+    else
+        fold_set(key, 0, 4, cells, copy, NULL, NULL);
+}
+
+static NOINLINE void fold_before_8(const struct key *key, reg *cells, uint8_t *copy,
+                                   const struct witness *witness, struct tried *tried)
+{
+    if (tried)
+        fold_set(key, 4, 4, cells, copy, witness, tried);
+    else
+        fold_set(key, 4, 4, cells, copy, NULL, NULL);
+}
+
+static NOINLINE void fold_before_10(const struct key *key, reg *cells, uint8_t *copy,
+                                    const struct witness *witness, struct tried *tried)
+{
+    if (tried)
+        fold_set(key, 8, 2, cells, copy, witness, tried);
+    else
+        fold_set(key, 8, 2, cells, copy, NULL, NULL);
+}
+
+/* ---- Look-ups ----------------------------------------------------------------------------- */
+
+/* For each half of the equations, and each plane of each repetition: the numbers that its bits of five equations
+ * make, times 4, as bytes. */
+struct picks {
+    uint64_t eight[2][MQ_MAX_REPETITIONS][8][FIVES / 16];
+};
+
+/* Eight fives of bits, each in a byte, times 4. */
+INLINE uint64_t spread_fives(uint64_t x)
+{
+    x = (x & 0xFFFFF) | (x & UINT64_C(0xFFFFF00000)) << 12;
+    x = (x & UINT64_C(0x000003FF000003FF)) | (x & UINT64_C(0x000FFC00000FFC00)) << 6;
+    x = (x & UINT64_C(0x001F001F001F001F)) | (x & UINT64_C(0x03E003E003E003E0)) << 3;
+    return x << 2;
+}
+
+/* Bits of equations past m may be set: there is nothing there to choose. */
+static void make_picks(const struct key *key, const uint8_t *batching, struct picks *picks)
+{
+    const uint8_t *end = batching + key->tau * key->m;
+    for (size_t e = 0; e < key->tau; e++, batching += key->m) {
+        uint8_t bits[8][24] = { { 0 } };
+        for (size_t i = 0; i < key->m; i += 16) {
+            uint8_t copy[16] = { 0 };
+            reg r;
+            if ((size_t)(end - batching) < i + 16) {
+                memcpy(copy, batching + i, (size_t)(end - batching) - i);
+                r = load(copy);
+            } else
+                r = load(batching + i);
+            for (int p = 7; p >= 0; p--) {
+                const uint16_t word = (uint16_t)_mm_movemask_epi8(r);
+                memcpy(bits[p] + i / 8, &word, 2);
+                r = _mm_add_epi8(r, r);
+            }
+        }
+        for (int p = 0; p < 8; p++)
+            for (size_t k = 0; k < FIVES / 8; k++) {
+                uint64_t word;
+                memcpy(&word, bits[p] + 5 * k, 8);
+                picks->eight[k / 2][e][p][k % 2] = spread_fives(word);
+            }
+    }
+}
+
+/* The 32 sums of five equations, of two registers each. */
+INLINE void fill_five(const reg *cell, reg *sums)
+{
+    for (int h = 0; h < 2; h++) {
+        const reg a = cell[h], b = cell[2 + h], ab = xor(a, b);
+        reg high[8];
+        high[0] = _mm_setzero_si128();
+        for (int s = 0; s < 3; s++)
+            for (int v = 0; v < 1 << s; v++)
+                high[v + (1 << s)] = xor(high[v], cell[4 + 2 * s + h]);
+        for (int v = 0; v < 8; v++) {
+            sums[8 * v + h] = high[v];
+            sums[8 * v + 2 + h] = xor(high[v], a);
+            sums[8 * v + 4 + h] = xor(high[v], b);
+            sums[8 * v + 6 + h] = xor(high[v], ab);
+        }
+    }
+}
+
+/* A table that is filled on the way: so many fives, spread over so many turns. */
+struct filling {
+    const reg *cell;
+    reg *sums;
+    size_t fives, turns, due;
+};
+
+INLINE void fill_some(struct filling *f)
+{
+    for (f->due += f->fives; f->due >= f->turns; f->due -= f->turns) {
+        fill_five(f->cell, f->sums);
+        f->cell += 10;
+        f->sums += 64;
+    }
+}
+
+/* The compiler is to take these values as they are here: not to work them out another way, nor to add in another
+ * order. No instruction comes of it. */
+#define KEEP(x) __asm__("" : "+r"(x))
+#define KEEP_SUMS(a, b) __asm__("" : "+x"(a), "+x"(b))
+
+/* Adds to two planes of a batched square what is picked. */
+INLINE void look_up_two(const reg *sums, const uint64_t *one, const uint64_t *other, size_t fives, reg s[4])
+{
+    const uint8_t *at = (const uint8_t *)sums;
+    uint64_t w, z;
+#define ADD(j, k, byte) \
+    do { \
+        const reg *x = (const reg *)(at + 1024 * (j) + 8 * (size_t)(uint8_t)(byte)); \
+        s[k] = xor(s[k], x[0]); \
+        s[k + 1] = xor(s[k + 1], x[1]); \
+        KEEP_SUMS(s[k], s[k + 1]); \
+    } while (0)
+#define PICK_TWO(j) \
+    do { \
+        ADD(j, 0, w); \
+        ADD(j, 2, z); \
+        ADD(j + 1, 0, w >> 8); \
+        ADD(j + 1, 2, z >> 8); \
+        w >>= 16; \
+        z >>= 16; \
+        KEEP(w); \
+        KEEP(z); \
+    } while (0)
+    for (; fives >= 8; fives -= 8, at += 8192) {
+        w = *one++;
+        z = *other++;
+        PICK_TWO(0);
+        PICK_TWO(2);
+        PICK_TWO(4);
+        PICK_TWO(6);
+        KEEP(at);
+    }
+    if (fives) {
+        w = *one;
+        z = *other;
+        for (; fives >= 2; fives -= 2, at += 2048)
+            PICK_TWO(0);
+        if (fives) {
+            ADD(0, 0, w);
+            ADD(0, 2, z);
+        }
+    }
+#undef PICK_TWO
+#undef ADD
+}
+
+/* ---- Batched forms ------------------------------------------------------------------------ */
+
+struct batch {
+    _Alignas(64) reg cells[MAX_SQUARES * SQUARE];
+    reg sums[2][FIVES / 2 * 32 * 2];         /* the two tables */
+    reg planes[MQ_MAX_REPETITIONS][16];      /* of a square: two planes after the other, as they are looked up */
+    reg stacks[MQ_MAX_REPETITIONS][15][2];
+    reg columns[MQ_MAX_REPETITIONS][PANELS]; /* of v^T B: a word for each plane */
+    reg vectors[MQ_MAX_REPETITIONS][PANELS]; /* v, 0 from n on */
+    struct picks picks;
+};
+
+/* The fives of equations in each half. */
+INLINE size_t first_half(const struct key *key)
+{
+    return (key->m + 4) / 5 < FIVES / 2 ? (key->m + 4) / 5 : FIVES / 2;
+}
+
+INLINE size_t second_half(const struct key *key)
+{
+    return (key->m + 4) / 5 - first_half(key);
+}
+
+/* The planes of a square of the batched matrix, so far as the first half of the equations makes them. */
+static void sum_first(size_t tau, size_t fives, struct filling filling, struct batch *batch)
+{
+    for (size_t e = 0; e < tau; e++) {
+        for (int p = 0; p < 8; p += 2) {
+            reg s[4];
+            for (int i = 0; i < 4; i++)
+                s[i] = _mm_setzero_si128();
+            look_up_two(batch->sums[0], batch->picks.eight[0][e][p], batch->picks.eight[0][e][p + 1], fives, s);
+            for (int i = 0; i < 4; i++)
+                batch->planes[e][2 * p + i] = s[i];
+        }
+        fill_some(&filling);
+    }
+}
+
+/* Adds a square of the batched matrix, times v at its rows, to the stacks. */
+static void absorb_square(size_t tau, size_t fives, size_t q, struct filling filling, struct batch *batch)
+{
+    for (size_t e = 0; e < tau; e++) {
+        reg mask[8], v = batch->vectors[e][q];
+        for (int b = 7; b >= 0; b--) {
+            mask[b] = _mm_cmpgt_epi8(_mm_setzero_si128(), v);
+            v = _mm_add_epi8(v, v);
+        }
+        for (int p = 0; p < 8; p += 2) {
+            reg s[4], (*stack)[2] = batch->stacks[e] + p;
+            for (int i = 0; i < 4; i++)
+                s[i] = batch->planes[e][2 * p + i];
+            look_up_two(batch->sums[1], batch->picks.eight[1][e][p], batch->picks.eight[1][e][p + 1], fives, s);
+            for (int h = 0; h < 2; h++) {
+                stack[0][h] = xor(stack[0][h], and(s[h], mask[0]));
+                for (int b = 1; b < 8; b++)
+                    stack[b][h] = xor(stack[b][h], xor(and(s[h], mask[b]), and(s[h + 2], mask[b - 1])));
+                stack[8][h] = xor(stack[8][h], and(s[h + 2], mask[7]));
+            }
+        }
+        fill_some(&filling);
+    }
+}
+
+/* The rows of the stacks added up, and reduced: panel J of v^T B. The stacks are 0 then. */
+static void finish_panel(size_t tau, size_t J, struct batch *batch)
+{
+    for (size_t e = 0; e < tau; e++) {
+        const reg *stack = batch->stacks[e][0];
+        reg rest[16];
+        for (int i = 0; i < 14; i++)
+            rest[i] = stack[16 + i];
+        rest[14] = rest[15] = _mm_setzero_si128();
+        batch->columns[e][J] = reduce_words(add_up(stack), add_up(rest));
+    }
+    memset(batch->stacks, 0, tau * sizeof batch->stacks[0]);
+}
+
+static void add_panels(const struct key *key, size_t first, size_t end, struct batch *batch)
+{
+    const size_t half = first_half(key), tau = key->tau;
+    const reg *cell = batch->cells;
+    for (size_t g = 0; g < half; g++)
+        fill_five(cell + 10 * g, batch->sums[0] + 64 * g);
+    for (size_t J = first; J < end && 16 * J < key->n; J++) {
+        for (size_t q = 0; q <= J; q++, cell += SQUARE) {
+            const size_t more = q < J || (J + 1 < end && 16 * (J + 1) < key->n) ? half : 0;
+            const struct filling second = { cell + 10 * half, batch->sums[1], second_half(key), tau, 0 };
+            const struct filling next = { cell + SQUARE, batch->sums[0], more, tau, 0 };
+            sum_first(tau, half, second, batch);
+            absorb_square(tau, second_half(key), q, next, batch);
+        }
+        finish_panel(tau, J, batch);
+    }
+}
+
+/* The products with v: of v^T B, and of the batched lines, which stand where the squares did. A line has n bits, and
+ * a last bit, which is taken times last[e]. */
+static void finish_forms(const struct key *key, const struct work *work, const uint8_t *last, struct batch *batch,
+                         uint8_t *square, uint8_t *line)
+{
+    const size_t half = first_half(key), rest = second_half(key);
+    const struct filling second = { batch->cells + 10 * half, batch->sums[1], rest, key->tau, 0 };
+    uint8_t valid[32] = { 0 };
+    for (size_t c = 0; c < key->n; c++)
+        valid[c / 8] |= (uint8_t)(1 << c % 8);
+    for (size_t g = 0; g < half; g++)
+        fill_five(batch->cells + 10 * g, batch->sums[0] + 64 * g);
+    sum_first(key->tau, half, second, batch);
+    for (size_t e = 0; e < key->tau; e++) {
+        reg v[2][8], w[8], l[2][8], factor[PRODUCTS], acc0[PRODUCTS], acc1[PRODUCTS], both[16];
+        for (int p = 0; p < 8; p += 2) {
+            reg s[4];
+            for (int i = 0; i < 4; i++)
+                s[i] = batch->planes[e][2 * p + i];
+            look_up_two(batch->sums[1], batch->picks.eight[1][e][p], batch->picks.eight[1][e][p + 1], rest, s);
+            for (int h = 0; h < 2; h++) {
+                l[h][p] = s[h];
+                l[h][p + 1] = s[h + 2];
+            }
+        }
+        for (int p = 0; p < 8; p++) {
+            const reg one = _mm_cvtsi32_si128((last[e] >> p & 1) << 15);
+            v[0][p] = and(load(work->sums[e].plane[p]), load(valid));
+            v[1][p] = and(load(work->sums[e].plane[p] + 16), load(valid + 16));
+            v[1][p] = xor(v[1][p], _mm_slli_si128(one, 14));
+        }
+        for (int i = 0; i < PRODUCTS; i++)
+            acc0[i] = acc1[i] = _mm_setzero_si128();
+        for (int h = 0; h < 2; h++) {
+            reg words[8];
+            for (size_t J = 0; J < 8; J++)
+                words[J] = 8 * (size_t)h + J < PANELS ? batch->columns[e][8 * (size_t)h + J] : _mm_setzero_si128();
+            transpose_words(words, w);
+            karatsuba_sums(v[h], factor);
+            add_products(acc0, factor, w);
+            add_products(acc1, factor, l[h]);
+        }
+        finish(acc0, both);
+        finish(acc1, both + 8);
+        const unsigned bits = parities(add_up(both));
+        square[e] = (uint8_t)bits;
+        line[e] = (uint8_t)(bits >> 8);
+    }
+}
+
+/* The lines of all equations, where the squares stood: b, what was tried added to it, and `last`, a bit for each. */
+static void put_lines(const struct key *key, const struct tried *tried, const uint8_t *last, reg *cells)
+{
+    for (size_t i = 0; i < key->m; i++) {
+        uint8_t bytes[32] = { 0 };
+        memcpy(bytes, key->b + i * key->row, key->row);
+        if (last)
+            bytes[31] = (uint8_t)((last[i / 8] >> i % 8 & 1) << 7);
+        cells[2 * i] = load(bytes);
+        cells[2 * i + 1] = load(bytes + 16);
+        if (tried) {
+            memset(bytes, 0, sizeof bytes);
+            memcpy(bytes, tried->line[i], sizeof tried->line[i]);
+            cells[2 * i] = xor(cells[2 * i], load(bytes));
+            cells[2 * i + 1] = xor(cells[2 * i + 1], load(bytes + 16));
+        }
+    }
+}
+
+/* The sum of alpha^s v[n + s]: bits n .. n + 7 of plane p are an element, which is taken times alpha^p. */
+static uint8_t mask_of_v(const struct key *key, const struct sums *sums)
+{
+    unsigned sum = 0;
+    for (int p = 7; p >= 0; p--)
+        sum = (sum << 1) ^ (-(sum >> 7) & MQ_FIELD_MODULUS) ^ mask_of_u(key, sums->plane[p]);
+    return (uint8_t)sum;
+}
+
+/* What is past n is 0: so it does not matter what the squares have there. */
+static void make_vectors(const struct key *key, const struct work *work, struct batch *batch)
+{
+    reg valid[16];
+    for (size_t r = 0; r < sizeof valid; r++)
+        ((uint8_t *)valid)[r] = r < key->n ? 0xFF : 0;
+    for (size_t e = 0; e < key->tau; e++)
+        for (size_t h = 0; 128 * h < key->n; h++) {
+            reg r[8];
+            turn_planes(&work->sums[e], 16 * h, r);
+            for (size_t i = 0; i < 8 && 8 * h + i < PANELS; i++)
+                batch->vectors[e][8 * h + i] = and(r[i], valid[8 * h + i]);
+        }
+}
+
+/* For each repetition the batched v^T A v with the mask, and the batched lines times v; last[e] is what y is taken
+ * times. With a witness, which is then tried too, the lines are those of the polar form. */
+static NOINLINE void batch_forms(const struct key *key, const struct work *work, const uint8_t *batching,
+                                 const struct witness *witness, const uint8_t *last, struct tried *tried,
+                                 uint8_t *square, uint8_t *line)
+{
+    struct batch batch;
+    uint8_t *copy = (uint8_t *)batch.sums; /* while there are no tables */
+    memset(copy, 0, MAX_ROOM);
+    for (size_t k = 0; k < MAX_SQUARES; k++) /* up to four equations past m */
+        for (size_t i = 2 * key->m; i < 2 * key->m + 8 && i < SQUARE; i++)
+            batch.cells[k * SQUARE + i] = _mm_setzero_si128();
+    memset(batch.stacks, 0, sizeof batch.stacks);
+    memset(batch.columns, 0, sizeof batch.columns);
+    make_picks(key, batching, &batch.picks);
+    make_vectors(key, work, &batch);
+    fold_before_4(key, batch.cells, copy, witness, tried);
+    add_panels(key, 0, 4, &batch);
+    if (key->n > 64) {
+        fold_before_8(key, batch.cells, copy, witness, tried);
+        add_panels(key, 4, 8, &batch);
+    }
+    if (key->n > 128) {
+        fold_before_10(key, batch.cells, copy, witness, tried);
+        add_panels(key, 8, 10, &batch);
+    }
+    put_lines(key, tried, tried ? NULL : key->y, batch.cells);
+    finish_forms(key, work, last, &batch, square, line);
+    for (size_t e = 0; e < key->tau; e++)
+        square[e] ^= mask_of_v(key, &work->sums[e]);
+}
+
+/* QS0 and QS1 of all repetitions, and question 11. */
 static uint32_t make_batch(const struct key *key, const struct work *work, const uint8_t *x, const uint8_t *batching,
                            struct batched *made)
 {
-    const uint8_t mask = mask_of_u(key, work->sums[0].u);
-    uint32_t word;
-    switch (groups_of(key)) {
-    case 1: word = batch_equations(key, work, x, batching, 1, made->qs0, made->qs1); break;
-    case 2: word = batch_equations(key, work, x, batching, 2, made->qs0, made->qs1); break;
-    default: word = batch_equations(key, work, x, batching, 3, made->qs0, made->qs1);
+    const uint8_t mask = mask_of_u(key, work->sums[0].u), none[MQ_MAX_REPETITIONS] = { 0 };
+    struct witness witness;
+    struct tried tried;
+    memset(&tried, 0, sizeof tried);
+    make_witness(x, key->row, &witness);
+    batch_forms(key, work, batching, &witness, none, &tried, made->qs0, made->qs1);
+    for (size_t i = 0; i < key->m; i++) {
+        const unsigned bits = parities(tried.error[i]);
+        const uint8_t form = parity((uint8_t)(bits ^ bits >> 8));
+        uint8_t error = form ^ hash_bit(key->b + i * key->row, x, key->row) ^ (key->y[i / 8] >> i % 8 & 1);
+        PUBLISH(error);
+        if (error)
+            return MQ_REFUSED_EQUATION_FAILS * 65536 + (uint32_t)i;
     }
     for (size_t e = 0; e < key->tau; e++)
         made->qs1[e] ^= mask;
-    return word;
+    return MQ_ACCEPTED;
 }
 
 /* ---- The verifier, once the form is known ------------------------------------------------- */
@@ -742,20 +1052,22 @@ static void sum_opened(const struct key *key, const struct claim *in, const stru
                        struct sums *sums)
 {
     const uint8_t delta = in->delta.at[e];
+    uint8_t c[STRIDE] = { 0 };
     sum_leaves(in->opened.at + e * (MQ_FIELD_SIZE - 1) * key->w, key->w, delta, sums);
-    for (size_t b = 0; e > 0 && b < key->w; b++)
-        sums->u[b] ^= proof->c[(e - 1) * key->w + b];
+    if (e > 0)
+        memcpy(c, proof->c + (e - 1) * key->w, key->w);
     for (size_t b = 0; b < key->row; b++)
-        sums->u[b] ^= proof->d[b];
-    for (int p = 0; p < 8; p++)
-        if (delta >> p & 1)
-            for (size_t b = 0; b < STRIDE; b++)
-                sums->plane[p][b] ^= sums->u[b];
+        c[b] ^= proof->d[b];
+    for (size_t b = 0; b < STRIDE; b += 16) {
+        const reg u = xor(load(sums->u + b), load(c + b));
+        for (int p = 0; p < 8; p++)
+            store(sums->plane[p] + b, xor(load(sums->plane[p] + b), and(u, _mm_set1_epi8((char)-(delta >> p & 1)))));
+    }
 }
 
 /* Question 14. H K is compared with V~ + delta (u~ + H' d). */
-static uint32_t check_hashes(const struct key *key, const struct claim *in, const struct proof *proof,
-                             const struct work *work)
+static NOINLINE uint32_t check_hashes(const struct key *key, const struct claim *in, const struct proof *proof,
+                                      const struct work *work)
 {
     uint8_t hashed[MQ_MAX_REPETITIONS * MQ_MAX_HASH_ROWS], u[MQ_MAX_HASH_ROWS];
     const uint8_t *h = in->hash_matrix.at;
@@ -773,66 +1085,24 @@ static uint32_t check_hashes(const struct key *key, const struct claim *in, cons
     return MQ_ACCEPTED;
 }
 
-/* Of all repetitions: the batched K^T A K with the mask, the batched b K, and the batched y. */
-struct batched_forms {
-    uint8_t square[MQ_MAX_REPETITIONS], line[MQ_MAX_REPETITIONS], constant[MQ_MAX_REPETITIONS];
-};
-
-INLINE void batch_forms(const struct key *key, const struct work *work, const uint8_t *batching, size_t groups,
-                        struct batched_forms *made)
-{
-    reg factors[MAX_ROW * MAX_GROUPS * PRODUCTS], y[MAX_GROUPS];
-    struct batch batch;
-    struct blocks blocks;
-
-    memset(&blocks, 0, sizeof blocks);
-    memset(y, 0, sizeof y);
-    make_factors(work->lanes, key->row, groups, factors);
-    start_batch(key, batching, groups, &batch);
-    for (size_t i = 0; i < key->m; i++) {
-        reg one0[MAX_GROUPS], one1[MAX_GROUPS];
-        cut_matrix(key->a + i * key->n * key->row, key->n, key->row, &blocks);
-        fold_matrix(key->row, &blocks);
-        forms(key, work, &blocks, NULL, factors, groups, one0, NULL);
-        for (size_t g = 0; g < groups; g++)
-            one1[g] = _mm_setzero_si128();
-        look_up(&work->table, key->b + i * key->row, 1, 0, key->row, 1, groups, one1);
-        add_forms(key, i, groups, one0, one1, &batch);
-        if (key->y[i / 8] >> i % 8 & 1)
-            for (size_t g = 0; g < groups; g++)
-                y[g] = xor(y[g], batch.chi[i * groups + g]);
-    }
-    finish_batch(key, work, &batch, groups, made->square, made->line);
-    for (size_t g = 0; g < groups; g++)
-        store(made->constant + GROUP * g, lanes_to_bytes(y[g]));
-}
-
 /* Question 15. */
 static uint32_t check_products(const struct key *key, const struct claim *in, const struct proof *proof,
                                const struct work *work)
 {
-    struct batched_forms made;
-    switch (groups_of(key)) {
-    case 1: batch_forms(key, work, in->batching.at, 1, &made); break;
-    case 2: batch_forms(key, work, in->batching.at, 2, &made); break;
-    default: batch_forms(key, work, in->batching.at, 3, &made);
-    }
-    for (size_t e = 0; e < key->tau; e++) {
-        const uint8_t delta = in->delta.at[e];
-        const uint8_t slope = made.line[e] ^ multiply(delta, made.constant[e]) ^ proof->qs1[e];
-        if ((made.square[e] ^ multiply(delta, slope)) != proof->qs0[e])
+    uint8_t square[MQ_MAX_REPETITIONS], line[MQ_MAX_REPETITIONS];
+    batch_forms(key, work, in->batching.at, NULL, in->delta.at, NULL, square, line);
+    for (size_t e = 0; e < key->tau; e++)
+        if ((square[e] ^ multiply(in->delta.at[e], line[e] ^ proof->qs1[e])) != proof->qs0[e])
             return MQ_REFUSED_PRODUCT_DIFFERS * 65536 + (uint32_t)e;
-    }
     return MQ_ACCEPTED;
 }
 
-static uint32_t check_proof(const struct key *key, const struct claim *in, const struct proof *proof,
-                            struct work *work)
+static NOINLINE uint32_t check_proof(const struct key *key, const struct claim *in, const struct proof *proof,
+                                     struct work *work)
 {
     uint32_t word;
     for (size_t e = 0; e < key->tau; e++)
         sum_opened(key, in, proof, e, &work->sums[e]);
-    make_look_up(key, key->hash_row, work);
     word = check_hashes(key, in, proof, work);
     return word ? word : check_products(key, in, proof, work);
 }

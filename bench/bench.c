@@ -466,8 +466,8 @@ static void print_shapes(double taken[SHAPES][BY])
     printf("what n adds from 80 to 160, over what it adds from 40 to 80 (4 for a constant and n^2, 2 for a constant and n):");
     for (int b = 0; b < BY; b++)
         printf(" %s %.2f", by_names[b], (taken[2][b] - taken[1][b]) / (taken[1][b] - taken[0][b]));
-    printf("\nA part of each time does not grow: reading and hashing for all three, and for m and tau also what is made once for\n"
-           "all repetitions (the library folds the matrices and sums them by fives) or once for sixteen of them (C).\n");
+    printf("\nA part of each time does not grow: reading and hashing for all three, and for tau also what is made once for all\n"
+           "repetitions (library and C fold the matrices and sum them by fives).\n");
 }
 
 /* ---- The plot ----------------------------------------------------------------------------- */

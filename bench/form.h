@@ -58,29 +58,20 @@ static inline uint8_t spare_mask(size_t bits)
     return bits % 8 ? (uint8_t)(0xFF << bits % 8) : 0;
 }
 
-/* The spare bits that are set in any of so many strings, gathered. Sixteen strings at a time take as
- * many steps of sixteen bytes as a string has bytes, each with its own mask. */
+/* The spare bits that are set in any of so many strings, gathered from their last bytes. */
 static uint8_t spare_bits(const uint8_t *strings, size_t count, size_t bits)
 {
     const size_t len = MQ_STRING_SIZE(bits);
-    const uint8_t mask = spare_mask(bits);
-    uint64_t masks[2 * 64] = { 0 }, sum = 0;
+    const uint8_t mask = spare_mask(bits), *last = strings + len - 1;
+    uint8_t sum[4] = { 0 };
     if (mask == 0)
         return 0;
-    for (size_t i = 1; i <= 16; i++)
-        ((uint8_t *)masks)[i * len - 1] = mask;
-    for (; count >= 16; count -= 16, strings += 16 * len)
-        for (size_t i = 0; i < 2 * len; i++) {
-            uint64_t word;
-            memcpy(&word, strings + 8 * i, 8);
-            sum |= word & masks[i];
-        }
-    for (; count > 0; count--, strings += len)
-        sum |= (uint64_t)(strings[len - 1] & mask);
-    sum |= sum >> 32;
-    sum |= sum >> 16;
-    sum |= sum >> 8;
-    return (uint8_t)sum;
+    for (; count >= 4; count -= 4, last += 4 * len)
+        for (size_t i = 0; i < 4; i++)
+            sum[i] |= last[i * len];
+    for (; count > 0; count--, last += len)
+        sum[0] |= *last;
+    return (sum[0] | sum[1] | sum[2] | sum[3]) & mask;
 }
 
 static inline int in_range(size_t size, size_t limit)
