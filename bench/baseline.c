@@ -515,7 +515,8 @@ enum {
     SQUARE = 2 * MQ_MAX_EQUATIONS /* registers */
 };
 
-/* For each equation, as far as it is folded to F: the bits of F x + F^T x, and a register of the parity of x^T F x. */
+/* With F the squares of an equation that are folded so far: the bits of F x + F^T x, and a register whose parity is
+ * x^T F x. */
 struct tried {
     uint16_t line[MQ_MAX_EQUATIONS][PANELS];
     reg error[MQ_MAX_EQUATIONS];
@@ -642,32 +643,19 @@ INLINE void fold_set(const struct key *key, size_t first, size_t count, reg *cel
         fold_matrix(matrix_at(key, i, room, copy), key->row, first, count, panels, i, cells, witness, tried);
 }
 
-static NOINLINE void fold_before_4(const struct key *key, reg *cells, uint8_t *copy,
-                                   const struct witness *witness, struct tried *tried)
-{
-    if (tried)
-        fold_set(key, 0, 4, cells, copy, witness, tried);
-    else
-        fold_set(key, 0, 4, cells, copy, NULL, NULL);
-}
-
-static NOINLINE void fold_before_8(const struct key *key, reg *cells, uint8_t *copy,
-                                   const struct witness *witness, struct tried *tried)
-{
-    if (tried)
-        fold_set(key, 4, 4, cells, copy, witness, tried);
-    else
-        fold_set(key, 4, 4, cells, copy, NULL, NULL);
-}
-
-static NOINLINE void fold_before_10(const struct key *key, reg *cells, uint8_t *copy,
-                                    const struct witness *witness, struct tried *tried)
-{
-    if (tried)
-        fold_set(key, 8, 2, cells, copy, witness, tried);
-    else
-        fold_set(key, 8, 2, cells, copy, NULL, NULL);
-}
+/* The three sets, and with or without a witness: constants, so that the loops are unrolled. */
+#define FOLD(name, first, count) \
+    static NOINLINE void name(const struct key *key, reg *cells, uint8_t *copy, const struct witness *witness, \
+                              struct tried *tried) \
+    { \
+        if (tried) \
+            fold_set(key, first, count, cells, copy, witness, tried); \
+        else \
+            fold_set(key, first, count, cells, copy, NULL, NULL); \
+    }
+FOLD(fold_before_4, 0, 4)
+FOLD(fold_before_8, 4, 4)
+FOLD(fold_before_10, 8, 2)
 
 /* ---- Look-ups ----------------------------------------------------------------------------- */
 
@@ -813,7 +801,7 @@ struct batch {
     struct picks picks;
 };
 
-/* The fives of equations in each half. */
+/* The fives of equations for the first table, and for the second: as many as there are up to 80, and the rest. */
 INLINE size_t first_half(const struct key *key)
 {
     return (key->m + 4) / 5 < FIVES / 2 ? (key->m + 4) / 5 : FIVES / 2;
@@ -869,7 +857,7 @@ static void absorb_square(size_t tau, size_t fives, size_t q, struct filling fil
 static void finish_panel(size_t tau, size_t J, struct batch *batch)
 {
     for (size_t e = 0; e < tau; e++) {
-        const reg *stack = batch->stacks[e][0];
+        const reg *stack = (const reg *)batch->stacks[e];
         reg rest[16];
         for (int i = 0; i < 14; i++)
             rest[i] = stack[16 + i];
@@ -997,7 +985,8 @@ static NOINLINE void batch_forms(const struct key *key, const struct work *work,
                                  uint8_t *square, uint8_t *line)
 {
     struct batch batch;
-    uint8_t *copy = (uint8_t *)batch.sums; /* while there are no tables */
+    /* Between two sets the tables are free. What is past a copied matrix meets vectors and a witness that are 0. */
+    uint8_t *copy = (uint8_t *)batch.sums;
     memset(copy, 0, MAX_ROOM);
     for (size_t k = 0; k < MAX_SQUARES; k++) /* up to four equations past m */
         for (size_t i = 2 * key->m; i < 2 * key->m + 8 && i < SQUARE; i++)

@@ -1,6 +1,7 @@
 /*
  * Times the library beside the same job in C and in plain Rust, in one run, and measures the stack of each
- * call; then times the verifier at five shapes, and plots that. Usage: bench PLOT.svg [REPETITIONS]
+ * call; then times the verifier at five shapes, and plots that. Usage:
+ * bench PLOT.svg HISTORY.tsv STAMP [REPETITIONS]
  *
  * Every program first makes the same bytes and gives the same answers, or the run ends. Then each call of each
  * program is timed in turn, again and again, so that a change of the machine's pace meets all of them, and each
@@ -11,9 +12,9 @@
 #define _XOPEN_SOURCE 700
 #include <stdio.h>
 #include <time.h>
-#include <ucontext.h>
 
 #include "case.h"
+#include "depth.h"
 
 enum { TEST, COMMIT, HASH, BATCH, PROVE, VERIFY, CALLS };
 static const char *const call_names[CALLS] = { "test", "commit", "hash", "batch", "prove", "verify" };
@@ -285,8 +286,6 @@ static void keep(FILE *history, const char *stamp, struct sizes s, struct times 
 
 /* ---- Stack -------------------------------------------------------------------------------- */
 
-enum { STACK = 4 << 20 };
-static ucontext_t outside, inside;
 static struct {
     const struct program *program;
     int call;
@@ -301,46 +300,24 @@ static void on_stack(void)
         order.word = make_call(order.program, order.call, order.made, order.out);
 }
 
-/* How far down a call wrote, on a stack that was painted. */
-static size_t depth_over(uint8_t *stack, uint8_t paint)
+static size_t depth(const struct program *p, int call, const struct made *c, uint8_t *out)
 {
-    size_t untouched = 0;
-    memset(stack, paint, STACK);
-    getcontext(&inside);
-    inside.uc_stack.ss_sp = stack;
-    inside.uc_stack.ss_size = STACK;
-    inside.uc_link = &outside;
-    makecontext(&inside, on_stack, 0);
-    swapcontext(&outside, &inside);
-    while (untouched < STACK && stack[untouched] == paint)
-        untouched++;
-    return STACK - untouched;
-}
-
-/* With two paints, so that a byte that is written over by its own colour is seen once. */
-static size_t depth(uint8_t *stack, const struct program *p, int call, const struct made *c, uint8_t *out)
-{
-    size_t a, b;
     order.program = p;
     order.call = call;
     order.made = c;
     order.out = out;
     order.word = 0;
-    a = depth_over(stack, 0xA5);
-    b = depth_over(stack, 0x5A);
+    const size_t deepest = depth_of(on_stack);
     if (order.word) {
         printf("%s %s: refused on another stack\n", p->name, call_names[call]);
         exit(1);
     }
-    return a > b ? a : b;
+    return deepest;
 }
 
 static void print_stack(const struct made *c, uint8_t *out)
 {
-    uint8_t *stack = malloc(STACK);
-    if (!stack)
-        abort();
-    const size_t bare = depth(stack, NULL, 0, c, out);
+    const size_t bare = depth(NULL, 0, c, out);
     printf("%-10s", "stack");
     for (int p = 0; p < RENDERING; p++)
         printf("%13s", programs[p].name);
@@ -348,10 +325,9 @@ static void print_stack(const struct made *c, uint8_t *out)
     for (int call = 0; call < CALLS; call++) {
         printf("%-10s", call_names[call]);
         for (int p = 0; p < RENDERING; p++)
-            printf("%13zu", depth(stack, &programs[p], call, c, out) - bare);
+            printf("%13zu", depth(&programs[p], call, c, out) - bare);
         printf("\n");
     }
-    free(stack);
 }
 
 /* ---- One shape, all calls ----------------------------------------------------------------- */

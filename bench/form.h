@@ -62,15 +62,15 @@ static inline uint8_t spare_mask(size_t bits)
 static uint8_t spare_bits(const uint8_t *strings, size_t count, size_t bits)
 {
     const size_t len = MQ_STRING_SIZE(bits);
-    const uint8_t mask = spare_mask(bits), *last = strings + len - 1;
+    const uint8_t mask = spare_mask(bits);
     uint8_t sum[4] = { 0 };
     if (mask == 0)
         return 0;
-    for (; count >= 4; count -= 4, last += 4 * len)
+    for (; count >= 4; count -= 4, strings += 4 * len)
         for (size_t i = 0; i < 4; i++)
-            sum[i] |= last[i * len];
-    for (; count > 0; count--, last += len)
-        sum[0] |= *last;
+            sum[i] |= strings[i * len + len - 1];
+    for (; count > 0; count--, strings += len)
+        sum[0] |= strings[len - 1];
     return (sum[0] | sum[1] | sum[2] | sum[3]) & mask;
 }
 

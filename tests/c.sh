@@ -35,6 +35,10 @@ g++ -std=c++11 $strict -x c++ -fsyntax-only include/solfadrus.h
 echo "size macros and size functions"
 sh tests/sizes.sh
 
+echo "the stack that the header states"
+gcc -std=c11 -O2 -Wall -Wextra -Werror -Iinclude -Itests tests/stack.c "$lib/libsolfadrus.a" -o target/stack
+target/stack
+
 echo "a caller in C++"
 g++ -std=c++11 -O2 $strict tests/header.cpp "$lib/libsolfadrus.a" -o target/header
 target/header

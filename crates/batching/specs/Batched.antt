@@ -4,7 +4,8 @@
 --   batchedByte w size m A χ e ρ c == Σ_i χ(e, i)·F_i(ρ, c), where F_i is string i of A, of size bytes, in rows of w bytes, folded
 --   leftSum w size m A χ e W J c == Σ_ρ W(ρ)·Σ_i χ(e, i)·F_i(ρ, c), over the rows up to the J-th sixteen
 --   formSum n w m A χ e y W == Σ_i χ(e, i)·Σ_ρ W(ρ)·Σ_c A_i(ρ, c)·y(c), where A_i is matrix i of A, of n rows of w bytes
---   Loaded n w m A J cells after == panel J of the m matrices of A stands in `cells`, and the next panel in `after`, where J is even; in `after` where it is odd
+--   Loaded n w m A J cells after == where J is even, panel J of the m matrices of A stands in `cells` and panel J + 1 in `after`; where J is odd, panel J stands
+--     in `after`
 -- Assumes nothing.
 use mathlib.Core.Path.{_≡_}
 use mathlib.Core.List.{List}

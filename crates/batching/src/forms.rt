@@ -8,7 +8,6 @@ ghost use lib.Bits.{bitXor};
 ghost use Rattle.protocol.specs.Strings.{bytesFor};
 ghost use Rattle.strings.specs.Sums.{byteAt, xorSum};
 ghost use Rattle.lanes.specs.Lanes.{lanes, laneAt};
-ghost use Rattle.chunks.specs.Chunks.{chunk};
 ghost use Rattle.choices.specs.Entries.{Chosen};
 ghost use Rattle.columns.specs.Stacks.{product};
 ghost use Rattle.folds.specs.Folds.{Folded};
@@ -103,7 +102,7 @@ fn add_panel(
         bits,
         polar,
     );
-    columns::finish(quad, mid, &stacks, &sides, panel, tau, n, table, xs);
+    columns::finish(quad, mid, &stacks, &sides, panel, tau, n, table, xs, polar);
 }
 
 // Adds to quad the form of the batched matrix at the vectors of the table, and to mid its polar form at them and the bits xs. Where `polar` is

@@ -1,4 +1,4 @@
-// The batched matrix times the vectors of the repetitions. The words are public; the vectors and the stacks are secret: no branch and no
+// The batched matrix times the vectors of the repetitions. The words of what the batching bytes choose are public; the vectors and the stacks are secret: no branch and no
 // index goes by them.
 ghost use mathlib.Core.Path.{_≡_};
 ghost use mathlib.Core.Bool.{false};
@@ -106,7 +106,7 @@ fn absorb_polar(side: &mut [u8], p: usize, both: &[u8], mask: &[u8], polar: bool
 }
 
 // Adds a chunk of the batched matrix to a stack, times v, and to a side, under a mask, which is lent twice: it is the sum of the rows S, each times its byte χ, whose
-// bits chose the words.
+// bits the words hold.
 fn absorb(
     t: &mut [u8],
     side: &mut [u8],

@@ -8,7 +8,7 @@
 --   eightByte sums k w f == byte f of the sum of the entries that the eight fives of w choose, in the tables of the groups 8·k, .., 8·k + 7
 --   Chosen χ m G W r == row r of W is G words: five j of word k is the number of the entry, among the 32 of the rows 5·g, .., 5·g + 4 where g = 8·k + j,
 --     which bit r mod 8 of the m bytes χ of repetition ⌊r/8⌋ chooses
---   Weighed S χ m sums W G r == sums is the table of the m rows S, and the eight rows of W from r on are the words which the bits of χ choose
+--   Weighed S χ m sums W G r == sums is the table of the m rows S, and the eight rows of W from r on hold the entries which the bits of χ choose
 -- Assumes nothing.
 use mathlib.Core.Path.{_≡_}
 use mathlib.Core.List.{List}

@@ -86,7 +86,7 @@ fn fill_repetition(words: &mut [u64], e: usize, chi: &[u8], m: usize, count: usi
     put_rows(words, e, &picks, count);
 }
 
-// The words that the m bytes of each of tau repetitions choose.
+// The words of what the m bytes of each of tau repetitions choose.
 pub fn fill_words(words: &mut [u64], chi: &[u8], m: usize, count: usize, tau: usize)
     requires { ⌜ (count ≡ (m + 39) / 40) × (m ≤ 160) × (tau * 8 * count ≤ length (now words)) × (length (now chi) ≡ tau * m) × (tau ≤ 1000) ⌝ }
     ensures { λ _. ⌜ ((r : ℕ) → r < tau * 8 → Chosen (now (chi .entry)) m count (now (words .exit)) r) ⌝ }

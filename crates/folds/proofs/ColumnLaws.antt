@@ -22,7 +22,7 @@ use Rattle.strings.proofs.Rows.{row-end, put-in}
 use Rattle.chunks.specs.Chunks.{chunk, cellAt}
 use Rattle.folds.specs.Folds.{entry, foldedBit}
 use Rattle.turns.specs.Turns.{TurnedAt}
-use Rattle.folds.specs.Columns.{byteOf, Quad, Quads, TurnedIn, Mirrored, Reflected, Joined, Put, Kept, FoldedAt}
+use Rattle.folds.specs.Columns.{byteIn, Quad, Quads, TurnedIn, Mirrored, Reflected, Joined, Put, Kept, FoldedAt}
 
 -- what holds below n, and of n, holds below n + 1
 below-next : (P : ℕ → Type 0) (n : ℕ) → P n → ((k : ℕ) → k < n → P k) → (k : ℕ) → k < n + 1 → P k
@@ -43,7 +43,7 @@ digits a b c d x ha hb hc hd sum =
 
 pub quad-sum : (s : List ℕ) (at x : ℕ) → ((k : ℕ) → byteAt s k < 256)
     → x ≡ byteAt s at + byteAt s (at + 1) * 256 + byteAt s (at + 2) * 65536 + byteAt s (at + 3) * 16777216 → Quad s at x
-unfolding byteOf
+unfolding byteIn
 quad-sum s at x small sum z hz = go z hz (digits (byteAt s at) (byteAt s (at + 1)) (byteAt s (at + 2)) (byteAt s (at + 3)) x (small at) (small (at + 1)) (small (at + 2)) (small (at + 3)) sum)
   where
     go : (z : ℕ) → z < 4 → (x % 256 ≡ byteAt s at) × (x / 256 % 256 ≡ byteAt s (at + 1)) × (x / 65536 % 256 ≡ byteAt s (at + 2)) × (x / 16777216 % 256 ≡ byteAt s (at + 3))
@@ -56,12 +56,12 @@ quad-sum s at x small sum z hz = go z hz (digits (byteAt s at) (byteAt s (at + 1
 
 pub quads-more : (w C j v : ℕ) (M l : List ℕ) → j < length l → Quad M (j * w + C) v → Quads w M C j l → Quads w M C (j + 1) (set l j v)
 quads-more w C j v M l fits own done =
-    below-next (λ r. Quad M (r * w + C) (byteAt (set l j v) r)) j (λ z hz. ap (λ x. byteOf x z) (getD-set-same l j v 0 fits) ∙ own z hz)
-    (λ r lt z hz. ap (λ x. byteOf x z) (getD-set-other l j r v 0 (λ e. omega arith)) ∙ done r lt z hz)
+    below-next (λ r. Quad M (r * w + C) (byteAt (set l j v) r)) j (λ z hz. ap (λ x. byteIn x z) (getD-set-same l j v 0 fits) ∙ own z hz)
+    (λ r lt z hz. ap (λ x. byteIn x z) (getD-set-other l j r v 0 (λ e. omega arith)) ∙ done r lt z hz)
 
 -- a word that is moved down by two bytes, or by none, ends with the bytes 2h and 2h + 1
-pub moved : (x h : ℕ) → h < 2 → (x / 2 ^ (16 * h) % 256 ≡ byteOf x (h * 2)) × (x / 2 ^ (16 * h) / 256 % 256 ≡ byteOf x (h * 2 + 1))
-unfolding byteOf
+pub moved : (x h : ℕ) → h < 2 → (x / 2 ^ (16 * h) % 256 ≡ byteIn x (h * 2)) × (x / 2 ^ (16 * h) / 256 % 256 ≡ byteIn x (h * 2 + 1))
+unfolding byteIn
 moved x zero h = (refl, ap (λ y. y / 256 % 256) (div-one x))
 moved x (suc zero) h = (refl, ap (λ y. y % 256) (div-div-eq-div-mul x 65536 256))
 moved x (suc (suc k)) h = absurd (omega arith)
@@ -184,7 +184,7 @@ folded-bit w C r z x y M hz own added =
 module _ (n w m i P h J k : ℕ) (M quads first last cells : List ℕ) (which : J ≡ P + h) (two : h < 2) (rows : (r : ℕ) → r < n → r < J * 16 + 16 → r < k)
     (gathered : Quads w M (P * 2) k quads) (low : Reflected n w M (J * 2) first) (high : Reflected n w M (J * 2 + 1) last)
     (put : Put m i quads h first last (J + 1) cells) where
-  byte : (q f z C : ℕ) → q ≤ J → f < 16 → q * 16 + f < n → z < 4 → P * 2 + z ≡ C → byteOf (byteAt quads (q * 16 + f)) z ≡ byteAt M ((q * 16 + f) * w + C)
+  byte : (q f z C : ℕ) → q ≤ J → f < 16 → q * 16 + f < n → z < 4 → P * 2 + z ≡ C → byteIn (byteAt quads (q * 16 + f)) z ≡ byteAt M ((q * 16 + f) * w + C)
   byte q f z C hq hf hn hz column =
       let at : (q * 16 + f) * w + P * 2 + z ≡ (q * 16 + f) * w + C = omega arith in
       gathered (q * 16 + f) (rows (q * 16 + f) hn (omega arith)) z hz ∙ ap (byteAt M) at
@@ -194,12 +194,12 @@ module _ (n w m i P h J k : ℕ) (M quads first last cells : List ℕ) (which : 
       let at : 0 * 16 + f ≡ f = omega arith in
       let column : J * 16 + (0 * 8 + z) ≡ J * 2 * 8 + z = omega arith in
       rw (at, column) (ap (λ x. bitOf x z) (put q f (omega arith) hf .0)
-      ∙ folded-bit w (J * 2) (q * 16 + f) z (byteOf (byteAt quads (q * 16 + f)) (h * 2)) (byteAt first (q * 16 + f)) M hz (byte q f (h * 2) (J * 2) hq hf hn (omega arith) (omega arith))
+      ∙ folded-bit w (J * 2) (q * 16 + f) z (byteIn (byteAt quads (q * 16 + f)) (h * 2)) (byteAt first (q * 16 + f)) M hz (byte q f (h * 2) (J * 2) hq hf hn (omega arith) (omega arith))
       (low (q * 16 + f) z (omega arith) hz (omega arith)))
   folded-at q (suc zero) f z hq hh hf hz hn hc =
       let at : 1 * 16 + f ≡ 16 + f = omega arith in
       let column : J * 16 + (1 * 8 + z) ≡ (J * 2 + 1) * 8 + z = omega arith in
       rw (at, column) (ap (λ x. bitOf x z) (put q f (omega arith) hf .1)
-      ∙ folded-bit w (J * 2 + 1) (q * 16 + f) z (byteOf (byteAt quads (q * 16 + f)) (h * 2 + 1)) (byteAt last (q * 16 + f)) M hz (byte q f (h * 2 + 1) (J * 2 + 1) hq hf hn (omega arith) (omega arith))
+      ∙ folded-bit w (J * 2 + 1) (q * 16 + f) z (byteIn (byteAt quads (q * 16 + f)) (h * 2 + 1)) (byteAt last (q * 16 + f)) M hz (byte q f (h * 2 + 1) (J * 2 + 1) hq hf hn (omega arith) (omega arith))
       (high (q * 16 + f) z (omega arith) hz (omega arith)))
   folded-at q (suc (suc g)) f z hq hh hf hz hn hc = absurd (omega arith)

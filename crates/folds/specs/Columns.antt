@@ -1,5 +1,5 @@
 -- Four byte columns of one matrix, that is two panels of sixteen columns of bits, on their way into the cells.
---   byteOf x z == byte z of the number x, the lowest first;  Quad s at x == x has the four bytes of s from `at` on, 0 past its end
+--   byteIn x z == byte z of the number x, the lowest first;  Quad s at x == x has the four bytes of s from `at` on, 0 past its end
 --   Quads w M C rows quads == word r of quads has the four bytes of M from byte column C of row r on: those of the columns C, .., C + 3, as far as the row goes
 --   TurnedIn w from M t == as TurnedAt, for the bytes that M has
 --   Mirrored n w M C t == bit z of byte r of t is entry (8C + z, r) of M, for the rows of the sixteens before the column's own
@@ -19,11 +19,11 @@ use Rattle.strings.specs.Sums.{byteAt, bitOf}
 use Rattle.chunks.specs.Chunks.{chunk, cellAt}
 use Rattle.folds.specs.Folds.{entry, foldedBit}
 
-unfoldable pub byteOf : ℕ → ℕ → ℕ
-byteOf x z = x / 256 ^ z % 256
+unfoldable pub byteIn : ℕ → ℕ → ℕ
+byteIn x z = x / 256 ^ z % 256
 
 abbrev pub Quad : List ℕ → ℕ → ℕ → Type 0
-Quad s at x = (z : ℕ) → z < 4 → byteOf x z ≡ byteAt s (at + z)
+Quad s at x = (z : ℕ) → z < 4 → byteIn x z ≡ byteAt s (at + z)
 
 abbrev pub Quads : ℕ → List ℕ → ℕ → ℕ → List ℕ → Type 0
 Quads w M C rows quads = (r : ℕ) → r < rows → Quad M (r * w + C) (byteAt quads r)
@@ -41,7 +41,7 @@ Reflected n w M C t =
 
 abbrev pub Joined : List ℕ → ℕ → List ℕ → List ℕ → ℕ → ℕ → ℕ → Type 0
 Joined quads h first last r x y =
-    (x ≡ bitXor (byteOf (byteAt quads r) (h * 2)) (byteAt first r)) × (y ≡ bitXor (byteOf (byteAt quads r) (h * 2 + 1)) (byteAt last r))
+    (x ≡ bitXor (byteIn (byteAt quads r) (h * 2)) (byteAt first r)) × (y ≡ bitXor (byteIn (byteAt quads r) (h * 2 + 1)) (byteAt last r))
 
 abbrev pub Put : ℕ → ℕ → List ℕ → ℕ → List ℕ → List ℕ → ℕ → List ℕ → Type 0
 Put m i quads h first last J cells =

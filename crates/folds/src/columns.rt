@@ -48,7 +48,7 @@ fn quad_end(s: &[u8], at: usize) -> u32
         + byte_or_0(s, at + 3) * 16777216
 }
 
-// How many rows have four bytes from col on before the end of the matrix.
+// So many rows have four bytes from col on before the end of the matrix. (With fewer, `gather` would be slower, not wrong.)
 fn whole_rows(len: usize, width: usize, col: usize) -> usize
     requires { ⌜ (col < width) × (width ≤ 20) ⌝ }
     ensures { λ k. ⌜ ((r : ℕ) → r < k → r * width + col + 4 ≤ len) ⌝ }
@@ -136,7 +136,7 @@ fn mirror(t: &mut [u8], matrix: &[u8], n: usize, width: usize, col: usize)
     }
 }
 
-// The first sixteen has none before it. A matrix with an odd number of byte columns has one fewer in its last panel.
+// The first sixteen has none before it. The last panel may have one byte column only, and the second of two panels none at all.
 fn mirror_above(t: &mut [u8], matrix: &[u8], n: usize, width: usize, col: usize)
     requires { ⌜ (width ≡ bytesFor n) × (n ≤ 160) × (length (now matrix) ≡ n * width) × (length (now t) ≡ 160) ⌝ }
     ensures { λ _. ⌜ Mirrored n width (now (matrix .entry)) col (now (t .exit)) ⌝ }

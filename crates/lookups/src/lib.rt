@@ -37,7 +37,7 @@ fn store(sums: &mut [u8], k: usize, src: &[u8; LANES])
     ensures { λ _. ⌜ ((q e : ℕ) → (q ≡ k → ⊥) → e < lanes → laneAt (now (sums .exit)) q e ≡ laneAt (now (sums .entry)) q e) ⌝ }
 {
     let at = k * LANES;
-    copy_lanes(&mut sums[at..at + LANES], src);
+    copies::copy_into(&mut sums[at..at + LANES], src);
 }
 
 // Entry `to` becomes entry `from` plus a coordinate.
@@ -126,17 +126,6 @@ fn add_chosen(dst: &mut [u8; LANES], b: usize, x: u8, sums: &[u8])
     );
 }
 
-fn copy_lanes(out: &mut [u8], src: &[u8; LANES])
-    requires { ⌜ length (now out) ≡ lanes ⌝ }
-    ensures { λ _. ⌜ ((e : ℕ) → e < lanes → byteAt (now (out .exit)) e ≡ byteAt (now (src .entry)) e) ⌝ }
-{
-    let mut e = 0;
-    while e < LANES {
-        out[e] = src[e];
-        e += 1;
-    }
-}
-
 // out[e] = Σ row(c)·T[c][e] over the n coordinates of the table T that was summed: two additions for eight coordinates.
 pub fn look_up_row(out: &mut [u8], row: &[u8], sums: &[u8])
     requires { ⌜ (length (now out) ≡ lanes) × (length (now row) * 32 * lanes ≤ length (now sums)) ⌝ }
@@ -148,5 +137,5 @@ pub fn look_up_row(out: &mut [u8], row: &[u8], sums: &[u8])
         add_chosen(&mut sum, b, row[b], sums);
         b += 1;
     }
-    copy_lanes(out, &sum);
+    copies::copy_into(out, &sum);
 }

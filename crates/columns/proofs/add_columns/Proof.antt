@@ -3,7 +3,8 @@
 use borrow.Author.Needs.{needs}
 use Prim.Native.Nat.{ℕ, _+_, _*_, _-_, _≤_, _<_}
 use mathlib.Core.List.{List}
-use mathlib.Core.Path.{_≡_, sym, _∙_}
+use mathlib.Core.Bool.{true, false}
+use mathlib.Core.Path.{_≡_, refl, sym, _∙_}
 use native.Mathlib.Omega.{arith}
 use denote.Ref.{now}
 use lib.ListN.{length}
@@ -26,15 +27,15 @@ abbrev midTerm : List ℕ → List ℕ → List ℕ → List ℕ → ℕ → ℕ
 midTerm rows sides table xs first e z = bitXor (product (laneAt table (first + z) e) (value 8 sides e z)) (byteAt xs (first + z) * value 15 rows e z)
 
 abbrev Inv-loop : tie.InvT-loop
-Inv-loop quad₀ mid₀ rows sides first n table xs z₀ quad mid z = (z ≤ 8) × (length quad ≡ lanes) × (length mid ≡ lanes) × ((e : ℕ) → e < lanes → byteAt quad e ≡ bitXor (byteAt quad₀ e) (xorSum z (quadTerm rows table first e))) × ((e : ℕ) → e < lanes → byteAt mid e ≡ bitXor (byteAt mid₀ e) (xorSum z (midTerm rows sides table xs first e)))
+Inv-loop quad₀ mid₀ rows sides first n table xs polar z₀ quad mid z = (z ≤ 8) × (length quad ≡ lanes) × (length mid ≡ lanes) × ((e : ℕ) → e < lanes → byteAt quad e ≡ bitXor (byteAt quad₀ e) (xorSum z (quadTerm rows table first e))) × (polar ≡ true → (e : ℕ) → e < lanes → byteAt mid e ≡ bitXor (byteAt mid₀ e) (xorSum z (midTerm rows sides table xs first e))) × (polar ≡ false → mid ≡ mid₀)
 
 abbrev μ-loop : tie.MeasureT-loop
-μ-loop quad₀ mid₀ rows sides first n table xs z₀ quad mid z = 8 - z
+μ-loop quad₀ mid₀ rows sides first n table xs polar z₀ quad mid z = 8 - z
 
 loop-holds : tie.Need-loop-holds Inv-loop μ-loop
 unfolding xorSum
 loop-holds c =
-    (search needs, search needs, search needs, (λ e h. sym (xor-zero-r _)), λ e h. sym (xor-zero-r _))
+    (search needs, search needs, search needs, (λ e h. sym (xor-zero-r _)), (λ on e h. sym (xor-zero-r _)), λ off. refl)
 
 add-add-column : tie.Need-add-add-column Inv-loop μ-loop
 add-add-column c = search needs
@@ -60,7 +61,8 @@ loop-again c =
       done .kept .0 ∙ l .inv .1,
       done .kept .1 .0 ∙ l .inv .2,
       (λ e h. done .ensures .0 e h ∙ sum-step (byteAt (now (a .quad)) e) (byteAt (l .quad) e) (l .z) (quadTerm (now (a .rows)) (now (a .table)) (a .first) e) (l .inv .3 e h)),
-      (λ e h. done .ensures .1 e h ∙ sum-step (byteAt (now (a .mid)) e) (byteAt (l .mid) e) (l .z) (midTerm (now (a .rows)) (now (a .sides)) (now (a .table)) (now (a .xs)) (a .first) e) (l .inv .4 e h)),
+      (λ on e h. done .ensures .1 .0 on e h ∙ sum-step (byteAt (now (a .mid)) e) (byteAt (l .mid) e) (l .z) (midTerm (now (a .rows)) (now (a .sides)) (now (a .table)) (now (a .xs)) (a .first) e) (l .inv .4 on e h)),
+      (λ off. done .ensures .1 .1 off ∙ l .inv .5 off),
     )
 
 same-length : tie.Need-same-length Inv-loop μ-loop
@@ -73,7 +75,7 @@ returns : tie.Need-returns Inv-loop μ-loop
 returns c =
     let l = c .before .loop in
     let end : l .z ≡ 8 = omega arith in
-    ((λ e h. (rw end at (l .inv .3)) e h), λ e h. (rw end at (l .inv .4)) e h)
+    ((λ e h. (rw end at (l .inv .3)) e h), ((λ on e h. (rw end at (l .inv .4)) on e h), l .inv .5))
 
 pub add-columns-spec : {M : Type 1} → statement M
 add-columns-spec =

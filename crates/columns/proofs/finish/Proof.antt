@@ -3,7 +3,8 @@
 use borrow.Author.Needs.{needs}
 use Prim.Native.Nat.{ℕ, _+_, _*_, _-_, _/_, _%_, _≤_, _<_}
 use mathlib.Core.List.{List}
-use mathlib.Core.Path.{_≡_, sym, ap₂, _∙_}
+use mathlib.Core.Bool.{true, false}
+use mathlib.Core.Path.{_≡_, refl, sym, ap₂, _∙_}
 use native.Mathlib.Nat.{add-assoc}
 use native.Mathlib.Omega.{arith}
 use denote.Ref.{now}
@@ -33,15 +34,15 @@ column-is : (P : ℕ) (rows T : List ℕ) (e h z : ℕ) → z < 8 → ((s : ℕ)
 column-is P rows T e h z k are = fold-is P rows T e h z are ∙ sym (ap₂ (foldOf P T e) (digits-div h k) (digits-mod h k))
 
 abbrev Inv-loop : tie.InvT-loop
-Inv-loop quad₀ mid₀ stacks sides panel tau n table xs h₀ quad mid h = (h ≤ 2) × (length quad ≡ lanes) × (length mid ≡ lanes) × ((e : ℕ) → e < tau → byteAt quad e ≡ bitXor (byteAt quad₀ e) (xorSum (h * 8) (quadTerm stacks panel table e))) × ((e : ℕ) → e < tau → byteAt mid e ≡ bitXor (byteAt mid₀ e) (xorSum (h * 8) (midTerm stacks sides panel table xs e)))
+Inv-loop quad₀ mid₀ stacks sides panel tau n table xs polar h₀ quad mid h = (h ≤ 2) × (length quad ≡ lanes) × (length mid ≡ lanes) × ((e : ℕ) → e < tau → byteAt quad e ≡ bitXor (byteAt quad₀ e) (xorSum (h * 8) (quadTerm stacks panel table e))) × (polar ≡ true → (e : ℕ) → e < tau → byteAt mid e ≡ bitXor (byteAt mid₀ e) (xorSum (h * 8) (midTerm stacks sides panel table xs e))) × (polar ≡ false → mid ≡ mid₀)
 
 abbrev μ-loop : tie.MeasureT-loop
-μ-loop quad₀ mid₀ stacks sides panel tau n table xs h₀ quad mid h = 2 - h
+μ-loop quad₀ mid₀ stacks sides panel tau n table xs polar h₀ quad mid h = 2 - h
 
 loop-holds : tie.Need-loop-holds Inv-loop μ-loop
 unfolding xorSum
 loop-holds c =
-    (search needs, search needs, search needs, (λ e h. sym (xor-zero-r _)), λ e h. sym (xor-zero-r _))
+    (search needs, search needs, search needs, (λ e h. sym (xor-zero-r _)), (λ on e h. sym (xor-zero-r _)), λ off. refl)
 
 slice-aggregate-gather : tie.Need-slice-aggregate-gather Inv-loop μ-loop
 slice-aggregate-gather c = search needs
@@ -49,11 +50,11 @@ slice-aggregate-gather c = search needs
 gather-requires : tie.Need-gather-requires Inv-loop μ-loop
 gather-requires c κs = search needs
 
-slice-aggregate-gather-2 : tie.Need-slice-aggregate-gather-2 Inv-loop μ-loop
-slice-aggregate-gather-2 c = search needs
+slice-aggregate-gather-sides : tie.Need-slice-aggregate-gather-sides Inv-loop μ-loop
+slice-aggregate-gather-sides c = search needs
 
-gather-requires-2 : tie.Need-gather-requires-2 Inv-loop μ-loop
-gather-requires-2 c κs = search needs
+gather-sides-requires : tie.Need-gather-sides-requires Inv-loop μ-loop
+gather-sides-requires c κs = search needs
 
 slice-aggregate-add-columns : tie.Need-slice-aggregate-add-columns Inv-loop μ-loop
 slice-aggregate-add-columns c = search needs
@@ -88,12 +89,12 @@ loop-again c =
     let l = c .before .before .before .before .before .before .before .before .before .before .before .before .before .before .before .before .loop in
     let most : a .tau ≤ lanes = c .before .before .before .before .before .before .before .before .before .before .before .before .before .before .before .before .before .before .before .before .before .before .before .pre .2 in
     let rows = c .before .before .before .before .before .before .before .before .before .before .before .before .before .gather in
-    let sides = c .before .before .before .before .before .before .before .before .before .before .gather2 in
+    let sides = c .before .before .before .before .before .before .before .before .before .before .gather-sides in
     let done = c .before .before .before .before .add-columns in
     let value : (e : ℕ) → e < a .tau → (z : ℕ) → z < 8 → xorSum 15 (λ s. bitOf (laneAt (rows .last .0) s e) z * alpha s) ≡ column 15 (now (a .stacks)) e (l .h * 8 + z) =
     λ e h z k. column-is 15 (rows .last .0) (now (a .stacks)) e (l .h) z k (λ s q. rows .ensures s e q h) in
-    let side : (e : ℕ) → e < a .tau → (z : ℕ) → z < 8 → xorSum 8 (λ s. bitOf (laneAt (sides .last .0) s e) z * alpha s) ≡ column 8 (now (a .sides)) e (l .h * 8 + z) =
-    λ e h z k. column-is 8 (sides .last .0) (now (a .sides)) e (l .h) z k (λ s q. sides .ensures s e q h) in
+    let side : a .polar ≡ true → (e : ℕ) → e < a .tau → (z : ℕ) → z < 8 → xorSum 8 (λ s. bitOf (laneAt (sides .last .0) s e) z * alpha s) ≡ column 8 (now (a .sides)) e (l .h * 8 + z) =
+    λ on e h z k. column-is 8 (sides .last .0) (now (a .sides)) e (l .h) z k (λ s q. sides .ensures on s e q h) in
     let place = add-assoc (a .panel * 16) (l .h * 8) in (
       omega (arith, c .before .before .before .before .before .before .before .before .before .before .before .before .before .before .before .loop-test .taken),
       done .kept .0 ∙ l .inv .1,
@@ -102,10 +103,11 @@ loop-again c =
           done .ensures .0 e (omega arith)
           ∙ eight-more (byteAt (now (a .quad)) e) (byteAt (l .quad) e) (l .h) (quadTerm (now (a .stacks)) (a .panel) (now (a .table)) e) _ (l .inv .3 e h)
           (λ z k. ap₂ (λ (i x : ℕ). product (laneAt (now (a .table)) i e) x) (place z) (value e h z k))),
-      (λ e h.
-          done .ensures .1 e (omega arith)
-          ∙ eight-more (byteAt (now (a .mid)) e) (byteAt (l .mid) e) (l .h) (midTerm (now (a .stacks)) (now (a .sides)) (a .panel) (now (a .table)) (now (a .xs)) e) _ (l .inv .4 e h)
-          (λ z k. ap₂ bitXor (ap₂ (λ (i x : ℕ). product (laneAt (now (a .table)) i e) x) (place z) (side e h z k)) (ap₂ (λ (i x : ℕ). byteAt (now (a .xs)) i * x) (place z) (value e h z k)))),
+      (λ on e h.
+          done .ensures .1 .0 on e (omega arith)
+          ∙ eight-more (byteAt (now (a .mid)) e) (byteAt (l .mid) e) (l .h) (midTerm (now (a .stacks)) (now (a .sides)) (a .panel) (now (a .table)) (now (a .xs)) e) _ (l .inv .4 on e h)
+          (λ z k. ap₂ bitXor (ap₂ (λ (i x : ℕ). product (laneAt (now (a .table)) i e) x) (place z) (side on e h z k)) (ap₂ (λ (i x : ℕ). byteAt (now (a .xs)) i * x) (place z) (value e h z k)))),
+      (λ off. done .ensures .1 .1 off ∙ l .inv .5 off),
     )
 
 same-length : tie.Need-same-length Inv-loop μ-loop
@@ -118,7 +120,7 @@ returns : tie.Need-returns Inv-loop μ-loop
 returns c =
     let l = c .before .loop in
     let end : l .h ≡ 2 = omega arith in
-    ((λ e h. (rw end at (l .inv .3)) e h), λ e h. (rw end at (l .inv .4)) e h)
+    ((λ e h. (rw end at (l .inv .3)) e h), ((λ on e h. (rw end at (l .inv .4)) on e h), l .inv .5))
 
 pub finish-spec : {M : Type 1} → statement M
 finish-spec =
@@ -129,8 +131,8 @@ finish-spec =
     loop-holds
     slice-aggregate-gather
     gather-requires
-    slice-aggregate-gather-2
-    gather-requires-2
+    slice-aggregate-gather-sides
+    gather-sides-requires
     slice-aggregate-add-columns
     slice-aggregate-add-columns-2
     mul-add-columns

@@ -2,6 +2,7 @@
 -- Assumes nothing.
 use borrow.Author.Needs.{needs}
 use Prim.Native.Nat.{ℕ, _+_, _*_, _-_, _%_, _/_, _≤_, _<_}
+use mathlib.Core.List.{List}
 use mathlib.Core.Path.{_≡_, refl, sym, ap, _∙_}
 use native.Mathlib.Omega.{arith}
 use denote.Ref.{now}
@@ -48,8 +49,11 @@ loop-again c =
       (λ e h. added .ensures .1 e h ∙ ap (λ (x : ℕ). bitXor x (chosen e (l .b))) (l .inv .2 e h) ∙ sym (sum-more (l .b) (chosen e))),
     )
 
-copy-lanes-requires : tie.Need-copy-lanes-requires Inv-loop μ-loop
-copy-lanes-requires c κs = c .before .before .before .before .before .before .before .pre .0
+slice-aggregate-copy-into : tie.Need-slice-aggregate-copy-into Inv-loop μ-loop
+slice-aggregate-copy-into c = sym (c .before .before .before .loop .inv .1)
+
+copy-into-requires : tie.Need-copy-into-requires Inv-loop μ-loop
+copy-into-requires c κs = c .before .before .before .loop .inv .1 ∙ sym (c .before .before .before .before .before .before .before .pre .0)
 
 same-length : tie.Need-same-length Inv-loop μ-loop
 same-length c = search needs
@@ -61,7 +65,7 @@ returns c table n e tabled long most h =
     let l = c .before .before .before .before .before .before .loop in
     let row = now (a .row) in
     let end : l .b ≡ length row = omega arith in
-    c .before .before .copy-lanes .ensures e h ∙ (rw end at (l .inv .2)) e h
+    ap (λ (d : List ℕ). byteAt d e) (c .before .before .copy-into .ensures) ∙ (rw end at (l .inv .2)) e h
     ∙ look-up-selects row table e (now (a .sums)) h (length row) tabled (λ i. c .before .before .before .before .before .before .before .before .shared-slice-known .given i .fits) n long most
 
 pub look-up-row-spec : {M : Type 1} → statement M
@@ -76,6 +80,7 @@ look-up-row-spec =
     add-b
     loop-less
     loop-again
-    copy-lanes-requires
+    slice-aggregate-copy-into
+    copy-into-requires
     same-length
     returns)

@@ -2,21 +2,23 @@
 -- Assumes nothing.
 use borrow.Author.Needs.{needs}
 use Prim.Native.Nat.{ℕ, zero, suc, _+_, _*_, _-_, _/_, _%_, _≤_, _<_}
+use mathlib.Core.Bool.{Bool, true, false}
 use mathlib.Core.List.{List}
 use mathlib.Core.Path.{_≡_, refl, sym, ap, ap₂, _∙_}
 use native.Mathlib.Nat.{mul-le-mul}
 use native.Mathlib.Omega.{arith}
 use denote.Ref.{now}
 use lib.ListN.{length, replicate}
-use lib.Bits.{bitXor, xor-zero-l}
+use lib.Bits.{bitXor, xor-zero-l, xor-zero-r}
 use Rattle.strings.specs.Sums.{byteAt, xorSum}
-use Rattle.strings.proofs.SumLaws.{sum-same}
+use Rattle.strings.proofs.SumLaws.{sum-same, sum-none}
 use Rattle.lanes.specs.Lanes.{laneAt}
 use Rattle.chunks.specs.Chunks.{chunk}
 use Rattle.choices.specs.Entries.{Chosen}
 use Rattle.folds.specs.Folds.{Folded}
 use Rattle.columns.specs.Stacks.{product, foldOf}
-use Rattle.batching.specs.Batched.{most, cellSum, leftSum}
+use Rattle.columns.proofs.ProductLaws.{product-zero, product-comm}
+use Rattle.batching.specs.Batched.{most, cellSum, batchedByte, leftSum}
 use Rattle.batching.proofs.FormLaws.{product-scale}
 use Rattle.batching.proofs.StackLaws.{stack-none, lane-past}
 use Rattle.batching.proofs.PanelLaws.{cell-lt, fold-is, column-is, bit-column-is}
@@ -33,6 +35,20 @@ fit J n m l h k i e =
     let few : J + 1 ≤ 10 = omega arith in
     let room : m * chunk ≤ 5120 = omega arith in
     omega (arith, mul-le-mul few room)
+
+-- there is no polar form with bits that are 0
+no-polar : (w size m : ℕ) (A χ : List ℕ) (e J : ℕ) (x y : ℕ → ℕ) → ((c : ℕ) → x c ≡ 0)
+    → xorSum 16 (λ s. bitXor (product (y (J * 16 + s)) (leftSum w size m A χ e x J (J * 16 + s))) (product (x (J * 16 + s)) (leftSum w size m A χ e y J (J * 16 + s)))) ≡ 0
+no-polar w size m A χ e J x y none =
+    let left : (c : ℕ) → leftSum w size m A χ e x J c ≡ 0 = λ c. sum-same ((J + 1) * 16) _ (λ ρ. 0) (λ ρ l. ap (λ v. product v (batchedByte w size m A χ e ρ c)) (none ρ) ∙ product-zero _) ∙ sum-none ((J + 1) * 16) in
+    sum-same 16 _ (λ s. 0) (λ s l.
+    ap₂ bitXor (ap (product (y (J * 16 + s))) (left (J * 16 + s)) ∙ product-comm (y (J * 16 + s)) 0 ∙ product-zero (y (J * 16 + s))) (ap (λ v. product v (leftSum w size m A χ e y J (J * 16 + s))) (none (J * 16 + s)) ∙ product-zero _)
+    ∙ xor-zero-l 0)
+    ∙ sum-none 16
+
+either : (p : Bool) (P : Type 0) → (p ≡ true → P) → (p ≡ false → P) → P
+either true P on off = on refl
+either false P on off = off refl
 
 slice-aggregate-collect : tie.Need-slice-aggregate-collect
 slice-aggregate-collect c = search needs
@@ -104,12 +120,17 @@ returns c =
           ∙ ap (bitXor (byteAt (now (a .quad)) e))
           (sum-same 16 _ _ (λ s hs. column-is (a .n) w (a .m) A χ cells e J folded (λ ρ. laneAt T ρ e) (gone e) (laneAt T (J * 16 + s) e) (foldOf 15 (collected .last .0) e (s / 8) (s % 8)) (J * 16 + s) (gone e (J * 16 + s)) (column A χ w e s folded small chosen he hs)))),
       (λ A χ w e folded small chosen he.
-          finished .ensures .1 e he
+          either (a .polar) _
+          (λ on.
+          finished .ensures .1 .0 on e he
           ∙ ap (bitXor (byteAt (now (a .mid)) e))
           (sum-same 16 _ _ (λ s hs.
           ap₂ bitXor
           (column-is (a .n) w (a .m) A χ cells e J folded (byteAt xs) (more .4) (laneAt T (J * 16 + s) e) (foldOf 8 (collected .last .1 .0) e (s / 8) (s % 8)) (J * 16 + s) (gone e (J * 16 + s)) (beside A χ w e s folded small chosen he hs))
-          (bit-column-is (a .n) w (a .m) A χ cells e J folded (λ ρ. laneAt T ρ e) (gone e) (byteAt xs (J * 16 + s)) (foldOf 15 (collected .last .0) e (s / 8) (s % 8)) (J * 16 + s) (more .3 (J * 16 + s)) (more .4 (J * 16 + s)) (column A χ w e s folded small chosen he hs))))),
+          (bit-column-is (a .n) w (a .m) A χ cells e J folded (λ ρ. laneAt T ρ e) (gone e) (byteAt xs (J * 16 + s)) (foldOf 15 (collected .last .0) e (s / 8) (s % 8)) (J * 16 + s) (more .3 (J * 16 + s)) (more .4 (J * 16 + s)) (column A χ w e s folded small chosen he hs)))))
+          (λ off.
+          ap (λ (r : List ℕ). byteAt r e) (finished .ensures .1 .1 off)
+          ∙ sym (ap (bitXor (byteAt (now (a .mid)) e)) (no-polar w (a .n * w) (a .m) A χ e J (byteAt xs) (λ ρ. laneAt T ρ e) (more .7 off)) ∙ xor-zero-r (byteAt (now (a .mid)) e)))),
     )
 
 pub add-panel-spec : {M : Type 1} → statement M

@@ -1,4 +1,4 @@
--- `quadratic::batch::batch_forms` meets its contract: the words that the batching bytes choose, the forms of the batched matrix, and the linear part
+-- `quadratic::batch::batch_forms` meets its contract: the words of what the batching bytes choose, the forms of the batched matrix, and the linear part
 -- (`BatchLaws`).
 -- Assumes nothing.
 use borrow.Author.Needs.{needs}

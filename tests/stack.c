@@ -1,0 +1,100 @@
+/*
+ * Tests what the header says of the stack: each call takes less than 256 KiB of it, at the largest sizes (a call
+ * takes the same at all sizes, since its buffers are those of the largest). A control takes more, and must be seen.
+ */
+#define _XOPEN_SOURCE 700
+#include <stdio.h>
+
+#include "case.h"
+#include "depth.h"
+
+enum { LIMIT = 256 * 1024 };
+
+static struct made made;
+static uint8_t *out;
+static uint32_t word;
+
+static size_t size_of(size_t (*size)(size_t, size_t, size_t, size_t))
+{
+    return size(made.sizes.n, made.sizes.m, made.sizes.tau, made.sizes.t);
+}
+
+static void nothing(void)
+{
+}
+
+/* As large a stack as is said, and a byte more. */
+static void control(void)
+{
+    volatile uint8_t room[LIMIT];
+    room[0] = 1;
+    word = (uint32_t)(room[0] - 1);
+}
+
+static void test(void)
+{
+    word = mq_test(made.key.at, made.key.len, made.witness.at, made.witness.len);
+}
+
+static void commit(void)
+{
+    word = mq_commit(made.key.at, made.key.len, made.leaves.at, made.leaves.len, made.witness.at, made.witness.len,
+                     out, size_of(mq_commit_size));
+}
+
+static void hash(void)
+{
+    word = mq_hash(made.key.at, made.key.len, made.leaves.at, made.leaves.len, made.hash_matrix.at,
+                   made.hash_matrix.len, out, size_of(mq_hash_size));
+}
+
+static void batch(void)
+{
+    word = mq_batch(made.key.at, made.key.len, made.leaves.at, made.leaves.len, made.witness.at, made.witness.len,
+                    made.batching.at, made.batching.len, out, size_of(mq_batch_size));
+}
+
+static void prove(void)
+{
+    word = mq_prove(made.key.at, made.key.len, made.leaves.at, made.leaves.len, made.witness.at, made.witness.len,
+                    made.hash_matrix.at, made.hash_matrix.len, made.batching.at, made.batching.len, made.proof.at,
+                    made.proof.len);
+}
+
+static void verify(void)
+{
+    word = mq_verify(made.key.at, made.key.len, made.delta.at, made.delta.len, made.hash_matrix.at,
+                     made.hash_matrix.len, made.batching.at, made.batching.len, made.opened.at, made.opened.len,
+                     made.proof.at, made.proof.len);
+}
+
+static const struct {
+    const char *name;
+    void (*run)(void);
+} calls[] = {
+    { "mq_test", test },   { "mq_commit", commit }, { "mq_hash", hash },
+    { "mq_batch", batch }, { "mq_prove", prove },   { "mq_verify", verify }, /* what was proved */
+};
+
+int main(void)
+{
+    const struct sizes largest = { MQ_MAX_VARIABLES, MQ_MAX_EQUATIONS, MQ_MAX_REPETITIONS, MQ_MAX_HASH_ROWS };
+    const size_t bare = depth_of(nothing);
+    made = make_case(1, largest);
+    out = lend(made.proof.len).at;
+    for (size_t i = 0; i < sizeof calls / sizeof calls[0]; i++) {
+        const size_t depth = depth_of(calls[i].run) - bare;
+        printf("%s: %zu bytes of stack\n", calls[i].name, depth);
+        if (word || depth >= LIMIT) {
+            printf("%s\n", word ? "refused" : "more than the header says");
+            return 1;
+        }
+    }
+    if (depth_of(control) - bare < LIMIT) {
+        printf("the control is not seen\n");
+        return 1;
+    }
+    free(out);
+    drop_case(&made);
+    return 0;
+}
