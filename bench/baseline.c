@@ -145,22 +145,20 @@ INLINE void transpose_bytes(reg r[16])
     }
 }
 
+/* Rows i and i + 4, element by element, become rows 2i and 2i + 1. */
+#define INTERLEAVE(from, to, bits) \
+    for (int i = 0; i < 4; i++) { \
+        to[2 * i] = _mm_unpacklo_epi##bits(from[i], from[i + 4]); \
+        to[2 * i + 1] = _mm_unpackhi_epi##bits(from[i], from[i + 4]); \
+    }
+
 /* Word i of row j becomes word j of row i. */
 INLINE void transpose_words(const reg in[8], reg out[8])
 {
     reg a[8], b[8];
-    for (int i = 0; i < 4; i++) {
-        a[2 * i] = _mm_unpacklo_epi16(in[i], in[i + 4]);
-        a[2 * i + 1] = _mm_unpackhi_epi16(in[i], in[i + 4]);
-    }
-    for (int i = 0; i < 4; i++) {
-        b[2 * i] = _mm_unpacklo_epi16(a[i], a[i + 4]);
-        b[2 * i + 1] = _mm_unpackhi_epi16(a[i], a[i + 4]);
-    }
-    for (int i = 0; i < 4; i++) {
-        out[2 * i] = _mm_unpacklo_epi16(b[i], b[i + 4]);
-        out[2 * i + 1] = _mm_unpackhi_epi16(b[i], b[i + 4]);
-    }
+    INTERLEAVE(in, a, 16)
+    INTERLEAVE(a, b, 16)
+    INTERLEAVE(b, out, 16)
 }
 
 /* Exchanges the bits of a under the mask, moved up, with those of b under the mask. */
@@ -567,18 +565,9 @@ INLINE void gather(const uint8_t *at, size_t row, reg out[8])
     for (size_t i = 0; i < 8; i++)
         r[i] = _mm_unpacklo_epi8(_mm_loadl_epi64((const reg *)(at + i * row)),
                                  _mm_loadl_epi64((const reg *)(at + (i + 8) * row)));
-    for (int i = 0; i < 4; i++) {
-        s[2 * i] = _mm_unpacklo_epi8(r[i], r[i + 4]);
-        s[2 * i + 1] = _mm_unpackhi_epi8(r[i], r[i + 4]);
-    }
-    for (int i = 0; i < 4; i++) {
-        r[2 * i] = _mm_unpacklo_epi8(s[i], s[i + 4]);
-        r[2 * i + 1] = _mm_unpackhi_epi8(s[i], s[i + 4]);
-    }
-    for (int i = 0; i < 4; i++) {
-        out[2 * i] = _mm_unpacklo_epi8(r[i], r[i + 4]);
-        out[2 * i + 1] = _mm_unpackhi_epi8(r[i], r[i + 4]);
-    }
+    INTERLEAVE(r, s, 8)
+    INTERLEAVE(s, r, 8)
+    INTERLEAVE(r, out, 8)
 }
 
 /* Where the squares of panel J begin in a set whose first panel is `first`. */

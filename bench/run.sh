@@ -2,7 +2,8 @@
 # Benchmark: builds the library (or takes that of SOLFADRUS_LIB_DIR), the C programs by gcc and by clang, and the
 # rendering; holds the C programs against the rendering; then times all in one run, and plots the verifier's times
 # to target/bench/verify.svg; the ratios, with date and commit, go to the end of bench/history.tsv (those up to
-# 981c830 are to an earlier and slower baseline.c). A word is the number of repetitions. Nothing here passes or fails by a time.
+# 981c830 are to an earlier and slower baseline.c). A word is the number of repetitions. Nothing here passes or fails
+# by a time.
 set -eu
 cd "$(dirname "$0")/.."
 . tests/need.sh

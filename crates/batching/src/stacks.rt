@@ -1,5 +1,5 @@
-// The batched matrix times the vectors of the repetitions. The words of what the batching bytes choose are public; the vectors and the stacks are secret: no branch and no
-// index goes by them.
+// The batched matrix times the vectors of the repetitions. The words of what the batching bytes choose are public; the vectors and the stacks are
+// secret: no branch and no index goes by them.
 ghost use mathlib.Core.Path.{_≡_};
 ghost use mathlib.Core.Bool.{false};
 ghost use mathlib.Core.List.{List};
@@ -105,8 +105,8 @@ fn absorb_polar(side: &mut [u8], p: usize, both: &[u8], mask: &[u8], polar: bool
     }
 }
 
-// Adds a chunk of the batched matrix to a stack, times v, and to a side, under a mask, which is lent twice: it is the sum of the rows S, each times its byte χ, whose
-// bits the words hold.
+// Adds a chunk of the batched matrix to a stack, times v, and to a side, under a mask, which is lent twice: it is the sum of the rows S, each times
+// its byte χ, whose bits the words hold.
 fn absorb(
     t: &mut [u8],
     side: &mut [u8],
