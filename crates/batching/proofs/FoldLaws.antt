@@ -5,7 +5,7 @@ use mathlib.Core.Path.{_≡_, sym, ap, ap₂, _∙_}
 use mathlib.Core.Bool.{Bool, true, false, cond}
 use mathlib.Core.List.{List}
 use Prim.Native.Nat.{ℕ, _+_, _*_, _-_, _/_, _%_, _≤_, _<_}
-use native.Mathlib.Nat.{zero-mul, one-mul, mul-zero}
+use native.Mathlib.Nat.{zero-mul, one-mul, mul-zero, mul-comm, mul-assoc}
 use native.Mathlib.Decide.{decLt}
 use native.Mathlib.Omega.{arith}
 use lib.Arith.{digits-div}
@@ -16,11 +16,12 @@ use Rattle.protocol.specs.Lists.{blockAt}
 use Rattle.strings.specs.Sums.{byteAt, xorSum}
 use Rattle.strings.proofs.SumLaws.{sum-same, sum-both, sum-none, sum-short, xor-scale, scale-xor}
 use Rattle.strings.proofs.Meaning.{bitOf-lt}
-use Rattle.chunks.proofs.BitSumLaws.{sum-swap, sum-blocks}
+use Rattle.chunks.proofs.BitSumLaws.{sum-swap, sum-blocks, bit-sum}
 use Rattle.folds.specs.Folds.{entry, foldedBit}
 use Rattle.columns.specs.Stacks.{product}
 use Rattle.columns.proofs.ProductLaws.{product-comm, product-zero}
 use Rattle.batching.specs.Batched.{batchedByte, leftSum, formSum}
+use Rattle.batching.specs.Lines.{leftOf}
 use Rattle.batching.proofs.FormLaws.{product-outer, product-rows}
 
 -- ---- one matrix
@@ -47,11 +48,15 @@ panels-both N g g′ =
     sym (sum-both N _ _)
     ∙ sum-same N _ _ (λ J l. sym (sum-both 16 _ _) ∙ sum-same 16 _ _ (λ s k. sym (sum-both ((J + 1) * 16) (λ ρ. g ρ (J * 16 + s)) (λ ρ. g′ ρ (J * 16 + s)))))
 
+panels-columns : (N : ℕ) (g : ℕ → ℕ → ℕ) → panels N g ≡ xorSum (N * 16) (λ c. xorSum ((c / 16 + 1) * 16) (λ ρ. g ρ c))
+panels-columns N g =
+    sum-same N _ _ (λ J l. sum-same 16 _ (λ s. xorSum (((J * 16 + s) / 16 + 1) * 16) (λ ρ. g ρ (J * 16 + s))) (λ s k. ap (λ j. xorSum ((j + 1) * 16) (λ ρ. g ρ (J * 16 + s))) (sym (digits-div J k))))
+    ∙ sum-blocks N 16 (λ c. xorSum ((c / 16 + 1) * 16) (λ ρ. g ρ c))
+
 panels-are : (N : ℕ) (g : ℕ → ℕ → ℕ) → panels N g ≡ xorSum (N * 16) (λ c. xorSum (N * 16) (λ ρ. inTime ρ c * g ρ c))
 unfolding inTime
 panels-are N g =
-    sum-same N _ _ (λ J l. sum-same 16 _ (λ s. xorSum (((J * 16 + s) / 16 + 1) * 16) (λ ρ. g ρ (J * 16 + s))) (λ s k. ap (λ j. xorSum ((j + 1) * 16) (λ ρ. g ρ (J * 16 + s))) (sym (digits-div J k))))
-    ∙ sum-blocks N 16 (λ c. xorSum ((c / 16 + 1) * 16) (λ ρ. g ρ c))
+    panels-columns N g
     ∙ sum-same (N * 16) _ _ (λ c l.
     sum-same ((c / 16 + 1) * 16) _ (λ ρ. inTime ρ c * g ρ c) (λ ρ k. sym (ap (λ b. cond b 0 1 * g ρ c) (ltb-no (c / 16) (ρ / 16) (omega arith)) ∙ one-mul (g ρ c)))
     ∙ sym (sum-short ((c / 16 + 1) * 16) (N * 16) (λ ρ. inTime ρ c * g ρ c) (omega arith) (λ ρ k j. ap (λ b. cond b 0 1 * g ρ c) (ltb-yes (c / 16) (ρ / 16) (omega arith)) ∙ zero-mul (g ρ c))))
@@ -92,6 +97,36 @@ module _ (E φ : ℕ → ℕ → ℕ) (bits : (ρ c : ℕ) → E ρ c < 2) (even
       (λ c l. sym (sum-both Z (λ ρ. inTime ρ c * a ρ c) (λ ρ. earlier c ρ * a ρ c)) ∙ sum-same Z _ _ (λ ρ k. one-of-two (ltb (c / 16) (ρ / 16)) (a ρ c)))
       ∙ sum-swap Z Z (λ c ρ. a ρ c)
 
+-- ---- one matrix, at bits
+
+-- the form xᵀ·A·x is the row xᵀ·F times x, F the folded matrix
+pub left-form : (N n w size i : ℕ) (A : List ℕ) (x : ℕ → ℕ) → n ≤ N * 16 → ((c : ℕ) → x c < 2) → ((c : ℕ) → n ≤ c → x c ≡ 0)
+    → xorSum n (λ c. leftOf w size A x i c * x c) ≡ xorSum n (λ ρ. x ρ * xorSum n (λ c. entry w (blockAt A size i) ρ c * x c))
+unfolding leftOf foldedBit
+left-form N n w size i A x most bit none =
+    let Z = N * 16 in
+    let E = entry w (blockAt A size i) in
+    sym (sum-short n Z (λ c. leftOf w size A x i c * x c) most (λ c j h. ap (λ q. leftOf w size A x i c * q) (none c j) ∙ mul-zero _))
+    ∙ sum-same Z _ (λ c. xorSum ((c / 16 + 1) * 16) (λ ρ. folded E ρ c * (x ρ * x c)))
+    (λ c l.
+    mul-comm (leftOf w size A x i c) (x c)
+    ∙ bit-sum (x c) ((c / 16 + 1) * 16) (λ ρ. x ρ * folded E ρ c) (bit c)
+    ∙ sum-same ((c / 16 + 1) * 16) _ _ (λ ρ k. to-last (x c) (x ρ) (folded E ρ c)))
+    ∙ sym (panels-columns N (λ ρ c. folded E ρ c * (x ρ * x c)))
+    ∙ fold-sum E (λ ρ c. x ρ * x c) (λ ρ c. bitOf-lt _ (c % 8)) (λ ρ c. mul-comm (x ρ) (x c)) N
+    ∙ sum-same Z _ (λ ρ. x ρ * xorSum n (λ c. E ρ c * x c))
+    (λ ρ l.
+    sum-short n Z (λ c. E ρ c * (x ρ * x c)) most (λ c j h. ap (λ q. E ρ c * (x ρ * q)) (none c j) ∙ ap (λ q. E ρ c * q) (mul-zero (x ρ)) ∙ mul-zero (E ρ c))
+    ∙ sum-same n _ _ (λ c k. to-middle (E ρ c) (x ρ) (x c))
+    ∙ sym (bit-sum (x ρ) n (λ c. E ρ c * x c) (bit ρ)))
+    ∙ sum-short n Z (λ ρ. x ρ * xorSum n (λ c. E ρ c * x c)) most (λ ρ j h. ap (λ q. q * xorSum n (λ c. E ρ c * x c)) (none ρ j) ∙ zero-mul _)
+  where
+    to-last : (p q r : ℕ) → p * (q * r) ≡ r * (q * p)
+    to-last p q r = ap (λ y. p * y) (mul-comm q r) ∙ sym (mul-assoc p r q) ∙ ap (λ y. y * q) (mul-comm p r) ∙ mul-assoc r p q ∙ ap (λ y. r * y) (mul-comm p q)
+
+    to-middle : (p q r : ℕ) → p * (q * r) ≡ q * (p * r)
+    to-middle p q r = sym (mul-assoc p q r) ∙ ap (λ y. y * r) (mul-comm p q) ∙ mul-assoc q p r
+
 -- ---- all matrices, batched
 
 -- the batched matrix between two vectors, from the cells; and from the matrices themselves
@@ -113,6 +148,10 @@ folded-lt E bits ρ c = go (ltb (ρ / 16) (c / 16))
     go : (b : Bool) → bitXor (E ρ c) (cond b (E c ρ) 0) < 2
     go true = xor-lt 1 (E ρ c) (E c ρ) (bits ρ c) (bits c ρ)
     go false = xor-lt 1 (E ρ c) 0 (bits ρ c) (lit< tt)
+
+pub folded-bit-lt : (w : ℕ) (M : List ℕ) (ρ c : ℕ) → foldedBit w M ρ c < 2
+unfolding foldedBit
+folded-bit-lt w M ρ c = folded-lt (entry w M) (λ r k. bitOf-lt _ (k % 8)) ρ c
 
 -- the four indices of a term, the last first
 to-front : (N m : ℕ) (R : ℕ → ℕ) (F : ℕ → ℕ → ℕ → ℕ → ℕ)
@@ -177,10 +216,7 @@ module _ (N n w m : ℕ) (A χ : List ℕ) (e : ℕ) (most : n ≤ N * 16) (y : 
   form-is = quad-folded N n m (λ i. entry w (blockAt A (n * w) i)) (λ i. byteAt χ (e * m + i)) (λ i ρ c. bitOf-lt _ (c % 8)) most y gone
 
   pub polar-is : (x : ℕ → ℕ) → ((c : ℕ) → n ≤ c → x c ≡ 0)
-      → xorSum N (λ J. xorSum 16 (λ s. bitXor (product (y (J * 16 + s)) (leftSum w (n * w) m A χ e x J (J * 16 + s))) (product (x (J * 16 + s)) (leftSum w (n * w) m A χ e y J (J * 16 + s)))))
+      → bitXor (xorSum N (λ J. xorSum 16 (λ s. product (y (J * 16 + s)) (leftSum w (n * w) m A χ e x J (J * 16 + s))))) (xorSum N (λ J. xorSum 16 (λ s. product (x (J * 16 + s)) (leftSum w (n * w) m A χ e y J (J * 16 + s)))))
       ≡ bitXor (formSum n w m A χ e y x) (formSum n w m A χ e x y)
   unfolding batchedByte foldedBit formSum
-  polar-is x none =
-      sum-same N _ _ (λ J l. sum-both 16 (λ s. product (y (J * 16 + s)) (leftSum w (n * w) m A χ e x J (J * 16 + s))) (λ s. product (x (J * 16 + s)) (leftSum w (n * w) m A χ e y J (J * 16 + s))))
-      ∙ sum-both N (λ J. xorSum 16 (λ s. product (y (J * 16 + s)) (leftSum w (n * w) m A χ e x J (J * 16 + s)))) (λ J. xorSum 16 (λ s. product (x (J * 16 + s)) (leftSum w (n * w) m A χ e y J (J * 16 + s))))
-      ∙ polar-folded N n m (λ i. entry w (blockAt A (n * w) i)) (λ i. byteAt χ (e * m + i)) (λ i ρ c. bitOf-lt _ (c % 8)) most y x gone none
+  polar-is x none = polar-folded N n m (λ i. entry w (blockAt A (n * w) i)) (λ i. byteAt χ (e * m + i)) (λ i ρ c. bitOf-lt _ (c % 8)) most y x gone none

@@ -1,9 +1,10 @@
--- Laws of products of three factors; a bit as an element; and a sum over rows of products, each under a bit.
+-- Laws of products of two and of three factors; a bit as an element; and a sum over rows of products, each under a bit.
 -- Assumes nothing.
 use mathlib.Core.Path.{_≡_, sym, ap, _∙_}
 use Prim.Native.Nat.{ℕ, zero, suc, _*_, _-_, _<_}
 use native.Mathlib.Nat.{zero-mul, one-mul}
 use native.Mathlib.Omega.{arith}
+use lib.Bits.{bitXor}
 use Rattle.algebra.specs.Ring.{Ring}
 use Rattle.algebra.specs.Field.{Field}
 use Rattle.algebra.specs.Coded.{Coded, mulByte}
@@ -31,12 +32,20 @@ module _ (C : Coded) where
   coded-one : (a : ℕ) → a < base .size → mulByte C 1 a ≡ a
   coded-one a h = ap byte (ap (λ x. x ⊗ elem a) (C .elem-one) ∙ R .mul-comm 𝟙 (elem a) ∙ R .mul-one (elem a)) ∙ C .byte-elem a h
 
+  coded-xor : (a u v : ℕ) → mulByte C a (bitXor u v) ≡ bitXor (mulByte C a u) (mulByte C a v)
+  coded-xor a u v =
+      ap (λ x. byte (elem a ⊗ x)) (C .elem-xor u v) ∙ ap byte (R .mul-add (elem a) (elem u) (elem v)) ∙ C .byte-add (elem a ⊗ elem u) (elem a ⊗ elem v)
+
   coded-lt : (a b : ℕ) → mulByte C a b < base .size
   coded-lt a b = C .byte-lt (elem a ⊗ elem b)
 
 pub product-outer : (a b c : ℕ) → product a (product b c) ≡ product c (product b a)
 unfolding product
 product-outer a b c = coded-outer gf256 a b c
+
+pub product-xor : (a u v : ℕ) → product a (bitXor u v) ≡ bitXor (product a u) (product a v)
+unfolding product
+product-xor a u v = coded-xor gf256 a u v
 
 pub product-one : (a : ℕ) → a < 256 → product 1 a ≡ a
 unfolding product

@@ -2,3 +2,5 @@ pub mod FormLaws
 pub mod StackLaws
 pub mod FoldLaws
 pub mod PanelLaws
+pub mod LineLaws
+pub mod LeftLaws

@@ -1,4 +1,4 @@
--- What the stacks and sides of a panel come to: the sums over the rows of the batched matrix, folded.
+-- What the stacks of a panel come to: the sums over the rows of the batched matrix, folded.
 -- Assumes nothing.
 use mathlib.Core.Path.{_≡_, sym, ap, _∙_}
 use mathlib.Core.List.{List}
@@ -6,26 +6,19 @@ use Prim.Native.Nat.{ℕ, _+_, _*_, _/_, _%_, _≤_, _<_}
 use native.Mathlib.Nat.{zero-mul}
 use native.Mathlib.Decide.{decLt}
 use native.Mathlib.Omega.{arith}
-use Rattle.strings.specs.Sums.{byteAt, bitOf, xorSum}
+use Rattle.strings.specs.Sums.{byteAt, xorSum}
 use Rattle.strings.proofs.SumLaws.{sum-same, sum-lt}
-use Rattle.strings.proofs.Meaning.{bitOf-lt}
-use Rattle.chunks.specs.Chunks.{cellAt}
 use Rattle.chunks.proofs.BitSumLaws.{sum-swap, sum-blocks}
 use Rattle.folds.specs.Folds.{Folded}
 use Rattle.columns.specs.Stacks.{product, stackOf, foldOf}
 use Rattle.columns.proofs.ProductLaws.{product-zero}
 use Rattle.batching.specs.Batched.{cellSum, batchedByte, leftSum}
 use Rattle.batching.proofs.FormLaws.{product-scale, product-lt}
-use Rattle.batching.proofs.StackLaws.{scaled-lt}
 
 module _ (n w m : ℕ) (A χ cells : List ℕ) (e J : ℕ) (loaded : Folded n w m A J cells) where
   cell-is : (q h f z : ℕ) → q ≤ J → h < 2 → f < 16 → z < 8 → q * 16 + f < n → J * 16 + (h * 8 + z) < n → cellSum cells m χ e q (h * 16 + f) z ≡ batchedByte w (n * w) m A χ e (q * 16 + f) (J * 16 + (h * 8 + z))
   unfolding cellSum batchedByte
   cell-is q h f z hq hh hf hz row col = sum-same m _ _ (λ i l. ap (λ x. x * byteAt χ (e * m + i)) (loaded q i h f z hq l hh hf hz row col))
-
-  pub cell-lt : ((k : ℕ) → byteAt χ k < 256) → (q f z : ℕ) → cellSum cells m χ e q f z < 256
-  unfolding cellSum
-  cell-lt small q f z = sum-lt 8 m _ (omega arith) (λ i l. scaled-lt (bitOf (cellAt cells (q * m + i) f) z) (byteAt χ (e * m + i)) (bitOf-lt _ z) (small (e * m + i)))
 
   module _ (W : ℕ → ℕ) (none : (ρ : ℕ) → n ≤ ρ → W ρ ≡ 0) where
     -- there are no rows from n on

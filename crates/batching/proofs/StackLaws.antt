@@ -1,23 +1,21 @@
 -- All planes of a sum that bytes weigh; and stacks whose bytes are known.
 -- Assumes nothing.
-use mathlib.Core.Path.{_≡_, sym, ap, ap₂, _∙_}
+use mathlib.Core.Path.{_≡_, sym, ap, _∙_}
 use mathlib.Core.List.{List}
 use Prim.Native.Nat.{ℕ, zero, suc, _+_, _*_, _-_, _≤_, _<_}
 use native.Mathlib.Nat.{zero-mul, one-mul, mul-comm, mul-assoc}
 use native.Mathlib.Omega.{arith}
 use lib.Dec.{lit<}
 use lib.ListN.{length, List·getD-eq-default}
-use Rattle.field.specs.Gf256.{gf256}
 use Rattle.strings.specs.Sums.{byteAt, bitOf, xorSum}
-use Rattle.strings.proofs.SumLaws.{sum-same, sum-none, sum-lt}
-use Rattle.strings.proofs.Meaning.{bitOf-lt, bitOf-zero, bitOf-sum, bit-times}
+use Rattle.strings.proofs.SumLaws.{sum-same, sum-none}
+use Rattle.strings.proofs.Meaning.{bitOf-lt, bitOf-zero}
 use Rattle.strings.proofs.ProductLaws.{bit-times-lt}
 use Rattle.lanes.specs.Lanes.{lanes, laneAt}
-use Rattle.chunks.specs.Chunks.{chunk, cellAt}
+use Rattle.chunks.specs.Chunks.{chunk}
 use Rattle.chunks.proofs.BitSumLaws.{sum-swap, times-sum, bit-sum}
 use Rattle.columns.specs.Stacks.{alpha, product, stackAt, stackOf}
 use Rattle.columns.proofs.ProductLaws.{product-comm, byte-bits, product-bits}
-use Rattle.batching.proofs.FormLaws.{product-one}
 
 pub scaled-lt : (q x : ℕ) → q < 2 → x < 256 → q * x < 256
 scaled-lt zero x h k = rw (zero-mul x) (lit< tt)
@@ -40,21 +38,6 @@ planes-added m v χ y small bits =
     ∙ ap (λ x. y i * x) (product-bits v 8 (bitOf (χ i)) alpha (bitOf-lt (χ i)) ∙ ap (product v) (byte-bits (χ i) (small i l))))
     ∙ product-bits v m y χ bits
 
-alpha-lt : (p : ℕ) → alpha p < 256
-unfolding alpha
-alpha-lt p = gf256 .byte-lt _
-
-pub side-sum : (S : List ℕ) (χ : ℕ → ℕ) (m x f z : ℕ) → x < 2 → ((i : ℕ) → i < m → χ i < 256)
-    → xorSum 8 (λ p. x * (bitOf (xorSum m (λ i. bitOf (χ i) p * cellAt S i f)) z * alpha p)) ≡ x * xorSum m (λ i. bitOf (cellAt S i f) z * χ i)
-side-sum S χ m x f z hx small =
-    sym (bit-sum x 8 (λ p. bitOf (xorSum m (λ i. bitOf (χ i) p * cellAt S i f)) z * alpha p) hx)
-    ∙ ap (λ y. x * y)
-    (sum-same 8 _ (λ p. xorSum m (λ i. bitOf (χ i) p * bitOf (cellAt S i f) z) * product (alpha p) 1)
-    (λ p l. ap₂ _*_ (bitOf-sum m (λ i. bitOf (χ i) p * cellAt S i f) z ∙ sum-same m _ _ (λ i k. bit-times (bitOf (χ i) p) (cellAt S i f) z (bitOf-lt (χ i) p)))
-    (sym (product-comm (alpha p) 1 ∙ product-one (alpha p) (alpha-lt p))))
-    ∙ planes-added m 1 χ (λ i. bitOf (cellAt S i f) z) small (λ i. bitOf-lt (cellAt S i f) z)
-    ∙ product-one _ (sum-lt 8 m _ (omega arith) (λ i l. scaled-lt (bitOf (cellAt S i f) z) (χ i) (bitOf-lt (cellAt S i f) z) (small i l))))
-
 -- ---- stacks whose bytes are known
 
 pub stack-is : (P : ℕ) (T r : List ℕ) (e f z : ℕ) → f < chunk → ((b : ℕ) → b < P * chunk → byteAt T (e * (P * chunk) + b) ≡ byteAt r b) → stackOf P T e f z ≡ stackAt P r f z
@@ -63,9 +46,9 @@ stack-is P T r e f z h same = sum-same P _ _ (λ s l. ap (λ x. bitOf x z * alph
 pub stack-same : (P : ℕ) (T T′ : List ℕ) (e f z : ℕ) → f < chunk → ((b : ℕ) → b < P * chunk → byteAt T (e * (P * chunk) + b) ≡ byteAt T′ (e * (P * chunk) + b)) → stackOf P T e f z ≡ stackOf P T′ e f z
 stack-same P T T′ e f z h same = sum-same P _ _ (λ s l. ap (λ x. bitOf x z * alpha s) (same (s * chunk + f) (omega arith)))
 
-pub stack-none : (P : ℕ) (T : List ℕ) (e f z : ℕ) → ((b : ℕ) → byteAt T b ≡ 0) → stackOf P T e f z ≡ 0
-stack-none P T e f z none =
-    sum-same P _ (λ s. 0) (λ s l. ap (λ x. x * alpha s) (ap (λ x. bitOf x z) (none (e * (P * chunk) + (s * chunk + f))) ∙ bitOf-zero z) ∙ zero-mul (alpha s)) ∙ sum-none P
+pub stack-none : (P : ℕ) (T : List ℕ) (e f z : ℕ) → f < chunk → ((b : ℕ) → b < P * chunk → byteAt T (e * (P * chunk) + b) ≡ 0) → stackOf P T e f z ≡ 0
+stack-none P T e f z h none =
+    sum-same P _ (λ s. 0) (λ s l. ap (λ x. x * alpha s) (ap (λ x. bitOf x z) (none (s * chunk + f) (omega arith)) ∙ bitOf-zero z) ∙ zero-mul (alpha s)) ∙ sum-none P
 
 -- a table has no coordinates from n on
 pub lane-past : (T : List ℕ) (n c e : ℕ) → length T ≡ n * lanes → n ≤ c → laneAt T c e ≡ 0

@@ -4,16 +4,13 @@
 --   batchedByte w size m A χ e ρ c == Σ_i χ(e, i)·F_i(ρ, c), where F_i is string i of A, of size bytes, in rows of w bytes, folded
 --   leftSum w size m A χ e W J c == Σ_ρ W(ρ)·Σ_i χ(e, i)·F_i(ρ, c), over the rows up to the J-th sixteen
 --   formSum n w m A χ e y W == Σ_i χ(e, i)·Σ_ρ W(ρ)·Σ_c A_i(ρ, c)·y(c), where A_i is matrix i of A, of n rows of w bytes
---   Loaded n w m A J cells after == where J is even, panel J of the m matrices of A stands in `cells` and panel J + 1 in `after`; where J is odd, panel J stands
---     in `after`
 -- Assumes nothing.
-use mathlib.Core.Path.{_≡_}
 use mathlib.Core.List.{List}
-use Prim.Native.Nat.{ℕ, _+_, _*_, _%_}
+use Prim.Native.Nat.{ℕ, _+_, _*_}
 use Rattle.protocol.specs.Lists.{blockAt}
 use Rattle.strings.specs.Sums.{byteAt, bitOf, xorSum}
 use Rattle.chunks.specs.Chunks.{cellAt}
-use Rattle.folds.specs.Folds.{entry, foldedBit, Folded}
+use Rattle.folds.specs.Folds.{entry, foldedBit}
 use Rattle.columns.specs.Stacks.{product}
 
 abbrev pub most : ℕ
@@ -31,6 +28,3 @@ leftSum w size m A χ e W J c = xorSum ((J + 1) * 16) (λ ρ. product (W ρ) (ba
 unfoldable pub formSum : ℕ → ℕ → ℕ → List ℕ → List ℕ → ℕ → (ℕ → ℕ) → (ℕ → ℕ) → ℕ
 formSum n w m A χ e y W =
     xorSum m (λ i. product (byteAt χ (e * m + i)) (xorSum n (λ ρ. product (W ρ) (xorSum n (λ c. entry w (blockAt A (n * w) i) ρ c * y c)))))
-
-abbrev pub Loaded : ℕ → ℕ → ℕ → List ℕ → ℕ → List ℕ → List ℕ → Type 0
-Loaded n w m A J cells after = (J % 2 ≡ 0 → Folded n w m A J cells × Folded n w m A (J + 1) after) × (J % 2 ≡ 1 → Folded n w m A J after)

@@ -1,20 +1,19 @@
 // The batched matrix times the vectors of the repetitions. The words of what the batching bytes choose are public; the vectors and the stacks are
 // secret: no branch and no index goes by them.
 ghost use mathlib.Core.Path.{_≡_};
-ghost use mathlib.Core.Bool.{false};
 ghost use mathlib.Core.List.{List};
-ghost use Prim.Native.Nat.{ℕ, _+_, _*_, _/_, _%_, _<_, _≤_};
+ghost use Prim.Native.Nat.{ℕ, _+_, _*_, _/_, _<_, _≤_};
 ghost use lib.ListN.{length};
 ghost use lib.Bits.{bitXor};
 ghost use Rattle.strings.specs.Sums.{byteAt, bitOf, xorSum};
 ghost use Rattle.lanes.specs.Lanes.{lanes, laneAt};
-ghost use Rattle.chunks.specs.Chunks.{chunk, pair, cellAt, Masks};
+ghost use Rattle.chunks.specs.Chunks.{chunk, cellAt, Masks};
 ghost use Rattle.choices.specs.Entries.{Chosen, Weighed};
-ghost use Rattle.columns.specs.Stacks.{alpha, product, stackAt, stackOf};
+ghost use Rattle.columns.specs.Stacks.{product, stackAt, stackOf};
 ghost use Rattle.batching.specs.Batched.{most, cellSum};
 use chunks::CHUNK;
 use chunks::PAIR;
-use columns::SIDE;
+use chunks::cells::copy_part;
 use columns::STACK;
 use lanes::LANES;
 
@@ -67,60 +66,19 @@ pub fn fill_vectors(vectors: &mut [u8], tau: usize, table: &[u8], n: usize)
     }
 }
 
-fn put_half(v: &mut [u8], h: usize, src: &[u8], from: usize)
-    requires { ⌜ (h * 16 + 16 ≤ length (now v)) × (from + 16 ≤ length (now src)) ⌝ }
-    ensures { λ _. ⌜ ((f : ℕ) → f < 16 → byteAt (now (v .exit)) (h * 16 + f) ≡ byteAt (now (src .entry)) (from + f)) ⌝ }
-    ensures { λ _. ⌜ ((q f : ℕ) → (q ≡ h → ⊥) → f < 16 → byteAt (now (v .exit)) (q * 16 + f) ≡ byteAt (now (v .entry)) (q * 16 + f)) ⌝ }
-{
-    let at = h * ROWS;
-    chunks::cells::copy_front(&mut v[at..at + ROWS], src, from, ROWS);
-}
-
 // Both halves of a chunk become sixteen bytes of src, from `from` on.
 fn spread(v: &mut [u8], src: &[u8], from: usize)
     requires { ⌜ (length (now v) ≡ chunk) × (from + 16 ≤ length (now src)) ⌝ }
     ensures { λ _. ⌜ ((h f : ℕ) → h < 2 → f < 16 → byteAt (now (v .exit)) (h * 16 + f) ≡ byteAt (now (src .entry)) (from + f)) ⌝ }
 {
-    put_half(v, 0, src, from);
-    put_half(v, 1, src, from);
+    copy_part(v, 0, ROWS, src, from);
+    copy_part(v, 1, ROWS, src, from);
 }
 
-// The same for each of two chunks.
-fn spread_twice(v: &mut [u8], src: &[u8], from: usize)
-    requires { ⌜ (length (now v) ≡ pair) × (from + 16 ≤ length (now src)) ⌝ }
-    ensures { λ _. ⌜ ((k h f : ℕ) → k < 2 → h < 2 → f < 16 → byteAt (now (v .exit)) (k * chunk + (h * 16 + f)) ≡ byteAt (now (src .entry)) (from + f)) ⌝ }
-{
-    let mut both = [0u8; CHUNK];
-    spread(&mut both, src, from);
-    planes::double(v, &both);
-}
-
-// Adds both planes to a side, under a mask, where the polar form is asked for. Where it is not, the mask is 0, and there is nothing to add.
-fn absorb_polar(side: &mut [u8], p: usize, both: &[u8], mask: &[u8], polar: bool)
-    requires { ⌜ (length (now side) ≡ 8 * chunk) × (p < 7) × (length (now both) ≡ pair) × (length (now mask) ≡ pair) × (polar ≡ false → (h f : ℕ) → h < 2 → f < chunk → byteAt (now mask) (h * chunk + f) ≡ 0) ⌝ }
-    ensures { λ _. ⌜ ((x f z : ℕ) → x < 2 → ((h : ℕ) → h < 2 → byteAt (now (mask .entry)) (h * chunk + f) ≡ x * 255) → f < chunk → stackAt 8 (now (side .exit)) f z ≡ bitXor (stackAt 8 (now (side .entry)) f z) (bitXor (x * (bitOf (cellAt (now (both .entry)) 0 f) z * alpha p)) (x * (bitOf (cellAt (now (both .entry)) 1 f) z * alpha (p + 1))))) ⌝ }
-{
-    if polar {
-        planes::absorb_sides(side, p, both, mask);
-    }
-}
-
-// Adds a chunk of the batched matrix to a stack, times v, and to a side, under a mask, which is lent twice: it is the sum of the rows S, each times
-// its byte χ, whose bits the words hold.
-fn absorb(
-    t: &mut [u8],
-    side: &mut [u8],
-    words: &[u64],
-    base: usize,
-    count: usize,
-    sums: &[u8],
-    masks: &[u8],
-    mask: &[u8],
-    polar: bool,
-)
-    requires { ⌜ (length (now t) ≡ 15 * chunk) × (length (now side) ≡ 8 * chunk) × ((base + 8) * count ≤ length (now words)) × (count ≤ 4) × (count * 256 * chunk ≤ length (now sums)) × (length (now masks) ≡ 8 * chunk) × (length (now mask) ≡ pair) × (base ≤ 1000) × (polar ≡ false → (h f : ℕ) → h < 2 → f < chunk → byteAt (now mask) (h * chunk + f) ≡ 0) ⌝ }
+// Adds a chunk of the batched matrix to a stack, times v: it is the sum of the rows S, each times its byte χ, whose bits the words hold.
+fn absorb(t: &mut [u8], words: &[u64], base: usize, count: usize, sums: &[u8], masks: &[u8])
+    requires { ⌜ (length (now t) ≡ 15 * chunk) × ((base + 8) * count ≤ length (now words)) × (count ≤ 4) × (count * 256 * chunk ≤ length (now sums)) × (length (now masks) ≡ 8 * chunk) × (base ≤ 1000) ⌝ }
     ensures { λ _. ⌜ ((S v : List ℕ) (χ : ℕ → ℕ) (m f z : ℕ) → Weighed S χ m (now (sums .entry)) (now (words .entry)) count base → Masks v (now (masks .entry)) → byteAt v f < 256 → f < chunk → stackAt 15 (now (t .exit)) f z ≡ bitXor (stackAt 15 (now (t .entry)) f z) (product (byteAt v f) (xorSum m (λ i. bitOf (cellAt S i f) z * χ i)))) ⌝ }
-    ensures { λ _. ⌜ ((S : List ℕ) (χ : ℕ → ℕ) (m x f z : ℕ) → Weighed S χ m (now (sums .entry)) (now (words .entry)) count base → x < 2 → ((h : ℕ) → h < 2 → byteAt (now (mask .entry)) (h * chunk + f) ≡ x * 255) → f < chunk → stackAt 8 (now (side .exit)) f z ≡ bitXor (stackAt 8 (now (side .entry)) f z) (x * xorSum m (λ i. bitOf (cellAt S i f) z * χ i))) ⌝ }
 {
     let mut k = 0;
     while k < 4 {
@@ -132,90 +90,63 @@ fn absorb(
             sums,
         );
         planes::absorb_planes(t, 2 * k, &both, masks);
-        absorb_polar(side, 2 * k, &both, mask, polar);
         k += 1;
     }
 }
 
-// Adds to the stack and to the side of repetition e the same sixteen rows of the batched matrix, from `first` on: times the vector of e, and
-// under the mask.
+// Adds to the stack of repetition e sixteen rows of the batched matrix, from `first` on, times the vector of e.
 fn absorb_lane(
     stacks: &mut [u8],
-    sides: &mut [u8],
     e: usize,
     words: &[u64],
     count: usize,
     sums: &[u8],
     vectors: &[u8],
     first: usize,
-    mask: &[u8],
-    polar: bool,
 )
-    requires { ⌜ (e * (15 * chunk) + 15 * chunk ≤ length (now stacks)) × (e * (8 * chunk) + 8 * chunk ≤ length (now sides)) × ((e * 8 + 8) * count ≤ length (now words)) × (count ≤ 4) × (count * 256 * chunk ≤ length (now sums)) × (e * most + most ≤ length (now vectors)) × (first + 16 ≤ most) × (length (now mask) ≡ pair) × (e < lanes) × (polar ≡ false → (h f : ℕ) → h < 2 → f < chunk → byteAt (now mask) (h * chunk + f) ≡ 0) ⌝ }
+    requires { ⌜ (e * (15 * chunk) + 15 * chunk ≤ length (now stacks)) × ((e * 8 + 8) * count ≤ length (now words)) × (count ≤ 4) × (count * 256 * chunk ≤ length (now sums)) × (e * most + most ≤ length (now vectors)) × (first + 16 ≤ most) × (e < lanes) ⌝ }
     ensures { λ _. ⌜ ((S : List ℕ) (χ : ℕ → ℕ) (m h f z : ℕ) → Weighed S χ m (now (sums .entry)) (now (words .entry)) count (e * 8) → h < 2 → f < 16 → stackOf 15 (now (stacks .exit)) e (h * 16 + f) z ≡ bitXor (stackOf 15 (now (stacks .entry)) e (h * 16 + f) z) (product (byteAt (now (vectors .entry)) (e * most + (first + f))) (xorSum m (λ i. bitOf (cellAt S i (h * 16 + f)) z * χ i)))) ⌝ }
-    ensures { λ _. ⌜ ((S : List ℕ) (χ : ℕ → ℕ) (m x f z : ℕ) → Weighed S χ m (now (sums .entry)) (now (words .entry)) count (e * 8) → x < 2 → ((h : ℕ) → h < 2 → byteAt (now (mask .entry)) (h * chunk + f) ≡ x * 255) → f < chunk → stackOf 8 (now (sides .exit)) e f z ≡ bitXor (stackOf 8 (now (sides .entry)) e f z) (x * xorSum m (λ i. bitOf (cellAt S i f) z * χ i))) ⌝ }
     ensures { λ _. ⌜ ((q b : ℕ) → (q ≡ e → ⊥) → b < 15 * chunk → byteAt (now (stacks .exit)) (q * (15 * chunk) + b) ≡ byteAt (now (stacks .entry)) (q * (15 * chunk) + b)) ⌝ }
-    ensures { λ _. ⌜ ((q b : ℕ) → (q ≡ e → ⊥) → b < 8 * chunk → byteAt (now (sides .exit)) (q * (8 * chunk) + b) ≡ byteAt (now (sides .entry)) (q * (8 * chunk) + b)) ⌝ }
 {
     let mut v = [0u8; CHUNK];
     let mut masks = [0u8; MASKS];
     spread(&mut v, vectors, e * MOST + first);
     chunks::masks::fill_masks(&mut masks, &v);
     let at = e * STACK;
-    let beside = e * SIDE;
     absorb(
         &mut stacks[at..at + STACK],
-        &mut sides[beside..beside + SIDE],
         words,
         e * 8,
         count,
         sums,
         &masks,
-        mask,
-        polar,
     );
 }
 
 // The same for each of the tau repetitions.
 fn absorb_lanes(
     stacks: &mut [u8],
-    sides: &mut [u8],
     tau: usize,
     words: &[u64],
     count: usize,
     sums: &[u8],
     vectors: &[u8],
     first: usize,
-    mask: &[u8],
-    polar: bool,
 )
-    requires { ⌜ (tau * (15 * chunk) ≤ length (now stacks)) × (tau * (8 * chunk) ≤ length (now sides)) × (tau * 8 * count ≤ length (now words)) × (count ≤ 4) × (count * 256 * chunk ≤ length (now sums)) × (tau * most ≤ length (now vectors)) × (first + 16 ≤ most) × (length (now mask) ≡ pair) × (tau ≤ lanes) × (polar ≡ false → (h f : ℕ) → h < 2 → f < chunk → byteAt (now mask) (h * chunk + f) ≡ 0) ⌝ }
+    requires { ⌜ (tau * (15 * chunk) ≤ length (now stacks)) × (tau * 8 * count ≤ length (now words)) × (count ≤ 4) × (count * 256 * chunk ≤ length (now sums)) × (tau * most ≤ length (now vectors)) × (first + 16 ≤ most) × (tau ≤ lanes) ⌝ }
     ensures { λ _. ⌜ ((S : List ℕ) (χ : ℕ → ℕ → ℕ) (m e h f z : ℕ) → ((q : ℕ) → q < tau → Weighed S (χ q) m (now (sums .entry)) (now (words .entry)) count (q * 8)) → e < tau → h < 2 → f < 16 → stackOf 15 (now (stacks .exit)) e (h * 16 + f) z ≡ bitXor (stackOf 15 (now (stacks .entry)) e (h * 16 + f) z) (product (byteAt (now (vectors .entry)) (e * most + (first + f))) (xorSum m (λ i. bitOf (cellAt S i (h * 16 + f)) z * χ e i)))) ⌝ }
-    ensures { λ _. ⌜ ((S : List ℕ) (χ : ℕ → ℕ → ℕ) (m x e f z : ℕ) → ((q : ℕ) → q < tau → Weighed S (χ q) m (now (sums .entry)) (now (words .entry)) count (q * 8)) → x < 2 → ((h : ℕ) → h < 2 → byteAt (now (mask .entry)) (h * chunk + f) ≡ x * 255) → e < tau → f < chunk → stackOf 8 (now (sides .exit)) e f z ≡ bitXor (stackOf 8 (now (sides .entry)) e f z) (x * xorSum m (λ i. bitOf (cellAt S i f) z * χ e i))) ⌝ }
 {
     let mut e = 0;
     while e < tau {
-        absorb_lane(
-            stacks,
-            sides,
-            e,
-            words,
-            count,
-            sums,
-            vectors,
-            first,
-            mask,
-            polar,
-        );
+        absorb_lane(stacks, e, words, count, sums, vectors, first);
         e += 1;
     }
 }
 
-// Adds the cells of a panel of the batched matrix, each row times its coordinate of the vectors, and to the sides under its bit, of which the
-// masks are lent. The batching bytes are public, and so are the tables that they index; `sums` is space for these.
+// Adds the cells of a panel of the batched matrix, each row times its coordinate of the vectors. The batching bytes are public, and so are the
+// tables that they index; `sums` is space for these.
 pub fn collect(
     stacks: &mut [u8],
-    sides: &mut [u8],
     sums: &mut [u8],
     cells: &[u8],
     panel: usize,
@@ -224,31 +155,15 @@ pub fn collect(
     words: &[u64],
     count: usize,
     vectors: &[u8],
-    bits: &[u8],
-    polar: bool,
 )
-    requires { ⌜ (tau * (15 * chunk) ≤ length (now stacks)) × (tau * (8 * chunk) ≤ length (now sides)) × (length (now sums) ≡ 32768) × ((panel + 1) * (m * chunk) ≤ length (now cells)) × (panel * 16 + 16 ≤ most) × (0 < m) × (m ≤ 160) × (0 < tau) × (tau ≤ lanes) × (count ≡ (m + 39) / 40) × (tau * 8 * count ≤ length (now words)) × (tau * most ≤ length (now vectors)) × (length (now bits) ≡ most) × (polar ≡ false → (c : ℕ) → c < most → byteAt (now bits) c ≡ 0) ⌝ }
+    requires { ⌜ (tau * (15 * chunk) ≤ length (now stacks)) × (length (now sums) ≡ 32768) × ((panel + 1) * (m * chunk) ≤ length (now cells)) × (panel * 16 + 16 ≤ most) × (0 < m) × (m ≤ 160) × (0 < tau) × (tau ≤ lanes) × (count ≡ (m + 39) / 40) × (tau * 8 * count ≤ length (now words)) × (tau * most ≤ length (now vectors)) ⌝ }
     ensures { λ _. ⌜ ((χ : List ℕ) (e h f z : ℕ) → ((k : ℕ) → byteAt χ k < 256) → ((r : ℕ) → r < tau * 8 → Chosen χ m count (now (words .entry)) r) → e < tau → h < 2 → f < 16 → stackOf 15 (now (stacks .exit)) e (h * 16 + f) z ≡ bitXor (stackOf 15 (now (stacks .entry)) e (h * 16 + f) z) (xorSum (panel + 1) (λ q. product (byteAt (now (vectors .entry)) (e * most + (q * 16 + f))) (cellSum (now (cells .entry)) m χ e q (h * 16 + f) z)))) ⌝ }
-    ensures { λ _. ⌜ ((χ : List ℕ) (x : ℕ → ℕ) (e h f z : ℕ) → ((k : ℕ) → byteAt χ k < 256) → ((r : ℕ) → r < tau * 8 → Chosen χ m count (now (words .entry)) r) → ((c : ℕ) → x c < 2) → ((c : ℕ) → c < most → byteAt (now (bits .entry)) c ≡ x c * 255) → e < tau → h < 2 → f < 16 → stackOf 8 (now (sides .exit)) e (h * 16 + f) z ≡ bitXor (stackOf 8 (now (sides .entry)) e (h * 16 + f) z) (xorSum (panel + 1) (λ q. x (q * 16 + f) * cellSum (now (cells .entry)) m χ e q (h * 16 + f) z))) ⌝ }
 {
     let mut q = 0;
     while q <= panel {
-        let mut mask = [0u8; PAIR];
         choices::sums::fill_sums(sums, count * 8, m, strings::row_at(cells, m * CHUNK, q));
         choices::sums::add_first(stacks, sums);
-        spread_twice(&mut mask, bits, q * ROWS);
-        absorb_lanes(
-            stacks,
-            sides,
-            tau,
-            words,
-            count,
-            sums,
-            vectors,
-            q * ROWS,
-            &mask,
-            polar,
-        );
+        absorb_lanes(stacks, tau, words, count, sums, vectors, q * ROWS);
         q += 1;
     }
 }

@@ -4,12 +4,10 @@ ghost use mathlib.Core.Bool.{true};
 ghost use Prim.Native.Nat.{ℕ, _*_, _<_, _≤_};
 ghost use lib.ListN.{length};
 ghost use Rattle.protocol.specs.Lists.{firstNot};
-ghost use Rattle.protocol.specs.Strings.{bytesFor};
 ghost use Rattle.protocol.specs.Binary.{bits256};
-ghost use Rattle.protocol.specs.Shape.{shapeOf, limits, kOf};
+ghost use Rattle.protocol.specs.Shape.{shapeOf, limits};
 ghost use Rattle.protocol.specs.Questions.{consistentIn, productIn};
 ghost use Rattle.strings.specs.Sums.{byteAt};
-ghost use Rattle.lanes.specs.Lanes.{lanes};
 ghost use Rattle.format.specs.Sizes.{shapeFor};
 ghost use Rattle.steps.specs.Loaded.{HashForm};
 ghost use Rattle.steps.specs.Facts.{KeyFacts};
@@ -37,7 +35,6 @@ fn load_challenge(out: &mut [u8], delta: &[u8])
 // The first repetition that is not consistent, or their number. The opened leaves are named by the contract only.
 pub fn check_consistency(
     hashed: &mut [u8],
-    entries: &mut [u8],
     table: &[u8],
     matrix: &[u8],
     delta: &[u8],
@@ -46,15 +43,11 @@ pub fn check_consistency(
     s: Sizes,
 ) -> usize
     requires { ⌜ (limits (shapeFor s) ≡ true) × HashForm (shapeFor s) (now matrix) × ProofForm (shapeFor s) (now proof) × (length (now delta) ≡ s .tau) × Opened (shapeFor s) (now delta) (now opened) (now proof) (now table) ⌝ }
-    requires { ⌜ (length (now hashed) ≡ s .tau * s .t) × (bytesFor (kOf bits256 (shapeFor s)) * 32 * lanes ≤ length (now entries)) ⌝ }
+    requires { ⌜ length (now hashed) ≡ s .tau * s .t ⌝ }
     ensures { λ r. ⌜ r ≡ firstNot (s .tau) (consistentIn bits256 (shapeFor s) (now (delta .entry)) (now (matrix .entry)) (now (opened .entry)) (now (proof .entry))) ⌝ }
 {
-    let k = format::sizes::hashed_bits(s);
-    let width = format::sizes::bytes_for(k);
-    let tau = s.tau;
     let t = s.t;
-    steps::fill_entries(entries, table, s);
-    steps::hash::hash_lanes(hashed, matrix, width, k, t, tau, table, entries);
+    steps::hash::hash_all(hashed, matrix, table, s);
     first_inconsistent(
         hashed,
         proof_section(proof, s, questions::proof::V),

@@ -14,21 +14,6 @@ use Rattle.strings.specs.Sums.{byteAt, bitOf}
 use Rattle.strings.proofs.Rows.{RowsAre}
 use Rattle.choices.specs.Entries.{choice, inRows}
 
--- ---- merges
-
-abbrev Merged : List ℕ → List ℕ → Type 0
-Merged rows out = (i : ℕ) → i < 128 → byteAt out i ≡ byteAt rows (i % 2 * 64 + i / 2)
-
-twice : (a b c : List ℕ) → Merged a b → Merged b c → (i : ℕ) → i < 128 → byteAt c i ≡ byteAt a (i % 4 * 32 + i / 4)
-twice a b c first second i h =
-    let at : (i % 2 * 64 + i / 2) % 2 * 64 + (i % 2 * 64 + i / 2) / 2 ≡ i % 4 * 32 + i / 4 = omega arith in
-    second i h ∙ first (i % 2 * 64 + i / 2) (omega arith) ∙ ap (byteAt a) at
-
-pub four-merges : (a b c d e : List ℕ) → Merged a b → Merged b c → Merged c d → Merged d e → (i : ℕ) → i < 128 → byteAt e i ≡ byteAt a (i % 16 * 8 + i / 16)
-four-merges a b c d e p q r s i h =
-    let at : (i % 4 * 32 + i / 4) % 4 * 32 + (i % 4 * 32 + i / 4) / 4 ≡ i % 16 * 8 + i / 16 = omega arith in
-    twice c d e r s i h ∙ twice a b c p q (i % 4 * 32 + i / 4) (omega arith) ∙ ap (byteAt a) at
-
 -- ---- the rows
 
 pub rows-held : (bytes rows : List ℕ) → RowsAre (λ h i. byteAt bytes (h * 80 + i % 16 * 5 + i / 16)) rows 2 128 → (i : ℕ) → i < 160 → inRows rows i ≡ byteAt bytes i

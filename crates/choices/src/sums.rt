@@ -162,3 +162,30 @@ pub fn add_first(dst: &mut [u8], sums: &[u8])
         f += 1;
     }
 }
+
+// Adds the entries that word k chooses.
+fn add_word(sum: &mut [u8; CHUNK], w: u64, sums: &[u8], k: usize)
+    requires { ⌜ (length (now sum) ≡ chunk) × (k < 4) × ((k + 1) * 256 * chunk ≤ length (now sums)) ⌝ }
+    ensures { λ _. ⌜ length (now (sum .exit)) ≡ chunk ⌝ }
+    ensures { λ _. ⌜ ((f : ℕ) → f < chunk → byteAt (now (sum .exit)) f ≡ bitXor (byteAt (now (sum .entry)) f) (eightByte (now (sums .entry)) k w f)) ⌝ }
+{
+    let mut j = 0;
+    while j < 8 {
+        add_at(sum, sums, place_of(w, k * 8 + j, j));
+        j += 1;
+    }
+}
+
+// The sum of the entries that the words choose.
+pub fn look_up(out: &mut [u8], words: &[u64], sums: &[u8])
+    requires { ⌜ (length (now out) ≡ chunk) × (length (now words) ≤ 4) × (length (now words) * 256 * chunk ≤ length (now sums)) ⌝ }
+    ensures { λ _. ⌜ ((f : ℕ) → f < chunk → byteAt (now (out .exit)) f ≡ xorSum (length (now (words .entry))) (λ k. eightByte (now (sums .entry)) k (byteAt (now (words .entry)) k) f)) ⌝ }
+{
+    let mut sum = [0u8; CHUNK];
+    let mut k = 0;
+    while k < words.len() {
+        add_word(&mut sum, words[k], sums, k);
+        k += 1;
+    }
+    chunks::cells::copy_chunk(out, &sum);
+}

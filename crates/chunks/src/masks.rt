@@ -1,12 +1,10 @@
-// Chunks under masks, whose bytes are 255 or 0. What the masks are made of may be secret: no branch and no index goes by it.
+// Masks, whose bytes are 255 or 0. What the masks are made of may be secret: no branch and no index goes by it.
 ghost use mathlib.Core.Path.{_≡_};
 ghost use Prim.Native.Nat.{ℕ, _+_, _*_, _<_, _≤_};
 ghost use lib.ListN.{length};
-ghost use lib.Bits.{bitXor, bitAnd};
 ghost use Rattle.strings.specs.Sums.{byteAt, bitOf};
-ghost use Rattle.chunks.specs.Chunks.{chunk, pair, Masks};
+ghost use Rattle.chunks.specs.Chunks.{chunk, Masks};
 use super::CHUNK;
-use super::PAIR;
 
 fn fill(dst: &mut [u8], x: u8)
     ensures { λ _. ⌜ ((f : ℕ) → f < length (now (dst .entry)) → byteAt (now (dst .exit)) f ≡ x) ⌝ }
@@ -57,26 +55,4 @@ pub fn fill_masks(masks: &mut [u8], v: &[u8])
         fill_mask_at(masks, v, b);
         b += 1;
     }
-}
-
-// dst[f] ^= m[f] & mask[f], for each byte of two chunks.
-fn xor_and_pair(dst: &mut [u8], m: &[u8], mask: &[u8])
-    requires { ⌜ (length (now dst) ≡ pair) × (length (now m) ≡ pair) × (length (now mask) ≡ pair) ⌝ }
-    ensures { λ _. ⌜ ((f : ℕ) → f < pair → byteAt (now (dst .exit)) f ≡ bitXor (byteAt (now (dst .entry)) f) (bitAnd (byteAt (now (m .entry)) f) (byteAt (now (mask .entry)) f))) ⌝ }
-{
-    let mut f = 0;
-    while f < PAIR {
-        dst[f] ^= m[f] & mask[f];
-        f += 1;
-    }
-}
-
-// The same for the two rows of a table from s on.
-pub fn xor_and_rows(t: &mut [u8], s: usize, m: &[u8], mask: &[u8])
-    requires { ⌜ (s * chunk + pair ≤ length (now t)) × (length (now m) ≡ pair) × (length (now mask) ≡ pair) ⌝ }
-    ensures { λ _. ⌜ ((f : ℕ) → f < pair → byteAt (now (t .exit)) (s * chunk + f) ≡ bitXor (byteAt (now (t .entry)) (s * chunk + f)) (bitAnd (byteAt (now (m .entry)) f) (byteAt (now (mask .entry)) f))) ⌝ }
-    ensures { λ _. ⌜ ((k : ℕ) → (s * chunk ≤ k → k < s * chunk + pair → ⊥) → byteAt (now (t .exit)) k ≡ byteAt (now (t .entry)) k) ⌝ }
-{
-    let at = s * CHUNK;
-    xor_and_pair(&mut t[at..at + PAIR], m, mask);
 }

@@ -1,6 +1,6 @@
 -- Polynomials in α whose coefficients are bits, in planes: plane s of a stack holds the coefficients of α^s, one bit for each place.
 --   alpha s == α^s as a byte, where α is the element 02;  product x y == the product of two bytes as elements
---   stackAt P t f z == the value of a stack of P planes at bit z of byte f (15 hold a product of two elements, 8 an element);  stackOf P T e f z == that of stack e of a table of them
+--   stackAt P t f z == the value of a stack of P planes at bit z of byte f (15 hold a product of two elements);  stackOf P T e f z == that of stack e of a table of them
 --   foldOf P T e h z == the sum of the values of stack e at bit z of the sixteen bytes of half h
 -- Assumes nothing.
 use mathlib.Core.List.{List}

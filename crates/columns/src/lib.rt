@@ -16,16 +16,11 @@ use lanes::LANES;
 // The bytes of a stack of 15 planes.
 pub const STACK: usize = 15 * CHUNK;
 
-// The bytes of a side, a stack of 8 planes.
-pub const SIDE: usize = 8 * CHUNK;
-
-// The bytes of a plane of all repetitions for each plane of a stack, and of a side.
+// The bytes of a plane of all repetitions for each plane of a stack.
 const ROWS: usize = 15 * LANES;
 
-const SIDE_ROWS: usize = 8 * LANES;
-
 // The sum of sixteen bytes from `at` on.
-fn sum_at(s: &[u8], at: usize) -> u8
+pub fn sum_at(s: &[u8], at: usize) -> u8
     requires { ⌜ at + 16 ≤ length (now s) ⌝ }
     ensures { λ r. ⌜ r ≡ xorSum 16 (λ f. byteAt (now (s .entry)) (at + f)) ⌝ }
 {
@@ -108,37 +103,23 @@ fn add_product(acc: &mut [u8], c: usize, n: usize, table: &[u8], u: &[u8])
     }
 }
 
-// Adds to mid bit z of the planes of the sides, times coordinate c of the vectors, and u times bit c of xs, where the polar form is asked for.
-fn add_polar(
-    mid: &mut [u8],
-    u: &[u8],
-    sides: &[u8],
-    c: usize,
-    z: usize,
-    n: usize,
-    table: &[u8],
-    xs: &[u8],
-    polar: bool,
-)
-    requires { ⌜ (length (now mid) ≡ lanes) × (length (now u) ≡ lanes) × (length (now sides) ≡ 8 * lanes) × (z < 8) × (length (now table) ≡ n * lanes) × (c < length (now xs)) × (byteAt (now xs) c < 2) ⌝ }
-    ensures { λ _. ⌜ (polar ≡ true → (e : ℕ) → e < lanes → byteAt (now (mid .exit)) e ≡ bitXor (byteAt (now (mid .entry)) e) (bitXor (product (laneAt (now (table .entry)) c e) (xorSum 8 (λ s. bitOf (laneAt (now (sides .entry)) s e) z * alpha s))) (byteAt (now (xs .entry)) c * byteAt (now (u .entry)) e))) ⌝ }
+// Adds u times bit c of xs to mid, where the polar form is asked for.
+fn add_polar(mid: &mut [u8], u: &[u8], c: usize, xs: &[u8], polar: bool)
+    requires { ⌜ (length (now mid) ≡ lanes) × (length (now u) ≡ lanes) × (c < length (now xs)) × (byteAt (now xs) c < 2) ⌝ }
+    ensures { λ _. ⌜ (polar ≡ true → (e : ℕ) → e < lanes → byteAt (now (mid .exit)) e ≡ bitXor (byteAt (now (mid .entry)) e) (byteAt (now (xs .entry)) c * byteAt (now (u .entry)) e)) ⌝ }
     ensures { λ _. ⌜ (polar ≡ false → now (mid .exit) ≡ now (mid .entry)) ⌝ }
 {
     if polar {
-        let mut w = [0u8; LANES];
-        weigh(&mut w, sides, 8, z);
-        add_product(mid, c, n, table, &w);
         lanes::add_masked(mid, xs[c], u);
     }
 }
 
-// Column c is bit z of the planes. Adds that of the stacks, times coordinate c of the vectors, to quad; and, where the polar form is asked
-// for, to mid that of the sides, times this coordinate, and that of the stacks, times bit c of xs.
+// Column c is bit z of the planes. Adds it, times coordinate c of the vectors, to quad; and, where the polar form is asked for, times bit c of xs,
+// to mid.
 fn add_column(
     quad: &mut [u8],
     mid: &mut [u8],
     rows: &[u8],
-    sides: &[u8],
     c: usize,
     z: usize,
     n: usize,
@@ -146,15 +127,15 @@ fn add_column(
     xs: &[u8],
     polar: bool,
 )
-    requires { ⌜ (length (now quad) ≡ lanes) × (length (now mid) ≡ lanes) × (length (now rows) ≡ 15 * lanes) × (length (now sides) ≡ 8 * lanes) × (z < 8) × (length (now table) ≡ n * lanes) × (c < length (now xs)) × (byteAt (now xs) c < 2) ⌝ }
+    requires { ⌜ (length (now quad) ≡ lanes) × (length (now mid) ≡ lanes) × (length (now rows) ≡ 15 * lanes) × (z < 8) × (length (now table) ≡ n * lanes) × (c < length (now xs)) × (byteAt (now xs) c < 2) ⌝ }
     ensures { λ _. ⌜ ((e : ℕ) → e < lanes → byteAt (now (quad .exit)) e ≡ bitXor (byteAt (now (quad .entry)) e) (product (laneAt (now (table .entry)) c e) (xorSum 15 (λ s. bitOf (laneAt (now (rows .entry)) s e) z * alpha s)))) ⌝ }
-    ensures { λ _. ⌜ (polar ≡ true → (e : ℕ) → e < lanes → byteAt (now (mid .exit)) e ≡ bitXor (byteAt (now (mid .entry)) e) (bitXor (product (laneAt (now (table .entry)) c e) (xorSum 8 (λ s. bitOf (laneAt (now (sides .entry)) s e) z * alpha s))) (byteAt (now (xs .entry)) c * xorSum 15 (λ s. bitOf (laneAt (now (rows .entry)) s e) z * alpha s)))) ⌝ }
+    ensures { λ _. ⌜ (polar ≡ true → (e : ℕ) → e < lanes → byteAt (now (mid .exit)) e ≡ bitXor (byteAt (now (mid .entry)) e) (byteAt (now (xs .entry)) c * xorSum 15 (λ s. bitOf (laneAt (now (rows .entry)) s e) z * alpha s))) ⌝ }
     ensures { λ _. ⌜ (polar ≡ false → now (mid .exit) ≡ now (mid .entry)) ⌝ }
 {
     let mut u = [0u8; LANES];
     weigh(&mut u, rows, 15, z);
     add_product(quad, c, n, table, &u);
-    add_polar(mid, &u, sides, c, z, n, table, xs, polar);
+    add_polar(mid, &u, c, xs, polar);
 }
 
 // The same for eight columns, from `first` on.
@@ -162,42 +143,30 @@ fn add_columns(
     quad: &mut [u8],
     mid: &mut [u8],
     rows: &[u8],
-    sides: &[u8],
     first: usize,
     n: usize,
     table: &[u8],
     xs: &[u8],
     polar: bool,
 )
-    requires { ⌜ (length (now quad) ≡ lanes) × (length (now mid) ≡ lanes) × (length (now rows) ≡ 15 * lanes) × (length (now sides) ≡ 8 * lanes) × (length (now table) ≡ n * lanes) × (first + 8 ≤ length (now xs)) × ((c : ℕ) → byteAt (now xs) c < 2) ⌝ }
+    requires { ⌜ (length (now quad) ≡ lanes) × (length (now mid) ≡ lanes) × (length (now rows) ≡ 15 * lanes) × (length (now table) ≡ n * lanes) × (first + 8 ≤ length (now xs)) × ((c : ℕ) → byteAt (now xs) c < 2) ⌝ }
     ensures { λ _. ⌜ ((e : ℕ) → e < lanes → byteAt (now (quad .exit)) e ≡ bitXor (byteAt (now (quad .entry)) e) (xorSum 8 (λ z. product (laneAt (now (table .entry)) (first + z) e) (xorSum 15 (λ s. bitOf (laneAt (now (rows .entry)) s e) z * alpha s))))) ⌝ }
-    ensures { λ _. ⌜ (polar ≡ true → (e : ℕ) → e < lanes → byteAt (now (mid .exit)) e ≡ bitXor (byteAt (now (mid .entry)) e) (xorSum 8 (λ z. bitXor (product (laneAt (now (table .entry)) (first + z) e) (xorSum 8 (λ s. bitOf (laneAt (now (sides .entry)) s e) z * alpha s))) (byteAt (now (xs .entry)) (first + z) * xorSum 15 (λ s. bitOf (laneAt (now (rows .entry)) s e) z * alpha s))))) ⌝ }
+    ensures { λ _. ⌜ (polar ≡ true → (e : ℕ) → e < lanes → byteAt (now (mid .exit)) e ≡ bitXor (byteAt (now (mid .entry)) e) (xorSum 8 (λ z. byteAt (now (xs .entry)) (first + z) * xorSum 15 (λ s. bitOf (laneAt (now (rows .entry)) s e) z * alpha s)))) ⌝ }
     ensures { λ _. ⌜ (polar ≡ false → now (mid .exit) ≡ now (mid .entry)) ⌝ }
 {
     let mut z = 0;
     while z < 8 {
-        add_column(quad, mid, rows, sides, first + z, z, n, table, xs, polar);
+        add_column(quad, mid, rows, first + z, z, n, table, xs, polar);
         z += 1;
     }
 }
 
-// The planes of the sides, where the polar form is asked for.
-fn gather_sides(rows: &mut [u8], sides: &[u8], h: usize, tau: usize, polar: bool)
-    requires { ⌜ (length (now rows) ≡ 8 * lanes) × (tau ≤ lanes) × (tau * (8 * chunk) ≤ length (now sides)) × (h < 2) ⌝ }
-    ensures { λ _. ⌜ (polar ≡ true → (s e : ℕ) → s < 8 → e < tau → laneAt (now (rows .exit)) s e ≡ xorSum 16 (λ f. byteAt (now (sides .entry)) (e * (8 * chunk) + (s * chunk + h * 16 + f)))) ⌝ }
-{
-    if polar {
-        gather(rows, sides, 8, h, tau);
-    }
-}
-
-// The sixteen columns of a panel: those of the stacks times the vectors of the n coordinates of the table to quad; those of the sides times
-// the same, and those of the stacks times the bits xs, to mid, where the polar form is asked for.
+// The sixteen columns of a panel of the stacks: times the vectors of the n coordinates of the table to quad; and times the bits xs to mid, where the
+// polar form is asked for.
 pub fn finish(
     quad: &mut [u8],
     mid: &mut [u8],
     stacks: &[u8],
-    sides: &[u8],
     panel: usize,
     tau: usize,
     n: usize,
@@ -205,28 +174,16 @@ pub fn finish(
     xs: &[u8],
     polar: bool,
 )
-    requires { ⌜ (length (now quad) ≡ lanes) × (length (now mid) ≡ lanes) × (tau ≤ lanes) × (tau * (15 * chunk) ≤ length (now stacks)) × (tau * (8 * chunk) ≤ length (now sides)) × (length (now table) ≡ n * lanes) × (panel * 16 + 16 ≤ length (now xs)) × ((c : ℕ) → byteAt (now xs) c < 2) × (n ≤ 160) ⌝ }
+    requires { ⌜ (length (now quad) ≡ lanes) × (length (now mid) ≡ lanes) × (tau ≤ lanes) × (tau * (15 * chunk) ≤ length (now stacks)) × (length (now table) ≡ n * lanes) × (panel * 16 + 16 ≤ length (now xs)) × ((c : ℕ) → byteAt (now xs) c < 2) × (n ≤ 160) ⌝ }
     ensures { λ _. ⌜ ((e : ℕ) → e < tau → byteAt (now (quad .exit)) e ≡ bitXor (byteAt (now (quad .entry)) e) (xorSum 16 (λ s. product (laneAt (now (table .entry)) (panel * 16 + s) e) (foldOf 15 (now (stacks .entry)) e (s / 8) (s % 8))))) ⌝ }
-    ensures { λ _. ⌜ (polar ≡ true → (e : ℕ) → e < tau → byteAt (now (mid .exit)) e ≡ bitXor (byteAt (now (mid .entry)) e) (xorSum 16 (λ s. bitXor (product (laneAt (now (table .entry)) (panel * 16 + s) e) (foldOf 8 (now (sides .entry)) e (s / 8) (s % 8))) (byteAt (now (xs .entry)) (panel * 16 + s) * foldOf 15 (now (stacks .entry)) e (s / 8) (s % 8))))) ⌝ }
+    ensures { λ _. ⌜ (polar ≡ true → (e : ℕ) → e < tau → byteAt (now (mid .exit)) e ≡ bitXor (byteAt (now (mid .entry)) e) (xorSum 16 (λ s. byteAt (now (xs .entry)) (panel * 16 + s) * foldOf 15 (now (stacks .entry)) e (s / 8) (s % 8)))) ⌝ }
     ensures { λ _. ⌜ (polar ≡ false → now (mid .exit) ≡ now (mid .entry)) ⌝ }
 {
     let mut h = 0;
     while h < 2 {
         let mut rows = [0u8; ROWS];
-        let mut side_rows = [0u8; SIDE_ROWS];
         gather(&mut rows, stacks, 15, h, tau);
-        gather_sides(&mut side_rows, sides, h, tau, polar);
-        add_columns(
-            quad,
-            mid,
-            &rows,
-            &side_rows,
-            panel * 16 + h * 8,
-            n,
-            table,
-            xs,
-            polar,
-        );
+        add_columns(quad, mid, &rows, panel * 16 + h * 8, n, table, xs, polar);
         h += 1;
     }
 }

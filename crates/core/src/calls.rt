@@ -1,4 +1,5 @@
-// The calls: the questions in 01's order, and then the bytes.
+// The calls: the questions in 01's order, and then the bytes. In batch and prove, question 11, the last, is answered once the sections are
+// computed, before a byte of them is written.
 ghost use mathlib.Core.Path.{_≡_};
 ghost use Rattle.protocol.specs.Binary.{bits256};
 ghost use Rattle.protocol.specs.Prover.{commitBytes, hashBytes, batchBytes, proofOf};
@@ -62,10 +63,6 @@ pub fn batch(key: &[u8], leaves: &[u8], witness: &[u8], batching: &[u8], out: &m
     let Verdict::Accepted = form else {
         return form;
     };
-    let answer = solved(key, witness);
-    let Verdict::Accepted = answer else {
-        return answer;
-    };
     write_batch(
         out,
         key,
@@ -73,8 +70,7 @@ pub fn batch(key: &[u8], leaves: &[u8], witness: &[u8], batching: &[u8], out: &m
         witness,
         batching,
         format::sizes::sizes_of(key),
-    );
-    answer
+    )
 }
 
 // The three steps in one call (01).
@@ -93,10 +89,6 @@ pub fn prove(
     let Verdict::Accepted = form else {
         return form;
     };
-    let answer = solved(key, witness);
-    let Verdict::Accepted = answer else {
-        return answer;
-    };
     write_proof(
         out,
         key,
@@ -105,6 +97,5 @@ pub fn prove(
         matrix,
         batching,
         format::sizes::sizes_of(key),
-    );
-    answer
+    )
 }

@@ -4,7 +4,7 @@
 use mathlib.Core.Path.{_≡_, refl, sym, ap, ap₂, _∙_}
 use mathlib.Core.Bool.{true}
 use mathlib.Core.List.{List}
-use Prim.Native.Nat.{ℕ, zero, suc, _+_, _*_, _<_}
+use Prim.Native.Nat.{ℕ, zero, suc, _+_, _*_, _≤_, _<_}
 use native.Mathlib.Nat.{zero-mul, one-mul, mul-zero, add-comm}
 use native.Mathlib.Omega.{arith}
 use lib.ListN.{length}
@@ -23,6 +23,13 @@ use Rattle.strings.proofs.Meaning.{byte-sum, byte-bit, byte-scale}
 use Rattle.lanes.specs.Lanes.{lanes, laneAt}
 use Rattle.equations.specs.Equations.{rowProduct}
 use Rattle.equations.proofs.BlockLaws.{bit-past, spare-past}
+
+-- neither the row nor the string has bits past its end
+pub product-short : (row x : List ℕ) (n : ℕ) → ((c : ℕ) → n ≤ c → bit x c ≡ 0) → rowProduct row x ≡ xorSum n (λ c. bit row c * bit x c)
+product-short row x n none =
+    sym (sum-past (length row * 8) n _ (λ k. ap (λ b. b * bit x (length row * 8 + k)) (bit-past row (length row * 8 + k) (omega arith)) ∙ zero-mul _))
+    ∙ ap (λ k. xorSum k (λ c. bit row c * bit x c)) (add-comm (length row * 8) n)
+    ∙ sum-past n (length row * 8) _ (λ k. ap (λ b. bit row (n + k) * b) (none (n + k) (omega arith)) ∙ mul-zero _)
 
 module _ (C : Coded) where
   open Coded C using (base, elem, byte)
@@ -48,16 +55,9 @@ module _ (C : Coded) where
 
   -- ---- products with a row
 
-  -- neither the row nor the string has bits past its end
-  product-short : (row x : List ℕ) (n : ℕ) → spareZero x n ≡ true → rowProduct row x ≡ xorSum n (λ c. bit row c * bit x c)
-  product-short row x n z =
-      sym (sum-past (length row * 8) n _ (λ k. ap (λ b. b * bit x (length row * 8 + k)) (bit-past row (length row * 8 + k) (omega arith)) ∙ zero-mul _))
-      ∙ ap (λ k. xorSum k (λ c. bit row c * bit x c)) (add-comm (length row * 8) n)
-      ∙ sum-past n (length row * 8) _ (λ k. ap (λ b. bit row (n + k) * b) (spare-past x n (n + k) z (omega arith)) ∙ mul-zero _)
-
   pub product-is : (row x : List ℕ) (n : ℕ) → spareZero x n ≡ true → rowProduct row x ≡ byte (sum R n (λ c. bitsOf row c ⊗ bitsOf x c))
   product-is row x n z =
-      product-short row x n z
+      product-short row x n (λ c h. spare-past x n c z h)
       ∙ sum-same n _ _ (λ c h. sym (byte-scale C (bit row c) (bitsOf x c) (bit-lt row c) ∙ ap (λ b. bit row c * b) (byte-bit C (bit x c) (bit-lt x c))))
       ∙ sym (byte-sum C n (λ c. bitsOf row c ⊗ bitsOf x c))
 

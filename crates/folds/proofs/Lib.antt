@@ -1,2 +1,3 @@
-pub mod ColumnLaws
-pub mod PanelLaws
+pub mod MirrorLaws
+pub mod PlaceLaws
+pub mod SetLaws

@@ -4,11 +4,13 @@
 --   Folded n w m a J cells == cells holds the folded entries of panel J, the columns 16J, .., 16J + 15, of the m matrices of a, of n rows each:
 --     for each sixteen rows q up to the J-th, and for each matrix i, a chunk, which has sixteen rows of bytes of the panel's first eight columns (h = 0),
 --     then those of its last eight (h = 1). What stands at rows and columns from n on is not said.
+--   before first p == so many sixteens of rows do the panels first, .., first + p - 1 have: panel J has J + 1
+--   FoldedSet n w m a first cells == the same for each of four panels, from `first` on, one after the other
 -- Assumes nothing.
 use mathlib.Core.Path.{_≡_}
 use mathlib.Core.Bool.{cond}
 use mathlib.Core.List.{List}
-use Prim.Native.Nat.{ℕ, _+_, _*_, _/_, _%_, _≤_, _<_}
+use Prim.Native.Nat.{ℕ, zero, suc, _+_, _*_, _/_, _%_, _≤_, _<_}
 use lib.Bits.{bitXor}
 use lib.Dec.{ltb}
 use Rattle.protocol.specs.Lists.{blockAt}
@@ -25,3 +27,12 @@ abbrev pub Folded : ℕ → ℕ → ℕ → List ℕ → ℕ → List ℕ → Ty
 Folded n w m a J cells =
     (q i h f z : ℕ) → q ≤ J → i < m → h < 2 → f < 16 → z < 8 → q * 16 + f < n → J * 16 + (h * 8 + z) < n
     → bitOf (byteAt cells ((q * m + i) * chunk + (h * 16 + f))) z ≡ foldedBit w (blockAt a (n * w) i) (q * 16 + f) (J * 16 + (h * 8 + z))
+
+unfoldable pub before : ℕ → ℕ → ℕ
+before first zero = 0
+before first (suc p) = before first p + (first + p + 1)
+
+abbrev pub FoldedSet : ℕ → ℕ → ℕ → List ℕ → ℕ → List ℕ → Type 0
+FoldedSet n w m a first cells =
+    (p q i h f z : ℕ) → p < 4 → q ≤ first + p → i < m → h < 2 → f < 16 → z < 8 → q * 16 + f < n → (first + p) * 16 + (h * 8 + z) < n
+    → bitOf (byteAt cells (((before first p + q) * m + i) * chunk + (h * 16 + f))) z ≡ foldedBit w (blockAt a (n * w) i) (q * 16 + f) ((first + p) * 16 + (h * 8 + z))

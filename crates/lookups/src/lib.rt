@@ -13,7 +13,7 @@ use lanes::LANES;
 // The entries of the table of sums for four coordinates, one for each value of half a byte of a row; and for the eight of a byte.
 const HALF: usize = 16;
 
-pub const PER_BYTE: usize = 32;
+const PER_BYTE: usize = 32;
 
 fn wide(x: u8) -> usize
     ensures { λ r. ⌜ r ≡ x ⌝ }

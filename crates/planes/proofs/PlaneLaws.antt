@@ -1,13 +1,9 @@
--- What bytes and planes add to a stack, times a byte, and to a side, under a bit.
+-- What bytes and planes add to a stack, times a byte.
 -- Assumes nothing.
 use mathlib.Core.Path.{_≡_, sym, ap, ap₂, _∙_}
 use mathlib.Core.List.{List}
 use Prim.Native.Nat.{ℕ, _+_, _*_, _<_}
 use native.Mathlib.Nat.{one-mul, mul-comm, mul-assoc}
-use native.Mathlib.Decide.{ℕ-discrete}
-use native.Mathlib.Omega.{arith}
-use lib.ListN.{length, set}
-use lib.Seq.{getD-set-same, getD-set-other}
 use lib.Bits.{bitXor, bitAnd}
 use mathlib.Core.Bool.{cond}
 use Rattle.protocol.proofs.TestLaws.{ltb-yes}
@@ -16,7 +12,7 @@ use Rattle.strings.specs.Sums.{bitOf, xorSum}
 use Rattle.strings.proofs.XorLaws.{xor-assoc}
 use Rattle.strings.proofs.SumLaws.{sum-same, sum-both, sum-put, xor-scale}
 use Rattle.strings.proofs.Meaning.{bitOf-lt, bitOf-xor, times-bit}
-use Rattle.chunks.specs.Chunks.{chunk, cellAt}
+use Rattle.chunks.specs.Chunks.{cellAt}
 use Rattle.chunks.proofs.BitSumLaws.{bit-sum}
 use Rattle.columns.specs.Stacks.{alpha, product, stackAt}
 use Rattle.columns.proofs.ProductLaws.{alpha-add, byte-bits, product-bits}
@@ -41,25 +37,6 @@ masked-added P t t′ s x mask q f z h hx hq is here there =
 -- one after the other
 pub two-added : (a b c d e : ℕ) → b ≡ bitXor a d → c ≡ bitXor b e → c ≡ bitXor a (bitXor d e)
 two-added a b c d e first second = second ∙ ap (λ x. bitXor x e) first ∙ xor-assoc a d e
-
--- two such bytes, in planes one after the other
-pub pair-added : (P : ℕ) (t t′ : List ℕ) (p x y m m′ q f z : ℕ) → p + 1 < P → p * chunk + f < length t → x < 256 → y < 256 → q < 2 → m ≡ q * 255 → m′ ≡ q * 255
-    → cellAt t′ p f ≡ bitXor (cellAt t p f) (bitAnd x m) → cellAt t′ (p + 1) f ≡ bitXor (cellAt t (p + 1) f) (bitAnd y m′)
-    → ((r : ℕ) → (r ≡ p → ⊥) → (r ≡ p + 1 → ⊥) → cellAt t′ r f ≡ cellAt t r f)
-    → stackAt P t′ f z ≡ bitXor (stackAt P t f z) (bitXor (q * (bitOf x z * alpha p)) (q * (bitOf y z * alpha (p + 1))))
-pair-added P t t′ p x y m m′ q f z h fits hx hy hq is is′ first second there =
-    let at = p * chunk + f in
-    let half = set t at (cellAt t′ p f) in
-    let own : cellAt half p f ≡ cellAt t′ p f = getD-set-same t at (cellAt t′ p f) 0 fits in
-    let rest : (r : ℕ) → (r ≡ p → ⊥) → cellAt half r f ≡ cellAt t r f = λ r other. getD-set-other t at (r * chunk + f) (cellAt t′ p f) 0 (λ e. other (omega arith)) in
-    let both : (r : ℕ) → (r ≡ p + 1 → ⊥) → Dec (r ≡ p) → cellAt t′ r f ≡ cellAt half r f = λ r other d. by-cases r other d own rest in
-    two-added (stackAt P t f z) (stackAt P half f z) (stackAt P t′ f z) (q * (bitOf x z * alpha p)) (q * (bitOf y z * alpha (p + 1)))
-    (masked-added P t half p x m q f z (omega arith) hx hq is (own ∙ first) rest)
-    (masked-added P half t′ (p + 1) y m′ q f z h hy hq is′ (second ∙ ap (λ c. bitXor c (bitAnd y m′)) (sym (rest (p + 1) (λ e. omega arith)))) (λ r other. both r other (ℕ-discrete r p)))
-  where
-    by-cases : (r : ℕ) → (r ≡ p + 1 → ⊥) → Dec (r ≡ p) → cellAt (set t (p * chunk + f) (cellAt t′ p f)) p f ≡ cellAt t′ p f → ((s : ℕ) → (s ≡ p → ⊥) → cellAt (set t (p * chunk + f) (cellAt t′ p f)) s f ≡ cellAt t s f) → cellAt t′ r f ≡ cellAt (set t (p * chunk + f) (cellAt t′ p f)) r f
-    by-cases r other (yes e) own rest = rw e (sym own)
-    by-cases r other (no k) own rest = there r k other ∙ sym (rest r k)
 
 -- ---- what the bits of a byte v add to a stack, of two planes, x and y there
 

@@ -1,5 +1,5 @@
-// Two planes of bits, added to a stack times a vector, and to a side under a mask: two at a time, because a plane of the stack is then read and
-// written once for both. The vectors and what is computed from them are secret: no branch and no index goes by it.
+// Two planes of bits, added to a stack times a vector: two at a time, because a plane of the stack is then read and written once for both. The
+// vectors and what is computed from them are secret: no branch and no index goes by it.
 ghost use mathlib.Core.Path.{_≡_};
 ghost use mathlib.Core.List.{List};
 ghost use Prim.Native.Nat.{ℕ, _+_, _*_, _<_, _≤_};
@@ -9,24 +9,6 @@ ghost use Rattle.strings.specs.Sums.{byteAt, bitOf};
 ghost use Rattle.chunks.specs.Chunks.{chunk, pair, cellAt, Masks};
 ghost use Rattle.columns.specs.Stacks.{alpha, product, stackAt};
 use chunks::CHUNK;
-
-fn put_copy(v: &mut [u8], h: usize, src: &[u8; CHUNK])
-    requires { ⌜ (h * chunk + chunk ≤ length (now v)) × (length (now src) ≡ chunk) ⌝ }
-    ensures { λ _. ⌜ ((f : ℕ) → f < chunk → byteAt (now (v .exit)) (h * chunk + f) ≡ byteAt (now (src .entry)) f) ⌝ }
-    ensures { λ _. ⌜ ((q f : ℕ) → (q ≡ h → ⊥) → f < chunk → byteAt (now (v .exit)) (q * chunk + f) ≡ byteAt (now (v .entry)) (q * chunk + f)) ⌝ }
-{
-    let at = h * CHUNK;
-    chunks::cells::copy_chunk(&mut v[at..at + CHUNK], src);
-}
-
-// A chunk twice, side by side.
-pub fn double(v: &mut [u8], src: &[u8; CHUNK])
-    requires { ⌜ (length (now v) ≡ pair) × (length (now src) ≡ chunk) ⌝ }
-    ensures { λ _. ⌜ ((h f : ℕ) → h < 2 → f < chunk → byteAt (now (v .exit)) (h * chunk + f) ≡ byteAt (now (src .entry)) f) ⌝ }
-{
-    put_copy(v, 0, src);
-    put_copy(v, 1, src);
-}
 
 // Adds x under a mask to byte f of plane s.
 fn add_byte(t: &mut [u8], s: usize, f: usize, x: u8, mask: u8)
@@ -62,12 +44,4 @@ pub fn absorb_planes(t: &mut [u8], p: usize, both: &[u8], masks: &[u8])
         absorb_byte(t, p, f, both[f], both[CHUNK + f], masks);
         f += 1;
     }
-}
-
-// Adds both planes under a mask, which is lent twice.
-pub fn absorb_sides(t: &mut [u8], p: usize, both: &[u8], masks: &[u8])
-    requires { ⌜ (length (now t) ≡ 8 * chunk) × (p < 7) × (length (now both) ≡ pair) × (length (now masks) ≡ pair) ⌝ }
-    ensures { λ _. ⌜ ((x f z : ℕ) → x < 2 → ((h : ℕ) → h < 2 → byteAt (now (masks .entry)) (h * chunk + f) ≡ x * 255) → f < chunk → stackAt 8 (now (t .exit)) f z ≡ bitXor (stackAt 8 (now (t .entry)) f z) (bitXor (x * (bitOf (cellAt (now (both .entry)) 0 f) z * alpha p)) (x * (bitOf (cellAt (now (both .entry)) 1 f) z * alpha (p + 1))))) ⌝ }
-{
-    chunks::masks::xor_and_rows(t, p, both, masks);
 }

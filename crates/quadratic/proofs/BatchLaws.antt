@@ -2,52 +2,55 @@
 -- Assumes nothing.
 use mathlib.Core.Path.{_≡_, sym, ap, ap₂, _∙_}
 use mathlib.Core.List.{List}
-use Prim.Native.Nat.{ℕ, _+_, _*_, _<_}
+use Prim.Native.Nat.{ℕ, _+_, _*_, _/_, _%_, _<_}
 use native.Mathlib.Nat.{zero-mul, mul-zero}
 use native.Mathlib.Omega.{arith}
 use lib.Bits.{bitXor, xor-comm, xor-zero-r}
 use lib.Dec.{lit<}
-use Rattle.algebra.specs.Ring.{Ring}
-use Rattle.algebra.specs.Field.{Field}
-use Rattle.algebra.specs.Coded.{Coded, mulByte}
+use Rattle.algebra.specs.Coded.{mulByte}
 use Rattle.field.specs.Gf256.{gf256}
 use Rattle.protocol.specs.Strings.{bytesFor, bit}
 use Rattle.protocol.proofs.StringLaws.{bit-lt}
-use Rattle.strings.specs.Sums.{byteAt, xorSum, selected}
+use Rattle.strings.specs.Sums.{byteAt, bitOf, xorSum, selected}
 use Rattle.strings.proofs.XorLaws.{xor-assoc}
 use Rattle.strings.proofs.SumLaws.{sum-same, sum-lt, sum-none, sum-both}
 use Rattle.strings.proofs.ProductLaws.{bit-times-lt}
 use Rattle.lanes.specs.Lanes.{lanes, laneAt}
+use Rattle.chunks.specs.Chunks.{cellAt}
+use Rattle.chunks.proofs.BitSumLaws.{sum-swap}
 use Rattle.columns.specs.Stacks.{product}
-use Rattle.columns.proofs.ProductLaws.{product-comm}
+use Rattle.columns.proofs.ProductLaws.{product-comm, product-bits}
 use Rattle.batching.specs.Batched.{formSum}
-use Rattle.batching.proofs.FormLaws.{product-scale}
+use Rattle.batching.specs.Lines.{lineSum}
+use Rattle.batching.proofs.FormLaws.{product-scale, product-xor}
 use Rattle.batching.proofs.StackLaws.{scaled-lt}
 use Rattle.equations.specs.Equations.{rowOf, matrixOf}
 use Rattle.equations.proofs.BlockLaws.{bytes-enough}
 use Rattle.equations.proofs.RowLaws.{row-bit}
 use Rattle.quadratic.specs.Forms.{formByte, rowBit, middleByte}
 use Rattle.quadratic.specs.Batch.{batchByte}
+use Rattle.quadratic.specs.Errors.{lineBit}
 
 -- ---- batched sums
 
-module _ (C : Coded) where
-  open Coded C using (base, elem, byte)
-  open Field base using (R)
-  open Ring R using (F, add as _⊕_, mul as _⊗_)
-
-  infixl 65 _⊕_
-  infixl 70 _⊗_
-  coded-xor : (a u v : ℕ) → mulByte C a (bitXor u v) ≡ bitXor (mulByte C a u) (mulByte C a v)
-  coded-xor a u v = ap (λ x. byte (elem a ⊗ x)) (C .elem-xor u v) ∙ ap byte (R .mul-add (elem a) (elem u) (elem v)) ∙ C .byte-add (elem a ⊗ elem u) (elem a ⊗ elem v)
-
 pub batch-xor : (m : ℕ) (χ : List ℕ) (e : ℕ) (u v : ℕ → ℕ) → bitXor (batchByte m χ e u) (batchByte m χ e v) ≡ batchByte m χ e (λ i. bitXor (u i) (v i))
+unfolding product
 batch-xor m χ e u v =
     sym (sum-both m (λ i. mulByte gf256 (byteAt χ (e * m + i)) (u i)) (λ i. mulByte gf256 (byteAt χ (e * m + i)) (v i)))
-    ∙ sum-same m _ _ (λ i l. sym (coded-xor gf256 (byteAt χ (e * m + i)) (u i) (v i)))
+    ∙ sum-same m _ _ (λ i l. sym (product-xor (byteAt χ (e * m + i)) (u i) (v i)))
 
 pub batch-same : (m : ℕ) (χ : List ℕ) (e : ℕ) (u v : ℕ → ℕ) → ((i : ℕ) → i < m → u i ≡ v i) → batchByte m χ e u ≡ batchByte m χ e v
 batch-same m χ e u v same = sum-same m _ _ (λ i l. ap (mulByte gf256 (byteAt χ (e * m + i))) (same i l))
+
+-- ---- the lines
+
+-- the bits of the lines, which are the rows of b
+pub line-bit : (n m : ℕ) (b L : List ℕ) → ((i f : ℕ) → i < m → f < bytesFor n → cellAt L i f ≡ byteAt b (i * bytesFor n + f))
+    → (i c : ℕ) → i < m → c < n → lineBit L i c ≡ bit (rowOf n b i) c
+line-bit n m b L are i c hi hc =
+    let covered : c < bytesFor n * 8 = omega (arith, bytes-enough n) in
+    let inside : c / 8 < bytesFor n = omega arith in
+    ap (λ x. bitOf x (c % 8)) (are i (c / 8) hi inside) ∙ row-bit b (bytesFor n) i c covered
 
 -- ---- the forms
 
@@ -62,6 +65,19 @@ module _ (n m e : ℕ) (A T χ : List ℕ) where
   pub form-is : formSum n (bytesFor n) m A χ e (λ c. laneAt T c e) (λ c. laneAt T c e) ≡ batchByte m χ e (λ i. formByte n (matrixOf n A i) T e)
   unfolding product
   form-is = by-rows (λ c. laneAt T c e) (λ c. laneAt T c e)
+
+  -- the batched lines at the vectors, where the lines are the rows of b
+  pub lines-are : (b L : List ℕ) → ((i f : ℕ) → i < m → f < bytesFor n → cellAt L i f ≡ byteAt b (i * bytesFor n + f))
+      → xorSum n (λ c. product (laneAt T c e) (lineSum L m χ e c)) ≡ batchByte m χ e (λ i. selected n (rowOf n b i) T lanes e)
+  unfolding product lineSum
+  lines-are b L are =
+      sum-same n _ (λ c. xorSum m (λ i. bit (rowOf n b i) c * product (byteAt χ (e * m + i)) (laneAt T c e))) (λ c l.
+      ap (product (laneAt T c e)) (sum-same m _ (λ i. bit (rowOf n b i) c * byteAt χ (e * m + i)) (λ i k.
+      ap (λ x. x * byteAt χ (e * m + i)) (line-bit n m b L are i c k l)))
+      ∙ sym (product-bits (laneAt T c e) m (λ i. bit (rowOf n b i) c) (λ i. byteAt χ (e * m + i)) (λ i. bit-lt (rowOf n b i) c))
+      ∙ sum-same m _ _ (λ i k. ap (λ x. bit (rowOf n b i) c * x) (product-comm (laneAt T c e) (byteAt χ (e * m + i)))))
+      ∙ sum-swap n m (λ c i. bit (rowOf n b i) c * product (byteAt χ (e * m + i)) (laneAt T c e))
+      ∙ sum-same m _ _ (λ i k. product-bits (byteAt χ (e * m + i)) n (bit (rowOf n b i)) (λ c. laneAt T c e) (bit-lt (rowOf n b i)))
 
   module _ (bytes : (k : ℕ) → byteAt T k < 256) (x : ℕ → ℕ) (bits : (c : ℕ) → x c < 2) where
     -- the two cross terms of an equation

@@ -1,3 +1,4 @@
 pub mod BatchLaws
 pub mod PrefixLaws
 pub mod FormsMeaning
+pub mod ErrorLaws

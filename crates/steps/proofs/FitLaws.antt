@@ -2,9 +2,11 @@
 -- Assumes nothing.
 use mathlib.Core.Path.{_≡_}
 use mathlib.Core.Bool.{true}
+use mathlib.Core.List.{List, _++_}
 use Prim.Native.Nat.{ℕ, _+_, _*_, _-_, _≤_, _<_}
 use native.Mathlib.Nat.{mul-le-mul}
 use native.Mathlib.Omega.{arith}
+use lib.ListN.{length, length-append}
 use Rattle.field.specs.Gf256.{gf256}
 use Rattle.protocol.specs.Strings.{bytesFor}
 use Rattle.protocol.specs.Binary.{bits256}
@@ -57,3 +59,7 @@ room s h =
 pub bits-fit : (L : ℕ) → L ≤ bytesFor L * 8
 unfolding bytesFor
 bits-fit L = omega arith
+
+-- the front of a buffer is in it
+pub front-fits : (p q : List ℕ) (n : ℕ) → length p ≡ n → n ≤ length (p ++ q)
+front-fits p q n e = rw (length-append p q) (omega (arith, e))

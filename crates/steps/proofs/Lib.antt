@@ -5,3 +5,4 @@ pub mod FitLaws
 pub mod HashSections
 pub mod LoadedLaws
 pub mod BatchSections
+pub mod SolvedLaws

@@ -1,12 +1,20 @@
 // The hash of every repetition's vector: H·v_e, H = [H′ | identity], row by row.
 ghost use mathlib.Core.Path.{_≡_};
+ghost use mathlib.Core.Bool.{true};
 ghost use Prim.Native.Nat.{ℕ, _+_, _*_, _<_, _≤_};
 ghost use lib.ListN.{length, take};
 ghost use lib.Bits.{bitXor};
+ghost use Rattle.protocol.specs.Strings.{bytesFor};
+ghost use Rattle.protocol.specs.Binary.{bits256};
+ghost use Rattle.protocol.specs.Shape.{limits, kOf, wOf};
 ghost use Rattle.strings.specs.Sums.{byteAt, selected};
 ghost use Rattle.lanes.specs.Lanes.{lanes, laneAt};
 ghost use Rattle.lookups.specs.Entries.{Tabled};
+ghost use Rattle.format.specs.Sizes.{shapeFor};
 ghost use Rattle.steps.specs.Hashed.{hashLane};
+ghost use Rattle.steps.specs.Loaded.{HashForm};
+use super::MOST_ROW;
+use format::Sizes;
 use lanes::LANES;
 
 // What a row of H′ selects, and one coordinate more, for each lane.
@@ -32,8 +40,8 @@ fn put_column(out: &mut [u8], rho: usize, t: usize, tau: usize, column: &[u8])
     }
 }
 
-// The section Ṽ: byte e·t + ρ is row ρ of H·v_e.
-pub fn hash_lanes(
+// Byte e·t + ρ is row ρ of H·v_e, by the table of sums.
+fn hash_lanes(
     out: &mut [u8],
     matrix: &[u8],
     width: usize,
@@ -60,4 +68,28 @@ pub fn hash_lanes(
         put_column(out, rho, t, tau, &column);
         rho += 1;
     }
+}
+
+// The sums of each four coordinates that a row of H′ can select.
+fn fill_entries(entries: &mut [u8], table: &[u8], s: Sizes)
+    requires { ⌜ (limits (shapeFor s) ≡ true) × (length (now table) ≡ 8 * wOf bits256 (shapeFor s) * lanes) × (bytesFor (kOf bits256 (shapeFor s)) * 32 * lanes ≤ length (now entries)) ⌝ }
+    ensures { λ _. ⌜ Tabled (take (bytesFor (kOf bits256 (shapeFor s)) * 8 * lanes) (now (table .entry))) (now (entries .exit)) (bytesFor (kOf bits256 (shapeFor s)) * 32) ⌝ }
+{
+    let width = format::sizes::bytes_for(format::sizes::hashed_bits(s));
+    let rows = width * 8;
+    lookups::fill_sums(entries, width * 32, rows, &table[..rows * LANES]);
+}
+
+// Byte e·t + ρ is row ρ of H·v_e, for the vectors v_e of the table (the verifier's are W_e). The table of sums is needed here only, and so is off the stack when the batch step, the deepest, begins.
+pub fn hash_all(out: &mut [u8], matrix: &[u8], table: &[u8], s: Sizes)
+    requires { ⌜ (limits (shapeFor s) ≡ true) × HashForm (shapeFor s) (now matrix) × (length (now table) ≡ 8 * wOf bits256 (shapeFor s) * lanes) × (length (now out) ≡ s .tau * s .t) ⌝ }
+    ensures { λ _. ⌜ ((e r : ℕ) → e < s .tau → r < s .t → byteAt (now (out .exit)) (e * s .t + r) ≡ hashLane (now (matrix .entry)) (bytesFor (kOf bits256 (shapeFor s))) (kOf bits256 (shapeFor s)) (now (table .entry)) r e) ⌝ }
+{
+    let k = format::sizes::hashed_bits(s);
+    let width = format::sizes::bytes_for(k);
+    let t = s.t;
+    let tau = s.tau;
+    let mut entries = [0u8; MOST_ROW * 32 * LANES];
+    fill_entries(&mut entries, table, s);
+    hash_lanes(out, matrix, width, k, t, tau, table, &entries);
 }

@@ -4,20 +4,22 @@ pub mod witness;
 
 ghost use mathlib.Core.Path.{_≡_};
 ghost use mathlib.Core.Bool.{true};
-ghost use Prim.Native.Nat.{ℕ, _+_, _*_, _-_, _<_, _≤_};
+ghost use Prim.Native.Nat.{_*_, _-_};
 ghost use lib.ListN.{length, take};
 ghost use Rattle.protocol.specs.Strings.{bytesFor};
 ghost use Rattle.protocol.specs.Binary.{bits256};
-ghost use Rattle.protocol.specs.Shape.{shapeOf, limits, kOf, wOf};
+ghost use Rattle.protocol.specs.Shape.{shapeOf, limits, wOf};
 ghost use Rattle.protocol.specs.Prover.{cSection, dSection, ũSection, ṼSection, qs0Section, qs1Section};
 ghost use Rattle.lanes.specs.Lanes.{lanes};
-ghost use Rattle.lookups.specs.Entries.{Tabled};
 ghost use Rattle.format.specs.Sizes.{shapeFor};
+ghost use Rattle.format.specs.Verdict.{answerOf};
 ghost use Rattle.steps.specs.Loaded.{LeavesForm, HashForm, Loaded};
 ghost use Rattle.steps.specs.Facts.{KeyFacts, WitnessForm};
+ghost use Rattle.steps.specs.Solved.{SolvedAs};
 use format::Sizes;
-use hash::hash_lanes;
-use lanes::LANES;
+use format::Verdict;
+use hash::hash_all;
+use witness::MOST_EQUATIONS;
 
 // Room for the largest key: bytes of a leaf, bytes of a row of bits. Its repetitions are the lanes.
 pub const MOST_LEAF: usize = 41;
@@ -46,16 +48,6 @@ pub fn fill_commit(
     vole::write_difference(d, witness, strings::row_at(sums, w, 0), n);
 }
 
-// The sums of each four coordinates that a row of H′, or of a matrix, can select.
-pub fn fill_entries(entries: &mut [u8], table: &[u8], s: Sizes)
-    requires { ⌜ (limits (shapeFor s) ≡ true) × (length (now table) ≡ 8 * wOf bits256 (shapeFor s) * lanes) × (bytesFor (kOf bits256 (shapeFor s)) * 32 * lanes ≤ length (now entries)) ⌝ }
-    ensures { λ _. ⌜ Tabled (take (bytesFor (kOf bits256 (shapeFor s)) * 8 * lanes) (now (table .entry))) (now (entries .exit)) (bytesFor (kOf bits256 (shapeFor s)) * 32) ⌝ }
-{
-    let width = format::sizes::bytes_for(format::sizes::hashed_bits(s));
-    let rows = width * 8;
-    lookups::fill_sums(entries, width * 32, rows, &table[..rows * LANES]);
-}
-
 // ũ and Ṽ.
 pub fn fill_hash(
     ut: &mut [u8],
@@ -64,25 +56,21 @@ pub fn fill_hash(
     leaves: &[u8],
     table: &[u8],
     sums: &[u8],
-    entries: &[u8],
     s: Sizes,
 )
     requires { ⌜ (limits (shapeFor s) ≡ true) × HashForm (shapeFor s) (now matrix) × Loaded (shapeFor s) (now leaves) (now table) (now sums) ⌝ }
     requires { ⌜ (length (now ut) ≡ bytesFor (s .t)) × (length (now vt) ≡ s .tau * s .t) ⌝ }
-    requires { ⌜ (bytesFor (kOf bits256 (shapeFor s)) * 32 * lanes ≤ length (now entries)) × Tabled (take (bytesFor (kOf bits256 (shapeFor s)) * 8 * lanes) (now table)) (now entries) (bytesFor (kOf bits256 (shapeFor s)) * 32) ⌝ }
     ensures { λ _. ⌜ now (ut .exit) ≡ ũSection bits256 (shapeFor s) (now (leaves .entry)) (now (matrix .entry)) ⌝ }
     ensures { λ _. ⌜ now (vt .exit) ≡ ṼSection bits256 (shapeFor s) (now (leaves .entry)) (now (matrix .entry)) ⌝ }
 {
     let w = format::sizes::leaf_bytes(s);
     let k = format::sizes::hashed_bits(s);
-    let width = format::sizes::bytes_for(k);
-    let tau = s.tau;
     let t = s.t;
     vole::write_hash_bits(ut, matrix, strings::row_at(sums, w, 0), k, t);
-    hash_lanes(vt, matrix, width, k, t, tau, table, entries);
+    hash_all(vt, matrix, table, s);
 }
 
-// QS0 and QS1, in the first lanes of two rows.
+// QS0 and QS1, in the first lanes of two rows; and the answer to question 11, which the same lines tell.
 pub fn fill_batch(
     qs0: &mut [u8],
     qs1: &mut [u8],
@@ -93,21 +81,25 @@ pub fn fill_batch(
     table: &[u8],
     sums: &[u8],
     s: Sizes,
-)
+) -> Verdict
     requires { ⌜ KeyFacts (shapeOf (now key)) (now key) × (shapeFor s ≡ shapeOf (now key)) × WitnessForm (shapeFor s) (now witness) × (length (now batching) ≡ s .tau * s .m) × Loaded (shapeFor s) (now leaves) (now table) (now sums) ⌝ }
     requires { ⌜ (length (now qs0) ≡ lanes) × (length (now qs1) ≡ lanes) ⌝ }
     ensures { λ _. ⌜ take (s .tau) (now (qs0 .exit)) ≡ qs0Section bits256 (shapeFor s) (now (leaves .entry)) (now (key .entry)) (now (batching .entry)) ⌝ }
     ensures { λ _. ⌜ take (s .tau) (now (qs1 .exit)) ≡ qs1Section bits256 (shapeFor s) (now (leaves .entry)) (now (key .entry)) (now (witness .entry)) (now (batching .entry)) ⌝ }
+    ensures { λ r. ⌜ SolvedAs (now (key .entry)) (now (witness .entry)) (answerOf r) ⌝ }
 {
     let w = format::sizes::leaf_bytes(s);
     let n = s.n;
     let m = s.m;
     let tau = s.tau;
+    let mut errors = [0u8; MOST_EQUATIONS];
     quadratic::batch::batch_lanes(
         qs0,
         qs1,
+        &mut errors[..m],
         questions::key::section_a(key),
         questions::key::section_b(key),
+        questions::key::section_y(key),
         witness,
         batching,
         strings::row_at(sums, w, 0),
@@ -116,4 +108,5 @@ pub fn fill_batch(
         tau,
         table,
     );
+    witness::answer(&errors[..m])
 }

@@ -5,13 +5,25 @@ ghost use lib.ListN.{length};
 ghost use Rattle.protocol.specs.Shape.{shapeOf};
 ghost use Rattle.format.specs.Verdict.{answerOf};
 ghost use Rattle.steps.specs.Facts.{KeyFacts, WitnessForm};
-ghost use Rattle.steps.specs.Solved.{SolvedAs};
+ghost use Rattle.steps.specs.Solved.{ErrorsAs, SolvedAs};
 use equations::Found;
 use format::Reason;
 use format::Verdict;
 
 // Room for the largest key.
-const MOST_EQUATIONS: usize = 160;
+pub const MOST_EQUATIONS: usize = 160;
+
+// The answer that the errors of the equations give: accepted, or refused 11 with the first that fails.
+pub fn answer(errors: &[u8]) -> Verdict
+    requires { ⌜ length (now errors) ≤ 160 ⌝ }
+    ensures { λ r. ⌜ ErrorsAs (now (errors .entry)) (answerOf r) ⌝ }
+{
+    let found = equations::first_failing(errors);
+    match found {
+        Found::At(i) => format::refuse(Reason::EquationFails, i as u16),
+        Found::Nothing => Verdict::Accepted,
+    }
+}
 
 fn test_equations(errors: &mut [u8], key: &[u8], witness: &[u8]) -> Verdict
     requires { ⌜ KeyFacts (shapeOf (now key)) (now key) × WitnessForm (shapeOf (now key)) (now witness) × (length (now errors) ≡ shapeOf (now key) .m) ⌝ }
@@ -27,11 +39,7 @@ fn test_equations(errors: &mut [u8], key: &[u8], witness: &[u8]) -> Verdict
         witness,
         n,
     );
-    let found = equations::first_failing(errors);
-    match found {
-        Found::At(i) => format::refuse(Reason::EquationFails, i as u16),
-        Found::Nothing => Verdict::Accepted,
-    }
+    answer(errors)
 }
 
 // Accepted, or refused 11 with an equation that fails.

@@ -1,4 +1,4 @@
--- Laws of the turn of eight rows: three passes.
+-- Laws of the turn of eight rows, by three passes, and of the parting of sixteen rows, by four merges.
 -- Assumes nothing.
 use mathlib.Core.Path.{_≡_, refl, sym, ap, ap₂, _∙_}
 use mathlib.Core.List.{List}
@@ -63,3 +63,18 @@ turned w rows one two three p q t r b hr hb =
 
 pub turned-at : (w from : ℕ) (src rows out : List ℕ) → Turned 16 rows out → ((z f : ℕ) → z < 8 → f < 16 → byteAt rows (z * 16 + f) ≡ byteAt src (from + z * w + f)) → TurnedAt w from src out
 turned-at w from src rows out turn copied r b hr hb = turn r b (omega arith) hb ∙ ap (λ z. bitOf z (r % 8)) (copied b (r / 8) hb (omega arith))
+
+-- ---- merges
+
+abbrev Merged : List ℕ → List ℕ → Type 0
+Merged rows out = (i : ℕ) → i < 128 → byteAt out i ≡ byteAt rows (i % 2 * 64 + i / 2)
+
+twice : (a b c : List ℕ) → Merged a b → Merged b c → (i : ℕ) → i < 128 → byteAt c i ≡ byteAt a (i % 4 * 32 + i / 4)
+twice a b c first second i h =
+    let at : (i % 2 * 64 + i / 2) % 2 * 64 + (i % 2 * 64 + i / 2) / 2 ≡ i % 4 * 32 + i / 4 = omega arith in
+    second i h ∙ first (i % 2 * 64 + i / 2) (omega arith) ∙ ap (byteAt a) at
+
+pub four-merges : (a b c d e : List ℕ) → Merged a b → Merged b c → Merged c d → Merged d e → (i : ℕ) → i < 128 → byteAt e i ≡ byteAt a (i % 16 * 8 + i / 16)
+four-merges a b c d e p q r s i h =
+    let at : (i % 4 * 32 + i / 4) % 4 * 32 + (i % 4 * 32 + i / 4) / 4 ≡ i % 16 * 8 + i / 16 = omega arith in
+    twice c d e r s i h ∙ twice a b c p q (i % 4 * 32 + i / 4) (omega arith) ∙ ap (byteAt a) at

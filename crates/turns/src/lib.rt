@@ -1,11 +1,12 @@
-// Eight rows of bits turned into columns of bytes, sixteen bytes of each row at a time: lengths are constants, so that the loops are of whole registers.
+// Eight rows of bits turned into columns of bytes, sixteen bytes of each row at a time, and sixteen rows of bytes into columns: lengths are constants,
+// so that the loops are of whole registers.
 // What is turned may be secret: no branch and no index goes by it.
 ghost use mathlib.Core.Path.{_≡_};
 ghost use Prim.Native.Nat.{ℕ, _+_, _*_, _/_, _%_, _<_, _≤_};
 ghost use lib.ListN.{length};
 ghost use Rattle.strings.specs.Sums.{byteAt};
 ghost use Rattle.turns.specs.Turns.{Step, Exchanged, Spread, Turned, TurnedAt};
-use chunks::cells::copy_front;
+use chunks::cells::copy_apart;
 
 pub const SIXTEEN: usize = 16;
 // The bytes of eight rows of sixteen, and of four.
@@ -30,7 +31,7 @@ fn exchange(out: &mut [u8], rows: &[u8], s: usize, mask: u8)
 }
 
 // Byte j of the first half and byte j of the last, side by side.
-pub fn merge(out: &mut [u8], rows: &[u8])
+fn merge(out: &mut [u8], rows: &[u8])
     requires { ⌜ (length (now rows) ≡ 128) × (128 ≤ length (now out)) ⌝ }
     ensures { λ _. ⌜ ((i : ℕ) → i < 128 → byteAt (now (out .exit)) i ≡ byteAt (now (rows .entry)) (i % 2 * 64 + i / 2)) ⌝ }
 {
@@ -64,33 +65,25 @@ pub fn turn(out: &mut [u8], rows: &[u8])
     spread(out, &two, 1, 85);
 }
 
-// Row z of sixteen bytes becomes that of src from `from` on.
-fn copy_row(rows: &mut [u8], z: usize, src: &[u8], from: usize)
-    requires { ⌜ (z * 16 + 16 ≤ length (now rows)) × (from + 16 ≤ length (now src)) ⌝ }
-    ensures { λ _. ⌜ ((f : ℕ) → f < 16 → byteAt (now (rows .exit)) (z * 16 + f) ≡ byteAt (now (src .entry)) (from + f)) ⌝ }
-    ensures { λ _. ⌜ ((q f : ℕ) → (q ≡ z → ⊥) → f < 16 → byteAt (now (rows .exit)) (q * 16 + f) ≡ byteAt (now (rows .entry)) (q * 16 + f)) ⌝ }
-{
-    let at = z * SIXTEEN;
-    copy_front(&mut rows[at..at + SIXTEEN], src, from, SIXTEEN);
-}
-
-fn copy_rows(rows: &mut [u8], src: &[u8], from: usize, width: usize)
-    requires { ⌜ (length (now rows) ≡ 128) × (from + 7 * width + 16 ≤ length (now src)) ⌝ }
-    ensures { λ _. ⌜ ((z f : ℕ) → z < 8 → f < 16 → byteAt (now (rows .exit)) (z * 16 + f) ≡ byteAt (now (src .entry)) (from + z * width + f)) ⌝ }
-{
-    let mut z = 0;
-    while z < 8 {
-        copy_row(rows, z, src, from + z * width);
-        z += 1;
-    }
-}
-
 // Sixteen bytes of each of eight rows, which stand `width` bytes apart in src, the first at `from`.
 pub fn turn_rows(out: &mut [u8], src: &[u8], from: usize, width: usize)
     requires { ⌜ (from + 7 * width + 16 ≤ length (now src)) × (128 ≤ length (now out)) ⌝ }
     ensures { λ _. ⌜ TurnedAt width from (now (src .entry)) (now (out .exit)) ⌝ }
 {
     let mut rows = [0u8; EIGHT_ROWS];
-    copy_rows(&mut rows, src, from, width);
+    copy_apart(&mut rows, 8, SIXTEEN, src, from, width);
     turn(out, &rows);
+}
+
+// Sixteen rows of eight bytes become eight columns of sixteen: each merge moves one bit of a row's number to the low end of a byte's place.
+pub fn part(cols: &mut [u8], rows: &[u8])
+    requires { ⌜ (length (now rows) ≡ 128) × (128 ≤ length (now cols)) ⌝ }
+    ensures { λ _. ⌜ ((i : ℕ) → i < 128 → byteAt (now (cols .exit)) i ≡ byteAt (now (rows .entry)) (i % 16 * 8 + i / 16)) ⌝ }
+{
+    let mut one = [0u8; EIGHT_ROWS];
+    let mut two = [0u8; EIGHT_ROWS];
+    merge(&mut one, rows);
+    merge(&mut two, &one);
+    merge(&mut one, &two);
+    merge(cols, &one);
 }

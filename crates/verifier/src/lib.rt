@@ -1,11 +1,10 @@
 // The verifier: its questions on form, and then 14 and 15, 14 over all repetitions before 15 over any. All that it is lent is public.
 ghost use mathlib.Core.Path.{_≡_};
 ghost use mathlib.Core.List.{[], _∷_};
-ghost use Prim.Native.Nat.{_*_, _≤_};
+ghost use Prim.Native.Nat.{_*_};
 ghost use lib.ListN.{length};
-ghost use Rattle.protocol.specs.Strings.{bytesFor};
 ghost use Rattle.protocol.specs.Binary.{bits256};
-ghost use Rattle.protocol.specs.Shape.{shapeOf, kOf, wOf};
+ghost use Rattle.protocol.specs.Shape.{shapeOf, wOf};
 ghost use Rattle.protocol.specs.Answers.{ask};
 ghost use Rattle.protocol.specs.Calls.{verifyAnswer};
 ghost use Rattle.protocol.specs.Questions.{q14, q15};
@@ -22,14 +21,12 @@ use format::sizes::MOST_HASH_ROWS;
 use lanes::LANES;
 use questions::proof::proof_section;
 use steps::MOST_LEAF;
-use steps::MOST_ROW;
 use verdicts::answer;
 
 // Both questions, in buffers of exact length.
 fn ask_checks(
     table: &mut [u8],
     hashed: &mut [u8],
-    entries: &mut [u8],
     key: &[u8],
     delta: &[u8],
     matrix: &[u8],
@@ -39,7 +36,7 @@ fn ask_checks(
     s: Sizes,
 ) -> Verdict
     requires { ⌜ (shapeFor s ≡ shapeOf (now key)) × VerifyFacts (shapeFor s) (now key) (now delta) (now matrix) (now batching) (now opened) (now proof) ⌝ }
-    requires { ⌜ (length (now table) ≡ 8 * wOf bits256 (shapeFor s) * lanes) × (length (now hashed) ≡ s .tau * s .t) × (bytesFor (kOf bits256 (shapeFor s)) * 32 * lanes ≤ length (now entries)) ⌝ }
+    requires { ⌜ (length (now table) ≡ 8 * wOf bits256 (shapeFor s) * lanes) × (length (now hashed) ≡ s .tau * s .t) ⌝ }
     ensures { λ r. ⌜ answerOf r ≡ ask (q14 bits256 (shapeFor s) (now (delta .entry)) (now (matrix .entry)) (now (opened .entry)) (now (proof .entry)) ∷ q15 bits256 (shapeFor s) (now (key .entry)) (now (delta .entry)) (now (batching .entry)) (now (opened .entry)) (now (proof .entry)) ∷ []) ⌝ }
 {
     let tau = s.tau;
@@ -52,7 +49,7 @@ fn ask_checks(
         tau,
         w,
     );
-    let inconsistent = check_consistency(hashed, entries, table, matrix, delta, opened, proof, s);
+    let inconsistent = check_consistency(hashed, table, matrix, delta, opened, proof, s);
     let consistent = answer(Reason::Inconsistent, inconsistent, tau);
     let Verdict::Accepted = consistent else {
         return consistent;
@@ -79,11 +76,9 @@ fn checks(
     let w = format::sizes::leaf_bytes(s);
     let mut table = [0u8; 8 * MOST_LEAF * LANES];
     let mut hashed = [0u8; LANES * MOST_HASH_ROWS];
-    let mut entries = [0u8; MOST_ROW * 32 * LANES];
     ask_checks(
         &mut table[..8 * w * LANES],
         &mut hashed[..tau * t],
-        &mut entries,
         key,
         delta,
         matrix,

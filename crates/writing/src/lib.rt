@@ -2,18 +2,22 @@
 ghost use mathlib.Core.Path.{_≡_};
 ghost use mathlib.Core.Bool.{true};
 ghost use mathlib.Core.List.{[], _∷_};
-ghost use Prim.Native.Nat.{_+_, _*_, _-_, _≤_};
+ghost use Prim.Native.Nat.{_+_, _*_, _-_};
 ghost use lib.ListN.{length};
 ghost use Rattle.protocol.specs.Strings.{bytesFor};
 ghost use Rattle.protocol.specs.Frames.{frame};
 ghost use Rattle.protocol.specs.Binary.{bits256};
-ghost use Rattle.protocol.specs.Shape.{shapeOf, limits, kOf, wOf};
+ghost use Rattle.protocol.specs.Shape.{shapeOf, limits, wOf};
 ghost use Rattle.protocol.specs.Prover.{cSection, dSection, ũSection, ṼSection, qs0Section, qs1Section};
+ghost use Rattle.protocol.specs.Answers.{written};
 ghost use Rattle.lanes.specs.Lanes.{lanes};
 ghost use Rattle.format.specs.Sizes.{shapeFor};
+ghost use Rattle.format.specs.Verdict.{answerOf};
 ghost use Rattle.steps.specs.Loaded.{LeavesForm, HashForm};
 ghost use Rattle.steps.specs.Facts.{KeyFacts, WitnessForm};
+ghost use Rattle.steps.specs.Solved.{SolvedAs};
 use format::Sizes;
+use format::Verdict;
 use format::sizes::MOST_HASH_ROWS;
 use frames::put_two;
 use lanes::LANES;
@@ -21,7 +25,6 @@ use steps::MOST_LEAF;
 use steps::MOST_ROW;
 use steps::fill_batch;
 use steps::fill_commit;
-use steps::fill_entries;
 use steps::fill_hash;
 
 // The second step in buffers of exact length.
@@ -29,7 +32,6 @@ fn hash_sections(
     out: &mut [u8],
     table: &mut [u8],
     sums: &mut [u8],
-    entries: &mut [u8],
     ut: &mut [u8],
     vt: &mut [u8],
     leaves: &[u8],
@@ -37,15 +39,14 @@ fn hash_sections(
     s: Sizes,
 )
     requires { ⌜ (limits (shapeFor s) ≡ true) × LeavesForm (shapeFor s) (now leaves) × HashForm (shapeFor s) (now matrix) ⌝ }
-    requires { ⌜ (length (now table) ≡ 8 * wOf bits256 (shapeFor s) * lanes) × (length (now sums) ≡ s .tau * wOf bits256 (shapeFor s)) × (bytesFor (kOf bits256 (shapeFor s)) * 32 * lanes ≤ length (now entries)) ⌝ }
+    requires { ⌜ (length (now table) ≡ 8 * wOf bits256 (shapeFor s) * lanes) × (length (now sums) ≡ s .tau * wOf bits256 (shapeFor s)) ⌝ }
     requires { ⌜ (length (now ut) ≡ bytesFor (s .t)) × (length (now vt) ≡ s .tau * s .t) × (length (now out) ≡ 8 + length (now ut) + length (now vt)) ⌝ }
     ensures { λ _. ⌜ now (out .exit) ≡ frame (ũSection bits256 (shapeFor s) (now (leaves .entry)) (now (matrix .entry)) ∷ ṼSection bits256 (shapeFor s) (now (leaves .entry)) (now (matrix .entry)) ∷ []) ⌝ }
 {
     let w = format::sizes::leaf_bytes(s);
     let tau = s.tau;
     tables::load_trees(table, sums, leaves, tau, w);
-    fill_entries(entries, table, s);
-    fill_hash(ut, vt, matrix, leaves, table, sums, entries, s);
+    fill_hash(ut, vt, matrix, leaves, table, sums, s);
     put_two(out, ut, vt);
 }
 
@@ -60,14 +61,12 @@ pub fn write_hash(out: &mut [u8], leaves: &[u8], matrix: &[u8], s: Sizes)
     let packed = format::sizes::bytes_for(t);
     let mut table = [0u8; 8 * MOST_LEAF * LANES];
     let mut sums = [0u8; LANES * MOST_LEAF];
-    let mut entries = [0u8; MOST_ROW * 32 * LANES];
     let mut ut = [0u8; MOST_ROW];
     let mut vt = [0u8; LANES * MOST_HASH_ROWS];
     hash_sections(
         out,
         &mut table[..8 * w * LANES],
         &mut sums[..tau * w],
-        &mut entries,
         &mut ut[..packed],
         &mut vt[..tau * t],
         leaves,
@@ -123,7 +122,7 @@ pub fn write_commit(out: &mut [u8], leaves: &[u8], witness: &[u8], s: Sizes)
     );
 }
 
-// The third step in buffers of exact length.
+// The third step in buffers of exact length. Question 11 is answered by the lines of the batch step: a refusal writes nothing.
 fn batch_sections(
     out: &mut [u8],
     table: &mut [u8],
@@ -135,19 +134,24 @@ fn batch_sections(
     witness: &[u8],
     batching: &[u8],
     s: Sizes,
-)
+) -> Verdict
     requires { ⌜ KeyFacts (shapeOf (now key)) (now key) × (shapeFor s ≡ shapeOf (now key)) × WitnessForm (shapeFor s) (now witness) × (length (now batching) ≡ s .tau * s .m) × (limits (shapeFor s) ≡ true) × LeavesForm (shapeFor s) (now leaves) ⌝ }
     requires { ⌜ (length (now table) ≡ 8 * wOf bits256 (shapeFor s) * lanes) × (length (now sums) ≡ s .tau * wOf bits256 (shapeFor s)) × (length (now qs0) ≡ lanes) × (length (now qs1) ≡ lanes) × (length (now out) ≡ 8 + s .tau + s .tau) ⌝ }
-    ensures { λ _. ⌜ now (out .exit) ≡ frame (qs0Section bits256 (shapeFor s) (now (leaves .entry)) (now (key .entry)) (now (batching .entry)) ∷ qs1Section bits256 (shapeFor s) (now (leaves .entry)) (now (key .entry)) (now (witness .entry)) (now (batching .entry)) ∷ []) ⌝ }
+    ensures { λ r. ⌜ SolvedAs (now (key .entry)) (now (witness .entry)) (answerOf r) ⌝ }
+    ensures { λ r. ⌜ now (out .exit) ≡ written (answerOf r) (now (out .entry)) (frame (qs0Section bits256 (shapeFor s) (now (leaves .entry)) (now (key .entry)) (now (batching .entry)) ∷ qs1Section bits256 (shapeFor s) (now (leaves .entry)) (now (key .entry)) (now (witness .entry)) (now (batching .entry)) ∷ [])) ⌝ }
 {
     let w = format::sizes::leaf_bytes(s);
     let tau = s.tau;
     tables::load_trees(table, sums, leaves, tau, w);
-    fill_batch(qs0, qs1, key, witness, batching, leaves, table, sums, s);
+    let answer = fill_batch(qs0, qs1, key, witness, batching, leaves, table, sums, s);
+    let Verdict::Accepted = answer else {
+        return answer;
+    };
     put_two(out, &qs0[..tau], &qs1[..tau]);
+    answer
 }
 
-// The third step: QS0 and QS1.
+// The third step: QS0 and QS1, or the refusal of question 11.
 pub fn write_batch(
     out: &mut [u8],
     key: &[u8],
@@ -155,9 +159,10 @@ pub fn write_batch(
     witness: &[u8],
     batching: &[u8],
     s: Sizes,
-)
+) -> Verdict
     requires { ⌜ KeyFacts (shapeOf (now key)) (now key) × (shapeFor s ≡ shapeOf (now key)) × WitnessForm (shapeFor s) (now witness) × (length (now batching) ≡ s .tau * s .m) × (limits (shapeFor s) ≡ true) × LeavesForm (shapeFor s) (now leaves) × (length (now out) ≡ 8 + s .tau + s .tau) ⌝ }
-    ensures { λ _. ⌜ now (out .exit) ≡ frame (qs0Section bits256 (shapeFor s) (now (leaves .entry)) (now (key .entry)) (now (batching .entry)) ∷ qs1Section bits256 (shapeFor s) (now (leaves .entry)) (now (key .entry)) (now (witness .entry)) (now (batching .entry)) ∷ []) ⌝ }
+    ensures { λ r. ⌜ SolvedAs (now (key .entry)) (now (witness .entry)) (answerOf r) ⌝ }
+    ensures { λ r. ⌜ now (out .exit) ≡ written (answerOf r) (now (out .entry)) (frame (qs0Section bits256 (shapeFor s) (now (leaves .entry)) (now (key .entry)) (now (batching .entry)) ∷ qs1Section bits256 (shapeFor s) (now (leaves .entry)) (now (key .entry)) (now (witness .entry)) (now (batching .entry)) ∷ [])) ⌝ }
 {
     let w = format::sizes::leaf_bytes(s);
     let tau = s.tau;
@@ -176,5 +181,5 @@ pub fn write_batch(
         witness,
         batching,
         s,
-    );
+    )
 }

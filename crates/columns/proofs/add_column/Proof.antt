@@ -5,9 +5,9 @@ use Prim.Native.Nat.{ℕ, _*_}
 use mathlib.Core.Path.{ap, _∙_}
 use denote.Ref.{now}
 use lib.Bits.{bitXor}
-use Rattle.strings.specs.Sums.{byteAt, bitOf, xorSum}
+use Rattle.strings.specs.Sums.{byteAt}
 use Rattle.lanes.specs.Lanes.{laneAt}
-use Rattle.columns.specs.Stacks.{alpha, product}
+use Rattle.columns.specs.Stacks.{product}
 use Rattle.columns.proofs.add_column.Statement.{statement}
 use Rattle.columns.proofs.add_column.Tie as tie
 
@@ -37,15 +37,12 @@ same-length-2 c = search needs
 
 returns : tie.Need-returns
 returns c =
-    let a = c .before .before .before .before .before .before .before .before .before .before .before .before .before .before .before .before .before .before .before .args in
+    let a = c .before .before .before .before .before .before .before .before .before .before .before .before .before .before .before .before .before .before .args in
     let u = c .before .before .before .before .before .before .before .before .before .before .before .weigh in
     let done = c .before .before .add-polar in (
       (λ e h. c .before .before .before .before .before .before .before .add-product .ensures e h ∙ ap (λ (x : ℕ). bitXor (byteAt (now (a .quad)) e) (product (laneAt (now (a .table)) (a .c) e) x)) (u .ensures e h)),
       (
-        (λ on e h.
-            let side = xorSum 8 (λ s. bitOf (laneAt (now (a .sides)) s e) (a .z) * alpha s) in
-            done .ensures .0 on e h
-            ∙ ap (λ (x : ℕ). bitXor (byteAt (now (a .mid)) e) (bitXor (product (laneAt (now (a .table)) (a .c) e) side) (byteAt (now (a .xs)) (a .c) * x))) (u .ensures e h)),
+        (λ on e h. done .ensures .0 on e h ∙ ap (λ (x : ℕ). bitXor (byteAt (now (a .mid)) e) (byteAt (now (a .xs)) (a .c) * x)) (u .ensures e h)),
         done .ensures .1,
       ),
     )

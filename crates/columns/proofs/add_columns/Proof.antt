@@ -16,21 +16,21 @@ use Rattle.columns.specs.Stacks.{alpha, product}
 use Rattle.columns.proofs.add_columns.Statement.{statement}
 use Rattle.columns.proofs.add_columns.Tie as tie
 
--- the value of column z of the first so many planes, and what it adds
-abbrev value : ℕ → List ℕ → ℕ → ℕ → ℕ
-value P rows e z = xorSum P (λ s. bitOf (laneAt rows s e) z * alpha s)
+-- the value of column z, and what it adds
+abbrev value : List ℕ → ℕ → ℕ → ℕ
+value rows e z = xorSum 15 (λ s. bitOf (laneAt rows s e) z * alpha s)
 
 abbrev quadTerm : List ℕ → List ℕ → ℕ → ℕ → ℕ → ℕ
-quadTerm rows table first e z = product (laneAt table (first + z) e) (value 15 rows e z)
+quadTerm rows table first e z = product (laneAt table (first + z) e) (value rows e z)
 
-abbrev midTerm : List ℕ → List ℕ → List ℕ → List ℕ → ℕ → ℕ → ℕ → ℕ
-midTerm rows sides table xs first e z = bitXor (product (laneAt table (first + z) e) (value 8 sides e z)) (byteAt xs (first + z) * value 15 rows e z)
+abbrev midTerm : List ℕ → List ℕ → ℕ → ℕ → ℕ → ℕ
+midTerm rows xs first e z = byteAt xs (first + z) * value rows e z
 
 abbrev Inv-loop : tie.InvT-loop
-Inv-loop quad₀ mid₀ rows sides first n table xs polar z₀ quad mid z = (z ≤ 8) × (length quad ≡ lanes) × (length mid ≡ lanes) × ((e : ℕ) → e < lanes → byteAt quad e ≡ bitXor (byteAt quad₀ e) (xorSum z (quadTerm rows table first e))) × (polar ≡ true → (e : ℕ) → e < lanes → byteAt mid e ≡ bitXor (byteAt mid₀ e) (xorSum z (midTerm rows sides table xs first e))) × (polar ≡ false → mid ≡ mid₀)
+Inv-loop quad₀ mid₀ rows first n table xs polar z₀ quad mid z = (z ≤ 8) × (length quad ≡ lanes) × (length mid ≡ lanes) × ((e : ℕ) → e < lanes → byteAt quad e ≡ bitXor (byteAt quad₀ e) (xorSum z (quadTerm rows table first e))) × (polar ≡ true → (e : ℕ) → e < lanes → byteAt mid e ≡ bitXor (byteAt mid₀ e) (xorSum z (midTerm rows xs first e))) × (polar ≡ false → mid ≡ mid₀)
 
 abbrev μ-loop : tie.MeasureT-loop
-μ-loop quad₀ mid₀ rows sides first n table xs polar z₀ quad mid z = 8 - z
+μ-loop quad₀ mid₀ rows first n table xs polar z₀ quad mid z = 8 - z
 
 loop-holds : tie.Need-loop-holds Inv-loop μ-loop
 unfolding xorSum
@@ -43,8 +43,8 @@ add-add-column c = search needs
 add-column-requires : tie.Need-add-column-requires Inv-loop μ-loop
 add-column-requires c κs =
     let l = c .before .before .before .loop in
-    let pre = c .before .before .before .before .before .before .before .before .before .before .pre in
-    (l .inv .1, l .inv .2, pre .2, pre .3, omega arith, pre .4, omega arith, pre .6 _)
+    let pre = c .before .before .before .before .before .before .before .before .before .pre in
+    (l .inv .1, l .inv .2, pre .2, omega arith, pre .3, omega arith, pre .5 _)
 
 add-z : tie.Need-add-z Inv-loop μ-loop
 add-z c = search needs
@@ -54,14 +54,14 @@ loop-less c = search needs
 
 loop-again : tie.Need-loop-again Inv-loop μ-loop
 loop-again c =
-    let a = c .before .before .before .before .before .before .before .before .before .before .before .before .before .before .before .args in
+    let a = c .before .before .before .before .before .before .before .before .before .before .before .before .before .before .args in
     let l = c .before .before .before .before .before .before .before .before .loop in
     let done = c .before .before .before .before .add-column in (
       omega arith,
       done .kept .0 ∙ l .inv .1,
       done .kept .1 .0 ∙ l .inv .2,
       (λ e h. done .ensures .0 e h ∙ sum-step (byteAt (now (a .quad)) e) (byteAt (l .quad) e) (l .z) (quadTerm (now (a .rows)) (now (a .table)) (a .first) e) (l .inv .3 e h)),
-      (λ on e h. done .ensures .1 .0 on e h ∙ sum-step (byteAt (now (a .mid)) e) (byteAt (l .mid) e) (l .z) (midTerm (now (a .rows)) (now (a .sides)) (now (a .table)) (now (a .xs)) (a .first) e) (l .inv .4 on e h)),
+      (λ on e h. done .ensures .1 .0 on e h ∙ sum-step (byteAt (now (a .mid)) e) (byteAt (l .mid) e) (l .z) (midTerm (now (a .rows)) (now (a .xs)) (a .first) e) (l .inv .4 on e h)),
       (λ off. done .ensures .1 .1 off ∙ l .inv .5 off),
     )
 

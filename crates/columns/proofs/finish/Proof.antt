@@ -20,24 +20,24 @@ use Rattle.columns.proofs.finish.Statement.{statement}
 use Rattle.columns.proofs.finish.Tie as tie
 
 -- the value of column s of a panel, and what it adds
-abbrev column : ℕ → List ℕ → ℕ → ℕ → ℕ
-column P T e s = foldOf P T e (s / 8) (s % 8)
+abbrev column : List ℕ → ℕ → ℕ → ℕ
+column T e s = foldOf 15 T e (s / 8) (s % 8)
 
 abbrev quadTerm : List ℕ → ℕ → List ℕ → ℕ → ℕ → ℕ
-quadTerm stacks panel table e s = product (laneAt table (panel * 16 + s) e) (column 15 stacks e s)
+quadTerm stacks panel table e s = product (laneAt table (panel * 16 + s) e) (column stacks e s)
 
-abbrev midTerm : List ℕ → List ℕ → ℕ → List ℕ → List ℕ → ℕ → ℕ → ℕ
-midTerm stacks sides panel table xs e s = bitXor (product (laneAt table (panel * 16 + s) e) (column 8 sides e s)) (byteAt xs (panel * 16 + s) * column 15 stacks e s)
+abbrev midTerm : List ℕ → ℕ → List ℕ → ℕ → ℕ → ℕ
+midTerm stacks panel xs e s = byteAt xs (panel * 16 + s) * column stacks e s
 
-column-is : (P : ℕ) (rows T : List ℕ) (e h z : ℕ) → z < 8 → ((s : ℕ) → s < P → laneAt rows s e ≡ xorSum 16 (λ f. byteAt T (e * (P * chunk) + (s * chunk + h * 16 + f))))
-    → xorSum P (λ s. bitOf (laneAt rows s e) z * alpha s) ≡ column P T e (h * 8 + z)
-column-is P rows T e h z k are = fold-is P rows T e h z are ∙ sym (ap₂ (foldOf P T e) (digits-div h k) (digits-mod h k))
+column-is : (rows T : List ℕ) (e h z : ℕ) → z < 8 → ((s : ℕ) → s < 15 → laneAt rows s e ≡ xorSum 16 (λ f. byteAt T (e * (15 * chunk) + (s * chunk + h * 16 + f))))
+    → xorSum 15 (λ s. bitOf (laneAt rows s e) z * alpha s) ≡ column T e (h * 8 + z)
+column-is rows T e h z k are = fold-is 15 rows T e h z are ∙ sym (ap₂ (foldOf 15 T e) (digits-div h k) (digits-mod h k))
 
 abbrev Inv-loop : tie.InvT-loop
-Inv-loop quad₀ mid₀ stacks sides panel tau n table xs polar h₀ quad mid h = (h ≤ 2) × (length quad ≡ lanes) × (length mid ≡ lanes) × ((e : ℕ) → e < tau → byteAt quad e ≡ bitXor (byteAt quad₀ e) (xorSum (h * 8) (quadTerm stacks panel table e))) × (polar ≡ true → (e : ℕ) → e < tau → byteAt mid e ≡ bitXor (byteAt mid₀ e) (xorSum (h * 8) (midTerm stacks sides panel table xs e))) × (polar ≡ false → mid ≡ mid₀)
+Inv-loop quad₀ mid₀ stacks panel tau n table xs polar h₀ quad mid h = (h ≤ 2) × (length quad ≡ lanes) × (length mid ≡ lanes) × ((e : ℕ) → e < tau → byteAt quad e ≡ bitXor (byteAt quad₀ e) (xorSum (h * 8) (quadTerm stacks panel table e))) × (polar ≡ true → (e : ℕ) → e < tau → byteAt mid e ≡ bitXor (byteAt mid₀ e) (xorSum (h * 8) (midTerm stacks panel xs e))) × (polar ≡ false → mid ≡ mid₀)
 
 abbrev μ-loop : tie.MeasureT-loop
-μ-loop quad₀ mid₀ stacks sides panel tau n table xs polar h₀ quad mid h = 2 - h
+μ-loop quad₀ mid₀ stacks panel tau n table xs polar h₀ quad mid h = 2 - h
 
 loop-holds : tie.Need-loop-holds Inv-loop μ-loop
 unfolding xorSum
@@ -50,17 +50,8 @@ slice-aggregate-gather c = search needs
 gather-requires : tie.Need-gather-requires Inv-loop μ-loop
 gather-requires c κs = search needs
 
-slice-aggregate-gather-sides : tie.Need-slice-aggregate-gather-sides Inv-loop μ-loop
-slice-aggregate-gather-sides c = search needs
-
-gather-sides-requires : tie.Need-gather-sides-requires Inv-loop μ-loop
-gather-sides-requires c κs = search needs
-
 slice-aggregate-add-columns : tie.Need-slice-aggregate-add-columns Inv-loop μ-loop
 slice-aggregate-add-columns c = search needs
-
-slice-aggregate-add-columns-2 : tie.Need-slice-aggregate-add-columns-2 Inv-loop μ-loop
-slice-aggregate-add-columns-2 c = search needs
 
 mul-add-columns : tie.Need-mul-add-columns Inv-loop μ-loop
 mul-add-columns c = search needs
@@ -73,9 +64,9 @@ add-add-columns c = search needs
 
 add-columns-requires : tie.Need-add-columns-requires Inv-loop μ-loop
 add-columns-requires c κs =
-    let l = c .before .before .before .before .before .before .before .before .before .before .before .loop in
-    let pre = c .before .before .before .before .before .before .before .before .before .before .before .before .before .before .before .before .before .before .pre in
-    (l .inv .1, l .inv .2, search needs, search needs, pre .5, omega arith, pre .7)
+    let l = c .before .before .before .before .before .before .before .loop in
+    let pre = c .before .before .before .before .before .before .before .before .before .before .before .before .before .pre in
+    (l .inv .1, l .inv .2, search needs, pre .4, omega arith, pre .6)
 
 add-h : tie.Need-add-h Inv-loop μ-loop
 add-h c = search needs
@@ -85,18 +76,15 @@ loop-less c = search needs
 
 loop-again : tie.Need-loop-again Inv-loop μ-loop
 loop-again c =
-    let a = c .before .before .before .before .before .before .before .before .before .before .before .before .before .before .before .before .before .before .before .before .before .before .before .args in
-    let l = c .before .before .before .before .before .before .before .before .before .before .before .before .before .before .before .before .loop in
-    let most : a .tau ≤ lanes = c .before .before .before .before .before .before .before .before .before .before .before .before .before .before .before .before .before .before .before .before .before .before .before .pre .2 in
-    let rows = c .before .before .before .before .before .before .before .before .before .before .before .before .before .gather in
-    let sides = c .before .before .before .before .before .before .before .before .before .before .gather-sides in
+    let a = c .before .before .before .before .before .before .before .before .before .before .before .before .before .before .before .before .before .before .args in
+    let l = c .before .before .before .before .before .before .before .before .before .before .before .before .loop in
+    let most : a .tau ≤ lanes = c .before .before .before .before .before .before .before .before .before .before .before .before .before .before .before .before .before .before .pre .2 in
+    let rows = c .before .before .before .before .before .before .before .before .before .gather in
     let done = c .before .before .before .before .add-columns in
-    let value : (e : ℕ) → e < a .tau → (z : ℕ) → z < 8 → xorSum 15 (λ s. bitOf (laneAt (rows .last .0) s e) z * alpha s) ≡ column 15 (now (a .stacks)) e (l .h * 8 + z) =
-    λ e h z k. column-is 15 (rows .last .0) (now (a .stacks)) e (l .h) z k (λ s q. rows .ensures s e q h) in
-    let side : a .polar ≡ true → (e : ℕ) → e < a .tau → (z : ℕ) → z < 8 → xorSum 8 (λ s. bitOf (laneAt (sides .last .0) s e) z * alpha s) ≡ column 8 (now (a .sides)) e (l .h * 8 + z) =
-    λ on e h z k. column-is 8 (sides .last .0) (now (a .sides)) e (l .h) z k (λ s q. sides .ensures on s e q h) in
+    let value : (e : ℕ) → e < a .tau → (z : ℕ) → z < 8 → xorSum 15 (λ s. bitOf (laneAt (rows .last .0) s e) z * alpha s) ≡ column (now (a .stacks)) e (l .h * 8 + z) =
+    λ e h z k. column-is (rows .last .0) (now (a .stacks)) e (l .h) z k (λ s q. rows .ensures s e q h) in
     let place = add-assoc (a .panel * 16) (l .h * 8) in (
-      omega (arith, c .before .before .before .before .before .before .before .before .before .before .before .before .before .before .before .loop-test .taken),
+      omega (arith, c .before .before .before .before .before .before .before .before .before .before .before .loop-test .taken),
       done .kept .0 ∙ l .inv .1,
       done .kept .1 .0 ∙ l .inv .2,
       (λ e h.
@@ -105,8 +93,8 @@ loop-again c =
           (λ z k. ap₂ (λ (i x : ℕ). product (laneAt (now (a .table)) i e) x) (place z) (value e h z k))),
       (λ on e h.
           done .ensures .1 .0 on e (omega arith)
-          ∙ eight-more (byteAt (now (a .mid)) e) (byteAt (l .mid) e) (l .h) (midTerm (now (a .stacks)) (now (a .sides)) (a .panel) (now (a .table)) (now (a .xs)) e) _ (l .inv .4 on e h)
-          (λ z k. ap₂ bitXor (ap₂ (λ (i x : ℕ). product (laneAt (now (a .table)) i e) x) (place z) (side on e h z k)) (ap₂ (λ (i x : ℕ). byteAt (now (a .xs)) i * x) (place z) (value e h z k)))),
+          ∙ eight-more (byteAt (now (a .mid)) e) (byteAt (l .mid) e) (l .h) (midTerm (now (a .stacks)) (a .panel) (now (a .xs)) e) _ (l .inv .4 on e h)
+          (λ z k. ap₂ (λ (i x : ℕ). byteAt (now (a .xs)) i * x) (place z) (value e h z k))),
       (λ off. done .ensures .1 .1 off ∙ l .inv .5 off),
     )
 
@@ -131,10 +119,7 @@ finish-spec =
     loop-holds
     slice-aggregate-gather
     gather-requires
-    slice-aggregate-gather-sides
-    gather-sides-requires
     slice-aggregate-add-columns
-    slice-aggregate-add-columns-2
     mul-add-columns
     mul-add-columns-2
     add-add-columns

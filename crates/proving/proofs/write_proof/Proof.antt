@@ -69,94 +69,90 @@ slice-aggregate-prove-sections-2 c =
     let fits = room (shapeFor (s .args .s)) (s .pre .4) in
     sym (prefix-length (s .args .s .tau * c .before .before .before .before .before .leaf-bytes .result) 1968 (rw (c .before .before .before .before .before .leaf-bytes .ensures) (fits .sums-room)))
 
-slice-aggregate-prove-sections-3 : tie.Need-slice-aggregate-prove-sections-3
-slice-aggregate-prove-sections-3 c = search needs
-
 sub-c : tie.Need-sub-c
 sub-c c =
-    let s = c .before .before .before .before .before .before .before .before .before .before .before .before .before in
+    let s = c .before .before .before .before .before .before .before .before .before .before .before .before in
     let fits = room (shapeFor (s .args .s)) (s .pre .4) in
     in-limits (shapeFor (s .args .s)) (s .pre .4) .τ-least
 
 mul-c : tie.Need-mul-c
 mul-c c =
-    let s = c .before .before .before .before .before .before .before .before .before .before .before .before .before in
+    let s = c .before .before .before .before .before .before .before .before .before .before .before .before in
     let fits = room (shapeFor (s .args .s)) (s .pre .4) in
-    rw (c .before .before .before .before .before .before .leaf-bytes .ensures) (omega (arith, fits .corrections-room))
+    rw (c .before .before .before .before .before .leaf-bytes .ensures) (omega (arith, fits .corrections-room))
 
 array-borrow-prefix-c : tie.Need-array-borrow-prefix-c
 array-borrow-prefix-c c =
+    let s = c .before .before .before .before .before .before .before .before .before .before .before .before in
+    let fits = room (shapeFor (s .args .s)) (s .pre .4) in
+    rw (c .before .before .before .before .before .leaf-bytes .ensures) (fits .corrections-room)
+
+slice-aggregate-prove-sections-3 : tie.Need-slice-aggregate-prove-sections-3
+slice-aggregate-prove-sections-3 c =
     let s = c .before .before .before .before .before .before .before .before .before .before .before .before .before in
     let fits = room (shapeFor (s .args .s)) (s .pre .4) in
-    rw (c .before .before .before .before .before .before .leaf-bytes .ensures) (fits .corrections-room)
+    sym (prefix-length ((s .args .s .tau - 1) * c .before .before .before .before .before .before .leaf-bytes .result) 1968 (rw (c .before .before .before .before .before .before .leaf-bytes .ensures) (fits .corrections-room)))
+
+array-borrow-prefix-d : tie.Need-array-borrow-prefix-d
+array-borrow-prefix-d c =
+    let s = c .before .before .before .before .before .before .before .before .before .before .before .before .before in
+    let fits = room (shapeFor (s .args .s)) (s .pre .4) in
+    rw (c .before .before .before .before .witness-bytes .ensures) (fits .row-room)
 
 slice-aggregate-prove-sections-4 : tie.Need-slice-aggregate-prove-sections-4
 slice-aggregate-prove-sections-4 c =
     let s = c .before .before .before .before .before .before .before .before .before .before .before .before .before .before in
     let fits = room (shapeFor (s .args .s)) (s .pre .4) in
-    sym (prefix-length ((s .args .s .tau - 1) * c .before .before .before .before .before .before .before .leaf-bytes .result) 1968 (rw (c .before .before .before .before .before .before .before .leaf-bytes .ensures) (fits .corrections-room)))
+    sym (prefix-length (c .before .before .before .before .before .witness-bytes .result) 21 (rw (c .before .before .before .before .before .witness-bytes .ensures) (fits .row-room)))
 
-array-borrow-prefix-d : tie.Need-array-borrow-prefix-d
-array-borrow-prefix-d c =
+array-borrow-prefix-ut : tie.Need-array-borrow-prefix-ut
+array-borrow-prefix-ut c =
     let s = c .before .before .before .before .before .before .before .before .before .before .before .before .before .before in
     let fits = room (shapeFor (s .args .s)) (s .pre .4) in
-    rw (c .before .before .before .before .before .witness-bytes .ensures) (fits .row-room)
+    rw (c .before .before .before .before .before .before .bytes-for .ensures) (fits .packed-room)
 
 slice-aggregate-prove-sections-5 : tie.Need-slice-aggregate-prove-sections-5
 slice-aggregate-prove-sections-5 c =
     let s = c .before .before .before .before .before .before .before .before .before .before .before .before .before .before .before in
     let fits = room (shapeFor (s .args .s)) (s .pre .4) in
-    sym (prefix-length (c .before .before .before .before .before .before .witness-bytes .result) 21 (rw (c .before .before .before .before .before .before .witness-bytes .ensures) (fits .row-room)))
-
-array-borrow-prefix-ut : tie.Need-array-borrow-prefix-ut
-array-borrow-prefix-ut c =
-    let s = c .before .before .before .before .before .before .before .before .before .before .before .before .before .before .before in
-    let fits = room (shapeFor (s .args .s)) (s .pre .4) in
-    rw (c .before .before .before .before .before .before .before .bytes-for .ensures) (fits .packed-room)
-
-slice-aggregate-prove-sections-6 : tie.Need-slice-aggregate-prove-sections-6
-slice-aggregate-prove-sections-6 c =
-    let s = c .before .before .before .before .before .before .before .before .before .before .before .before .before .before .before .before in
-    let fits = room (shapeFor (s .args .s)) (s .pre .4) in
-    sym (prefix-length (c .before .before .before .before .before .before .before .before .bytes-for .result) 21 (rw (c .before .before .before .before .before .before .before .before .bytes-for .ensures) (fits .packed-room)))
+    sym (prefix-length (c .before .before .before .before .before .before .before .bytes-for .result) 21 (rw (c .before .before .before .before .before .before .before .bytes-for .ensures) (fits .packed-room)))
 
 mul-vt : tie.Need-mul-vt
 mul-vt c =
-    let s = c .before .before .before .before .before .before .before .before .before .before .before .before .before .before .before .before in
+    let s = c .before .before .before .before .before .before .before .before .before .before .before .before .before .before .before in
     let fits = room (shapeFor (s .args .s)) (s .pre .4) in
     omega (arith, fits .hashed-room)
 
 array-borrow-prefix-vt : tie.Need-array-borrow-prefix-vt
 array-borrow-prefix-vt c =
-    let s = c .before .before .before .before .before .before .before .before .before .before .before .before .before .before .before .before in
+    let s = c .before .before .before .before .before .before .before .before .before .before .before .before .before .before .before in
     let fits = room (shapeFor (s .args .s)) (s .pre .4) in
     fits .hashed-room
 
-slice-aggregate-prove-sections-7 : tie.Need-slice-aggregate-prove-sections-7
-slice-aggregate-prove-sections-7 c =
-    let s = c .before .before .before .before .before .before .before .before .before .before .before .before .before .before .before .before .before in
+slice-aggregate-prove-sections-6 : tie.Need-slice-aggregate-prove-sections-6
+slice-aggregate-prove-sections-6 c =
+    let s = c .before .before .before .before .before .before .before .before .before .before .before .before .before .before .before .before in
     let fits = room (shapeFor (s .args .s)) (s .pre .4) in
     sym (prefix-length (s .args .s .tau * s .args .s .t) 7680 (fits .hashed-room))
+
+slice-aggregate-prove-sections-7 : tie.Need-slice-aggregate-prove-sections-7
+slice-aggregate-prove-sections-7 c = search needs
 
 slice-aggregate-prove-sections-8 : tie.Need-slice-aggregate-prove-sections-8
 slice-aggregate-prove-sections-8 c = search needs
 
-slice-aggregate-prove-sections-9 : tie.Need-slice-aggregate-prove-sections-9
-slice-aggregate-prove-sections-9 c = search needs
-
 prove-sections-requires : tie.Need-prove-sections-requires
 prove-sections-requires c κs =
-    let s = c .before .before .before .before .before .before .before .before .before .before .before .before .before .before .before .before .before .before .before in
+    let s = c .before .before .before .before .before .before .before .before .before .before .before .before .before .before .before .before .before .before in
     let fits = room (shapeFor (s .args .s)) (s .pre .4) in
-    let leaf = c .before .before .before .before .before .before .before .before .before .before .before .before .leaf-bytes in
-    let packed = c .before .before .before .before .before .before .before .before .before .before .before .bytes-for in
-    let width = c .before .before .before .before .before .before .before .before .before .before .witness-bytes in (
+    let leaf = c .before .before .before .before .before .before .before .before .before .before .before .leaf-bytes in
+    let packed = c .before .before .before .before .before .before .before .before .before .before .bytes-for in
+    let width = c .before .before .before .before .before .before .before .before .before .witness-bytes in (
       (s .pre .0, s .pre .1, s .pre .2, s .pre .3, s .pre .4, s .pre .5, s .pre .6),
       (
         (
           prefix-length (8 * leaf .result * 48) 15744 (rw (leaf .ensures) (fits .table-room)) ∙ ap (λ (x : ℕ). 8 * x * 48) (leaf .ensures),
           prefix-length (s .args .s .tau * leaf .result) 1968 (rw (leaf .ensures) (fits .sums-room)) ∙ ap (λ (x : ℕ). s .args .s .tau * x) (leaf .ensures),
-          fits .entries-room,
         ),
         (
           (
@@ -192,20 +188,19 @@ write-proof-spec =
     mul-sums
     array-borrow-prefix-sums
     slice-aggregate-prove-sections-2
-    slice-aggregate-prove-sections-3
     sub-c
     mul-c
     array-borrow-prefix-c
-    slice-aggregate-prove-sections-4
+    slice-aggregate-prove-sections-3
     array-borrow-prefix-d
-    slice-aggregate-prove-sections-5
+    slice-aggregate-prove-sections-4
     array-borrow-prefix-ut
-    slice-aggregate-prove-sections-6
+    slice-aggregate-prove-sections-5
     mul-vt
     array-borrow-prefix-vt
+    slice-aggregate-prove-sections-6
     slice-aggregate-prove-sections-7
     slice-aggregate-prove-sections-8
-    slice-aggregate-prove-sections-9
     prove-sections-requires
     same-length
     returns)

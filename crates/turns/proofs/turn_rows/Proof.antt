@@ -6,11 +6,11 @@ use Rattle.turns.proofs.TurnLaws.{turned-at}
 use Rattle.turns.proofs.turn_rows.Statement.{statement}
 use Rattle.turns.proofs.turn_rows.Tie as tie
 
-slice-aggregate-copy-rows : tie.Need-slice-aggregate-copy-rows
-slice-aggregate-copy-rows c = search needs
+slice-aggregate-copy-apart : tie.Need-slice-aggregate-copy-apart
+slice-aggregate-copy-apart c = search needs
 
-copy-rows-requires : tie.Need-copy-rows-requires
-copy-rows-requires c κs = search needs
+copy-apart-requires : tie.Need-copy-apart-requires
+copy-apart-requires c κs = search needs
 
 slice-aggregate-turn : tie.Need-slice-aggregate-turn
 slice-aggregate-turn c = search needs
@@ -24,7 +24,7 @@ same-length c = search needs
 returns : tie.Need-returns
 returns c =
     let a = c .before .before .before .before .before .before .before .before .before .before .args in
-    let copy = c .before .before .before .before .before .before .copy-rows in
+    let copy = c .before .before .before .before .before .before .copy-apart in
     let turn = c .before .before .turn in
     turned-at (a .width) (a .from) (now (a .src)) (copy .last .0) (turn .last .0) (turn .ensures) (copy .ensures)
 
@@ -32,8 +32,8 @@ pub turn-rows-spec : {M : Type 1} → statement M
 turn-rows-spec =
     tie.close
     (tie.spec
-    slice-aggregate-copy-rows
-    copy-rows-requires
+    slice-aggregate-copy-apart
+    copy-apart-requires
     slice-aggregate-turn
     turn-requires
     same-length

@@ -41,17 +41,14 @@ slice-aggregate-ask-checks-2 c =
     let fits = room (shapeFor (s .args .s)) (s .pre .1 .of-key .in-range) in
     sym (prefix-length (s .args .s .tau * s .args .s .t) 7680 (fits .hashed-room))
 
-slice-aggregate-ask-checks-3 : tie.Need-slice-aggregate-ask-checks-3
-slice-aggregate-ask-checks-3 c = search needs
-
 ask-checks-requires : tie.Need-ask-checks-requires
 ask-checks-requires c κs =
-    let s = c .before .before .before .before .before .before .before .before .before .before in
+    let s = c .before .before .before .before .before .before .before .before .before in
     let fits = room (shapeFor (s .args .s)) (s .pre .1 .of-key .in-range) in
-    ((s .pre .0, s .pre .1), (prefix-length (8 * c .before .before .before .leaf-bytes .result * 48) 15744 (rw (c .before .before .before .leaf-bytes .ensures) (fits .table-room)) ∙ ap (λ (x : ℕ). 8 * x * 48) (c .before .before .before .leaf-bytes .ensures), prefix-length (s .args .s .tau * s .args .s .t) 7680 (fits .hashed-room), fits .entries-room))
+    ((s .pre .0, s .pre .1), (prefix-length (8 * c .before .before .leaf-bytes .result * 48) 15744 (rw (c .before .before .leaf-bytes .ensures) (fits .table-room)) ∙ ap (λ (x : ℕ). 8 * x * 48) (c .before .before .leaf-bytes .ensures), prefix-length (s .args .s .tau * s .args .s .t) 7680 (fits .hashed-room)))
 
 returns : tie.Need-returns
-returns c = c .before .before .before .ask-checks .ensures
+returns c = c .before .before .ask-checks .ensures
 
 pub checks-spec : {M : Type 1} → statement M
 checks-spec =
@@ -65,6 +62,5 @@ checks-spec =
     mul-hashed
     array-borrow-prefix-hashed
     slice-aggregate-ask-checks-2
-    slice-aggregate-ask-checks-3
     ask-checks-requires
     returns)

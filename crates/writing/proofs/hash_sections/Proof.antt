@@ -21,31 +21,27 @@ leaf-bytes-requires c κs = search needs
 
 load-trees-requires : tie.Need-load-trees-requires
 load-trees-requires c κs =
-    let s = c .before .before .before .before .before .before .before .before .before .before .before in
+    let s = c .before .before .before .before .before .before .before .before .before .before in
     let shape = shapeFor (s .args .s) in
     rw (c .before .before .leaf-bytes .ensures)
     (s .pre .1 .0 .0, s .pre .1 .0 .1, leaves-long shape _ (s .pre .0 .1), in-limits shape (s .pre .0 .0) .τ-most, omega (arith, w-most shape (s .pre .0 .0)))
 
-fill-entries-requires : tie.Need-fill-entries-requires
-fill-entries-requires c κs = search needs
-
 fill-hash-requires : tie.Need-fill-hash-requires
 fill-hash-requires c κs =
-    let s = c .before .before .before .before .before .before .before .before .before .before .before .before .before .before .before .before .before .before .before .before .before .before .before .before .before .before in
-    let load = c .before .before .before .before .before .before .before .before .before .before .before .before .before .before .load-trees in
-    let filled = c .before .before .before .before .before .before .before .fill-entries in (
+    let s = c .before .before .before .before .before .before .before .before .before .before .before .before .before .before .before .before .before .before .before in
+    let load = c .before .before .before .before .before .before .before .before .load-trees in (
       (
         s .pre .0 .0,
         s .pre .0 .2,
-        loaded (shapeFor (s .args .s)) (now (s .args .leaves)) (load .last .0) (load .last .1 .0) (c .before .before .before .before .before .before .before .before .before .before .before .before .before .before .before .before .before .leaf-bytes .result) (c .before .before .before .before .before .before .before .before .before .before .before .before .before .before .before .before .before .leaf-bytes .ensures)
+        loaded (shapeFor (s .args .s)) (now (s .args .leaves)) (load .last .0) (load .last .1 .0) (c .before .before .before .before .before .before .before .before .before .before .before .leaf-bytes .result) (c .before .before .before .before .before .before .before .before .before .before .before .leaf-bytes .ensures)
             (load .kept .1 .0 ∙ s .pre .1 .0 .1) (load .ensures .0) (load .kept .0 ∙ s .pre .1 .0 .0) (load .ensures .1),
       ),
-      ((s .pre .1 .1 .0, s .pre .1 .1 .1), (rw (filled .kept .0) (s .pre .1 .0 .2), filled .ensures)),
+      (s .pre .1 .1 .0, s .pre .1 .1 .1),
     )
 
 put-two-requires : tie.Need-put-two-requires
 put-two-requires c κs =
-    let s = c .before .before .before .before .before .before .before .before .before .before .before .before .before .before .before .before .before .before .before .before .before .before .before .before .before .before .before .before .before .before .before .before .before .before in
+    let s = c .before .before .before .before .before .before .before .before .before .before .before .before .before .before .before .before .before .before .before .before .before .before .before .before .before .before .before in
     let shape = shapeFor (s .args .s) in
     let filled = c .before .before .before .before .before .before .before .fill-hash in (
       rw (filled .kept .0, filled .kept .1 .0) (s .pre .1 .1 .2),
@@ -68,9 +64,6 @@ same-length-4 c = search needs
 same-length-5 : tie.Need-same-length-5
 same-length-5 c = search needs
 
-same-length-6 : tie.Need-same-length-6
-same-length-6 c = search needs
-
 returns : tie.Need-returns
 returns c =
     let filled = c .before .before .before .before .before .before .before .before .before .before .fill-hash in
@@ -82,7 +75,6 @@ hash-sections-spec =
     (tie.spec
     leaf-bytes-requires
     load-trees-requires
-    fill-entries-requires
     fill-hash-requires
     put-two-requires
     same-length
@@ -90,5 +82,4 @@ hash-sections-spec =
     same-length-3
     same-length-4
     same-length-5
-    same-length-6
     returns)

@@ -66,51 +66,47 @@ slice-aggregate-hash-sections-2 c =
     let fits = room (shapeFor (s .args .s)) (s .pre .0) in
     sym (prefix-length (s .args .s .tau * c .before .before .before .before .leaf-bytes .result) 1968 (rw (c .before .before .before .before .leaf-bytes .ensures) (fits .sums-room)))
 
-slice-aggregate-hash-sections-3 : tie.Need-slice-aggregate-hash-sections-3
-slice-aggregate-hash-sections-3 c = search needs
-
 array-borrow-prefix-ut : tie.Need-array-borrow-prefix-ut
 array-borrow-prefix-ut c =
+    let s = c .before .before .before .before .before .before .before .before in
+    let fits = room (shapeFor (s .args .s)) (s .pre .0) in
+    rw (c .before .before .before .bytes-for .ensures) (fits .packed-room)
+
+slice-aggregate-hash-sections-3 : tie.Need-slice-aggregate-hash-sections-3
+slice-aggregate-hash-sections-3 c =
     let s = c .before .before .before .before .before .before .before .before .before in
     let fits = room (shapeFor (s .args .s)) (s .pre .0) in
-    rw (c .before .before .before .before .bytes-for .ensures) (fits .packed-room)
-
-slice-aggregate-hash-sections-4 : tie.Need-slice-aggregate-hash-sections-4
-slice-aggregate-hash-sections-4 c =
-    let s = c .before .before .before .before .before .before .before .before .before .before in
-    let fits = room (shapeFor (s .args .s)) (s .pre .0) in
-    sym (prefix-length (c .before .before .before .before .before .bytes-for .result) 21 (rw (c .before .before .before .before .before .bytes-for .ensures) (fits .packed-room)))
+    sym (prefix-length (c .before .before .before .before .bytes-for .result) 21 (rw (c .before .before .before .before .bytes-for .ensures) (fits .packed-room)))
 
 mul-vt : tie.Need-mul-vt
 mul-vt c =
-    let s = c .before .before .before .before .before .before .before .before .before .before in
+    let s = c .before .before .before .before .before .before .before .before .before in
     let fits = room (shapeFor (s .args .s)) (s .pre .0) in
     omega (arith, fits .hashed-room)
 
 array-borrow-prefix-vt : tie.Need-array-borrow-prefix-vt
 array-borrow-prefix-vt c =
-    let s = c .before .before .before .before .before .before .before .before .before .before in
+    let s = c .before .before .before .before .before .before .before .before .before in
     let fits = room (shapeFor (s .args .s)) (s .pre .0) in
     fits .hashed-room
 
-slice-aggregate-hash-sections-5 : tie.Need-slice-aggregate-hash-sections-5
-slice-aggregate-hash-sections-5 c =
-    let s = c .before .before .before .before .before .before .before .before .before .before .before in
+slice-aggregate-hash-sections-4 : tie.Need-slice-aggregate-hash-sections-4
+slice-aggregate-hash-sections-4 c =
+    let s = c .before .before .before .before .before .before .before .before .before .before in
     let fits = room (shapeFor (s .args .s)) (s .pre .0) in
     sym (prefix-length (s .args .s .tau * s .args .s .t) 7680 (fits .hashed-room))
 
 hash-sections-requires : tie.Need-hash-sections-requires
 hash-sections-requires c κs =
-    let s = c .before .before .before .before .before .before .before .before .before .before .before in
+    let s = c .before .before .before .before .before .before .before .before .before .before in
     let fits = room (shapeFor (s .args .s)) (s .pre .0) in
-    let packed = prefix-length (c .before .before .before .before .before .before .bytes-for .result) 21 (rw (c .before .before .before .before .before .before .bytes-for .ensures) (fits .packed-room)) ∙ c .before .before .before .before .before .before .bytes-for .ensures in
+    let packed = prefix-length (c .before .before .before .before .before .bytes-for .result) 21 (rw (c .before .before .before .before .before .bytes-for .ensures) (fits .packed-room)) ∙ c .before .before .before .before .before .bytes-for .ensures in
     let hashed = prefix-length (s .args .s .tau * s .args .s .t) 7680 (fits .hashed-room) in (
       (s .pre .0, s .pre .1, s .pre .2),
       (
         (
-          prefix-length (8 * c .before .before .before .before .before .before .before .leaf-bytes .result * 48) 15744 (rw (c .before .before .before .before .before .before .before .leaf-bytes .ensures) (fits .table-room)) ∙ ap (λ (x : ℕ). 8 * x * 48) (c .before .before .before .before .before .before .before .leaf-bytes .ensures),
-          prefix-length (s .args .s .tau * c .before .before .before .before .before .before .before .leaf-bytes .result) 1968 (rw (c .before .before .before .before .before .before .before .leaf-bytes .ensures) (fits .sums-room)) ∙ ap (λ (x : ℕ). s .args .s .tau * x) (c .before .before .before .before .before .before .before .leaf-bytes .ensures),
-          fits .entries-room,
+          prefix-length (8 * c .before .before .before .before .before .before .leaf-bytes .result * 48) 15744 (rw (c .before .before .before .before .before .before .leaf-bytes .ensures) (fits .table-room)) ∙ ap (λ (x : ℕ). 8 * x * 48) (c .before .before .before .before .before .before .leaf-bytes .ensures),
+          prefix-length (s .args .s .tau * c .before .before .before .before .before .before .leaf-bytes .result) 1968 (rw (c .before .before .before .before .before .before .leaf-bytes .ensures) (fits .sums-room)) ∙ ap (λ (x : ℕ). s .args .s .tau * x) (c .before .before .before .before .before .before .leaf-bytes .ensures),
         ),
         (packed, hashed, s .pre .3 ∙ sym (ap₂ (λ (x y : ℕ). 8 + x + y) packed hashed)),
       ),
@@ -135,12 +131,11 @@ write-hash-spec =
     mul-sums
     array-borrow-prefix-sums
     slice-aggregate-hash-sections-2
-    slice-aggregate-hash-sections-3
     array-borrow-prefix-ut
-    slice-aggregate-hash-sections-4
+    slice-aggregate-hash-sections-3
     mul-vt
     array-borrow-prefix-vt
-    slice-aggregate-hash-sections-5
+    slice-aggregate-hash-sections-4
     hash-sections-requires
     same-length
     returns)

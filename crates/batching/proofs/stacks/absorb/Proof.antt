@@ -18,7 +18,7 @@ use Rattle.chunks.specs.Chunks.{chunk, cellAt, Masks}
 use Rattle.choices.specs.Entries.{eightByte, Weighed}
 use Rattle.choices.proofs.ChoiceLaws.{chosen-sum}
 use Rattle.columns.specs.Stacks.{alpha, product, stackAt}
-use Rattle.batching.proofs.StackLaws.{planes-added, side-sum}
+use Rattle.batching.proofs.StackLaws.{planes-added}
 use Rattle.batching.proofs.stacks.absorb.Statement.{statement}
 use Rattle.batching.proofs.stacks.absorb.Tie as tie
 
@@ -31,10 +31,6 @@ all-terms S v χ m f z small =
     sum-same 8 _ (λ p. xorSum m (λ i. bitOf (χ i) p * bitOf (cellAt S i f) z) * product (alpha p) (byteAt v f))
     (λ p l. ap (λ x. x * product (alpha p) (byteAt v f)) (bitOf-sum m (λ i. bitOf (χ i) p * cellAt S i f) z ∙ sum-same m _ _ (λ i k. bit-times (bitOf (χ i) p) (cellAt S i f) z (bitOf-lt (χ i) p))))
     ∙ planes-added m (byteAt v f) χ (λ i. bitOf (cellAt S i f) z) small (λ i. bitOf-lt (cellAt S i f) z)
-
--- what it adds to a side
-abbrev aside : List ℕ → (ℕ → ℕ) → ℕ → ℕ → ℕ → ℕ → ℕ → ℕ
-aside S χ m x f z p = x * (bitOf (xorSum m (λ i. bitOf (χ i) p * cellAt S i f)) z * alpha p)
 
 -- what a row of words looks up, where it is row r of them all
 looked-sum : (S sums words row : List ℕ) (χ : ℕ → ℕ) (m n count base p r f : ℕ) → Weighed S χ m sums words count base → p < 8 → f < chunk → r ≡ base + p → row ≡ blockAt words count r → n ≡ count
@@ -52,15 +48,15 @@ step-two a s k f h =
     sym (xor-assoc s (f (2 * k)) (f (2 * k + 1))) ∙ ap (λ x. bitXor x (f (2 * k + 1))) (sum-step a s (2 * k) f h) ∙ sum-step a _ (2 * k + 1) f refl ∙ ap (λ n. bitXor a (xorSum n f)) e
 
 abbrev Inv-loop : tie.InvT-loop
-Inv-loop t₀ side₀ words base count sums masks mask polar k₀ t side k = (k ≤ 4) × (length t ≡ 15 * chunk) × (length side ≡ 8 * chunk) × ((S : List ℕ) (χ : ℕ → ℕ) (m x f z : ℕ) → Weighed S χ m sums words count base → x < 2 → ((h : ℕ) → h < 2 → byteAt mask (h * chunk + f) ≡ x * 255) → f < chunk → stackAt 8 side f z ≡ bitXor (stackAt 8 side₀ f z) (xorSum (2 * k) (aside S χ m x f z))) × ((S v : List ℕ) (χ : ℕ → ℕ) (m f z : ℕ) → Weighed S χ m sums words count base → Masks v masks → byteAt v f < 256 → f < chunk → stackAt 15 t f z ≡ bitXor (stackAt 15 t₀ f z) (xorSum (2 * k) (term S v χ m f z)))
+Inv-loop t₀ words base count sums masks k₀ t k = (k ≤ 4) × (length t ≡ 15 * chunk) × ((S v : List ℕ) (χ : ℕ → ℕ) (m f z : ℕ) → Weighed S χ m sums words count base → Masks v masks → byteAt v f < 256 → f < chunk → stackAt 15 t f z ≡ bitXor (stackAt 15 t₀ f z) (xorSum (2 * k) (term S v χ m f z)))
 
 abbrev μ-loop : tie.MeasureT-loop
-μ-loop t₀ side₀ words base count sums masks mask polar k₀ t side k = 4 - k
+μ-loop t₀ words base count sums masks k₀ t k = 4 - k
 
 loop-holds : tie.Need-loop-holds Inv-loop μ-loop
 unfolding xorSum
 loop-holds c =
-    (search needs, search needs, search needs, (λ S χ m x f z h k l i. sym (xor-zero-r _)), λ S v χ m f z h k l i. sym (xor-zero-r _))
+    (search needs, search needs, λ S v χ m f z h k l i. sym (xor-zero-r _))
 
 slice-aggregate-look-up-two : tie.Need-slice-aggregate-look-up-two Inv-loop μ-loop
 slice-aggregate-look-up-two c = search needs
@@ -73,7 +69,7 @@ add-row-at c = search needs
 
 row-at-requires : tie.Need-row-at-requires Inv-loop μ-loop
 row-at-requires c κs =
-    let a = c .before .before .before .before .before .before .before .before .before .args in
+    let a = c .before .before .before .before .before .before .before .args in
     let k = c .before .before .loop .k in
     omega (arith, row-end (a .base + 2 * k) (a .base + 8) (a .count) (omega (arith, c .before .loop-test .taken)))
 
@@ -88,15 +84,15 @@ add-row-at-3 c = search needs
 
 row-at-requires-2 : tie.Need-row-at-requires-2 Inv-loop μ-loop
 row-at-requires-2 c κs =
-    let a = c .before .before .before .before .before .before .before .before .before .before .args in
+    let a = c .before .before .before .before .before .before .before .before .args in
     let k = c .before .before .before .loop .k in
     omega (arith, row-end (a .base + 2 * k + 1) (a .base + 8) (a .count) (omega (arith, c .before .before .loop-test .taken)))
 
 look-up-two-requires : tie.Need-look-up-two-requires Inv-loop μ-loop
 look-up-two-requires c κs =
-    let pre = c .before .before .before .before .before .before .before .before .before .before .before .pre in
+    let pre = c .before .before .before .before .before .before .before .before .before .pre in
     let first = c .before .row-at in
-    (refl, c .row-at2 .ensures .1 ∙ sym (first .ensures .1), omega (arith, pre .3, first .ensures .1), rw (first .ensures .1) (pre .4))
+    (refl, c .row-at2 .ensures .1 ∙ sym (first .ensures .1), omega (arith, pre .2, first .ensures .1), rw (first .ensures .1) (pre .3))
 
 mul-absorb-planes : tie.Need-mul-absorb-planes Inv-loop μ-loop
 mul-absorb-planes c = search needs
@@ -107,17 +103,6 @@ slice-aggregate-absorb-planes c = search needs
 absorb-planes-requires : tie.Need-absorb-planes-requires Inv-loop μ-loop
 absorb-planes-requires c κs = search needs
 
-mul-absorb-polar : tie.Need-mul-absorb-polar Inv-loop μ-loop
-mul-absorb-polar c = search needs
-
-slice-aggregate-absorb-polar : tie.Need-slice-aggregate-absorb-polar Inv-loop μ-loop
-slice-aggregate-absorb-polar c = search needs
-
-absorb-polar-requires : tie.Need-absorb-polar-requires Inv-loop μ-loop
-absorb-polar-requires c κs =
-    let pre = c .before .before .before .before .before .before .before .before .before .before .before .before .before .before .before .before .before .before .before .before .pre in
-    (search needs, search needs, search needs, search needs, pre .8)
-
 add-k : tie.Need-add-k Inv-loop μ-loop
 add-k c = search needs
 
@@ -126,48 +111,37 @@ loop-less c = search needs
 
 loop-again : tie.Need-loop-again Inv-loop μ-loop
 loop-again c =
-    let a = c .before .before .before .before .before .before .before .before .before .before .before .before .before .before .before .before .before .before .before .before .before .before .before .args in
-    let l = c .before .before .before .before .before .before .before .before .before .before .before .before .before .before .before .before .loop in
-    let lt : l .k < 4 = omega (arith, c .before .before .before .before .before .before .before .before .before .before .before .before .before .before .before .loop-test .taken) in
-    let first = c .before .before .before .before .before .before .before .before .before .before .before .before .before .row-at in
-    let second = c .before .before .before .before .before .before .before .before .before .before .before .before .row-at2 in
-    let both = c .before .before .before .before .before .before .before .before .before .before .before .look-up-two .last .0 in
-    let done = c .before .before .before .before .before .before .before .absorb-planes in
-    let beside = c .before .before .absorb-polar in
+    let a = c .before .before .before .before .before .before .before .before .before .before .before .before .before .before .before .before .args in
+    let l = c .before .before .before .before .before .before .before .before .before .before .before .loop in
+    let lt : l .k < 4 = omega (arith, c .before .before .before .before .before .before .before .before .before .before .loop-test .taken) in
+    let first = c .before .before .before .before .before .before .before .before .row-at in
+    let second = c .before .before .before .before .before .before .before .row-at2 in
+    let both = c .before .before .before .before .before .before .look-up-two .last .0 in
+    let done = c .before .before .absorb-planes in
     let p : ℕ = 2 * l .k in
     let one : (S : List ℕ) (χ : ℕ → ℕ) (m f : ℕ) → Weighed S χ m (now (a .sums)) (now (a .words)) (a .count) (a .base) → f < chunk → cellAt both 0 f ≡ xorSum m (λ i. bitOf (χ i) p * cellAt S i f) =
     λ S χ m f weighed h.
-    c .before .before .before .before .before .before .before .before .before .before .before .look-up-two .ensures .0 f h ∙ looked-sum S (now (a .sums)) (now (a .words)) (now (first .result)) χ m _ (a .count) (a .base) p (a .base + p) f weighed (omega (arith, lt)) h refl (first .ensures .0) (first .ensures .1) in
+    c .before .before .before .before .before .before .look-up-two .ensures .0 f h ∙ looked-sum S (now (a .sums)) (now (a .words)) (now (first .result)) χ m _ (a .count) (a .base) p (a .base + p) f weighed (omega (arith, lt)) h refl (first .ensures .0) (first .ensures .1) in
     let two : (S : List ℕ) (χ : ℕ → ℕ) (m f : ℕ) → Weighed S χ m (now (a .sums)) (now (a .words)) (a .count) (a .base) → f < chunk → cellAt both 1 f ≡ xorSum m (λ i. bitOf (χ i) (p + 1) * cellAt S i f) =
     λ S χ m f weighed h.
-    c .before .before .before .before .before .before .before .before .before .before .before .look-up-two .ensures .1 f h ∙ looked-sum S (now (a .sums)) (now (a .words)) (now (second .result)) χ m _ (a .count) (a .base) (p + 1) (a .base + p + 1) f weighed (omega (arith, lt)) h (omega arith) (second .ensures .0) (first .ensures .1) in (
+    c .before .before .before .before .before .before .look-up-two .ensures .1 f h ∙ looked-sum S (now (a .sums)) (now (a .words)) (now (second .result)) χ m _ (a .count) (a .base) (p + 1) (a .base + p + 1) f weighed (omega (arith, lt)) h (omega arith) (second .ensures .0) (first .ensures .1) in (
       omega (arith, lt),
       done .kept .0 ∙ l .inv .1,
-      beside .kept .0 ∙ l .inv .2,
-      (λ S χ m x f z weighed hx mask h.
-          beside .ensures x f z hx mask h
-          ∙ ap₂ (λ (y w : ℕ). bitXor (stackAt 8 (l .side) f z) (bitXor (x * (bitOf y z * alpha p)) (x * (bitOf w z * alpha (p + 1))))) (one S χ m f weighed h) (two S χ m f weighed h)
-          ∙ step-two (stackAt 8 (now (a .side)) f z) (stackAt 8 (l .side) f z) (l .k) (aside S χ m x f z) (l .inv .3 S χ m x f z weighed hx mask h)),
       (λ S v χ m f z weighed masks hv h.
           done .ensures v f z masks hv h
           ∙ ap₂ (λ (x y : ℕ). bitXor (stackAt 15 (l .t) f z) (bitXor (bitOf x z * product (alpha p) (byteAt v f)) (bitOf y z * product (alpha (p + 1)) (byteAt v f)))) (one S χ m f weighed h) (two S χ m f weighed h)
-          ∙ step-two (stackAt 15 (now (a .t)) f z) (stackAt 15 (l .t) f z) (l .k) (term S v χ m f z) (l .inv .4 S v χ m f z weighed masks hv h)),
+          ∙ step-two (stackAt 15 (now (a .t)) f z) (stackAt 15 (l .t) f z) (l .k) (term S v χ m f z) (l .inv .2 S v χ m f z weighed masks hv h)),
     )
 
 same-length : tie.Need-same-length Inv-loop μ-loop
 same-length c = search needs
 
-same-length-2 : tie.Need-same-length-2 Inv-loop μ-loop
-same-length-2 c = search needs
-
 returns : tie.Need-returns Inv-loop μ-loop
 returns c =
-    let a = c .before .before .before .before .before .before .before .before .args in
+    let a = c .before .before .before .before .before .before .args in
     let l = c .before .loop in
-    let end : l .k ≡ 4 = omega arith in (
-      (λ S v χ m f z weighed masks hv h. (rw end at (l .inv .4)) S v χ m f z weighed masks hv h ∙ ap (bitXor (stackAt 15 (now (a .t)) f z)) (all-terms S v χ m f z (weighed .3))),
-      (λ S χ m x f z weighed hx mask h. (rw end at (l .inv .3)) S χ m x f z weighed hx mask h ∙ ap (bitXor (stackAt 8 (now (a .side)) f z)) (side-sum S χ m x f z hx (weighed .3))),
-    )
+    let end : l .k ≡ 4 = omega arith in
+    λ S v χ m f z weighed masks hv h. (rw end at (l .inv .2)) S v χ m f z weighed masks hv h ∙ ap (bitXor (stackAt 15 (now (a .t)) f z)) (all-terms S v χ m f z (weighed .3))
 
 pub absorb-spec : {M : Type 1} → statement M
 absorb-spec =
@@ -188,12 +162,8 @@ absorb-spec =
     mul-absorb-planes
     slice-aggregate-absorb-planes
     absorb-planes-requires
-    mul-absorb-polar
-    slice-aggregate-absorb-polar
-    absorb-polar-requires
     add-k
     loop-less
     loop-again
     same-length
-    same-length-2
     returns)

@@ -1,4 +1,4 @@
--- `batching::stacks::absorb_lane` meets its contract. The parts that were lent are the stack and the side of e, and the others stand outside them.
+-- `batching::stacks::absorb_lane` meets its contract. The part that was lent is the stack of e, and the others stand outside it.
 -- Assumes nothing.
 use borrow.Author.Needs.{needs}
 use Prim.Native.Nat.{ℕ, _+_, _*_, _-_, _≤_, _<_}
@@ -45,9 +45,6 @@ fill-masks-requires c κs = search needs
 mul-at : tie.Need-mul-at
 mul-at c = search needs
 
-mul-beside : tie.Need-mul-beside
-mul-beside c = search needs
-
 add-absorb : tie.Need-add-absorb
 add-absorb c = search needs
 
@@ -60,18 +57,6 @@ part-absorb-start c = search needs
 part-absorb-end : tie.Need-part-absorb-end
 part-absorb-end c = search needs
 
-add-absorb-2 : tie.Need-add-absorb-2
-add-absorb-2 c = search needs
-
-sub-absorb-2 : tie.Need-sub-absorb-2
-sub-absorb-2 c = search needs
-
-part-absorb-start-2 : tie.Need-part-absorb-start-2
-part-absorb-start-2 c = search needs
-
-part-absorb-end-2 : tie.Need-part-absorb-end-2
-part-absorb-end-2 c = search needs
-
 mul-absorb : tie.Need-mul-absorb
 mul-absorb c = search needs
 
@@ -80,43 +65,31 @@ slice-aggregate-absorb c = search needs
 
 absorb-requires : tie.Need-absorb-requires
 absorb-requires c κs =
-    let pre = c .before .before .before .before .before .before .before .before .before .before .before .before .before .before .before .before .pre in
-    (search needs, search needs, search needs, pre .3, pre .4, search needs, search needs, search needs, pre .9)
+    let pre = c .before .before .before .before .before .before .before .before .before .before .before .before .before .pre in
+    (search needs, search needs, pre .2, pre .3, search needs, search needs)
 
 same-length : tie.Need-same-length
 same-length c = search needs
 
-same-length-2 : tie.Need-same-length-2
-same-length-2 c = search needs
-
 returns : tie.Need-returns
 unfolding blockAt part
 returns c =
-    let a = c .before .before .before .before .before .before .before .before .before .before .before .before .before .before .before .before .before .before .before .before .before .args in
+    let a = c .before .before .before .before .before .before .before .before .before .before .before .before .before .before .before .before .args in
     let l = now (a .stacks) in
-    let k = now (a .sides) in
     let at = a .e * (15 * chunk) in
-    let beside = a .e * (8 * chunk) in
-    let done = c .before .before .before .before .absorb in
+    let done = c .before .before .absorb in
     let r = done .last .0 in
-    let s = done .last .1 .0 in
-    let spreads = c .before .before .before .before .before .before .before .before .before .before .before .before .before .spread in
+    let spreads = c .before .before .before .before .before .before .before .before .before .before .spread in
     let v = spreads .last .0 in
-    let known = c .before .before .before .before .before .before .before .before .before .before .before .before .before .before .before .before .shared-slice-known3 .given in
+    let known = c .before .before .before .before .before .before .before .before .before .before .before .before .shared-slice-known3 .given in
     let e : at + 15 * chunk - at ≡ 15 * chunk = add-sub-cancel-left at (15 * chunk) in
-    let d : beside + 8 * chunk - beside ≡ 8 * chunk = add-sub-cancel-left beside (8 * chunk) in
-    let fits : at + 15 * chunk ≤ length l = c .before .before .before .before .before .before .before .before .before .before .before .before .before .before .before .before .before .before .before .before .before .pre .0 in
-    let fits′ : beside + 8 * chunk ≤ length k = c .before .before .before .before .before .before .before .before .before .before .before .before .before .before .before .before .before .before .before .before .before .pre .1 in
+    let fits : at + 15 * chunk ≤ length l = c .before .before .before .before .before .before .before .before .before .before .before .before .before .before .before .before .pre .0 in
     let long : length (blockAt l (15 * chunk) (a .e)) ≡ 15 * chunk = simp (length-take, length-drop) (omega arith) in
-    let long′ : length (blockAt k (8 * chunk) (a .e)) ≡ 8 * chunk = simp (length-take, length-drop) (omega arith) in
     let kept : length r ≡ 15 * chunk = rw e at (done .kept .0) ∙ long in
-    let kept′ : length s ≡ 8 * chunk = rw d at (done .kept .1 .0) ∙ long′ in
-    let filled = c .before .before .before .before .before .before .before .before .before .fill-masks in
+    let filled = c .before .before .before .before .before .before .fill-masks in
     let sums : ((S v : List ℕ) (χ : ℕ → ℕ) (m f z : ℕ) → Weighed S χ m (now (a .sums)) (now (a .words)) (a .count) (a .e * 8) → Masks v (filled .last .0) → byteAt v f < 256 → f < chunk → stackAt 15 r f z ≡ bitXor (stackAt 15 (blockAt l (15 * chunk) (a .e)) f z) (product (byteAt v f) (xorSum m (λ i. bitOf (cellAt S i f) z * χ i)))) =
-    rw e at (done .ensures .0) in
-    let asides : ((S : List ℕ) (χ : ℕ → ℕ) (m x f z : ℕ) → Weighed S χ m (now (a .sums)) (now (a .words)) (a .count) (a .e * 8) → x < 2 → ((h : ℕ) → h < 2 → byteAt (now (a .mask)) (h * chunk + f) ≡ x * 255) → f < chunk → stackAt 8 s f z ≡ bitXor (stackAt 8 (blockAt k (8 * chunk) (a .e)) f z) (x * xorSum m (λ i. bitOf (cellAt S i f) z * χ i))) =
-    rw d at (done .ensures .1) in
-    rw (e, d) (
+    rw e at (done .ensures) in
+    rw e (
       (λ S χ m h f z weighed hh hf.
           let inside : h * 16 + f < chunk = omega arith in
           let lane : byteAt v (h * 16 + f) ≡ byteAt (now (a .vectors)) (a .e * most + (a .first + f)) = spreads .ensures h f hh hf ∙ ap (byteAt (now (a .vectors))) (add-assoc (a .e * most) (a .first) f) in
@@ -125,14 +98,7 @@ returns c =
           ∙ sums S v χ m (h * 16 + f) z weighed (filled .ensures) small inside
           ∙ ap₂ (λ (x y : ℕ). bitXor x (product y (xorSum m (λ i. bitOf (cellAt S i (h * 16 + f)) z * χ i))))
           (sym (stack-is 15 l (blockAt l (15 * chunk) (a .e)) (a .e) (h * 16 + f) z inside (λ b h. sym (row-byte l (15 * chunk) (a .e) b h)))) lane),
-      (
-        (λ S χ m x f z weighed hx mask hf.
-            stack-is 8 (putMid beside (8 * chunk) k s) s (a .e) f z hf (put-in beside (8 * chunk) k s fits′ kept′)
-            ∙ asides S χ m x f z weighed hx mask hf
-            ∙ ap (λ (y : ℕ). bitXor y (x * xorSum m (λ i. bitOf (cellAt S i f) z * χ i)))
-            (sym (stack-is 8 k (blockAt k (8 * chunk) (a .e)) (a .e) f z hf (λ b h. sym (row-byte k (8 * chunk) (a .e) b h))))),
-        (put-other (a .e) (15 * chunk) l r fits kept, put-other (a .e) (8 * chunk) k s fits′ kept′),
-      ),
+      put-other (a .e) (15 * chunk) l r fits kept,
     )
 
 pub absorb-lane-spec : {M : Type 1} → statement M
@@ -147,18 +113,12 @@ absorb-lane-spec =
     slice-aggregate-fill-masks-2
     fill-masks-requires
     mul-at
-    mul-beside
     add-absorb
     sub-absorb
     part-absorb-start
     part-absorb-end
-    add-absorb-2
-    sub-absorb-2
-    part-absorb-start-2
-    part-absorb-end-2
     mul-absorb
     slice-aggregate-absorb
     absorb-requires
     same-length
-    same-length-2
     returns)

@@ -1,42 +1,32 @@
 -- `batching::stacks::collect` meets its contract. The invariant: the rows of the first q sixteens are added, each times its coordinate.
 -- Assumes nothing.
 use borrow.Author.Needs.{needs}
-use Prim.Native.Nat.{ℕ, _+_, _*_, _-_, _/_, _%_, _≤_, _<_}
+use Prim.Native.Nat.{ℕ, _+_, _*_, _-_, _/_, _≤_, _<_}
 use mathlib.Core.List.{List}
 use mathlib.Core.Path.{_≡_, refl, sym, ap, ap₂, _∙_}
 use native.Mathlib.Nat.{add-assoc, add-mul, mul-assoc, zero-mul}
 use native.Mathlib.Decide.{decLt}
 use native.Mathlib.Omega.{arith}
 use denote.Ref.{now}
-use lib.Arith.{digits-div, digits-mod}
 use lib.ListN.{length}
-use lib.Dec.{lit<}
 use lib.Bits.{bitXor, xor-zero-r}
 use Rattle.protocol.specs.Lists.{blockAt}
 use Rattle.strings.specs.Sums.{byteAt, bitOf, xorSum}
-use Rattle.strings.proofs.Rows.{row-end, row-byte, row-lt}
+use Rattle.strings.proofs.Rows.{row-end, row-byte}
 use Rattle.strings.proofs.SumLaws.{sum-same, sum-none, sum-step}
 use Rattle.strings.proofs.Meaning.{bitOf-zero}
 use Rattle.chunks.specs.Chunks.{chunk, cellAt}
-use Rattle.choices.specs.Entries.{Tabled, choice, Chosen, Weighed}
+use Rattle.choices.specs.Entries.{Tabled, Chosen, Weighed}
 use Rattle.columns.specs.Stacks.{product, stackOf}
 use Rattle.batching.specs.Batched.{most, cellSum}
 use Rattle.batching.proofs.StackLaws.{stack-same}
+use Rattle.batching.proofs.LineLaws.{weighed-rows}
 use Rattle.batching.proofs.stacks.collect.Statement.{statement}
 use Rattle.batching.proofs.stacks.collect.Tie as tie
 
--- what the sixteen rows q add to a byte of the stack of repetition e, and of its side
+-- what the sixteen rows q add to a byte of the stack of repetition e
 abbrev term : List ℕ → ℕ → List ℕ → List ℕ → ℕ → ℕ → ℕ → ℕ → ℕ → ℕ
 term cells m χ vectors e h f z q = product (byteAt vectors (e * most + (q * 16 + f))) (cellSum cells m χ e q (h * 16 + f) z)
-
-abbrev aside : List ℕ → ℕ → List ℕ → (ℕ → ℕ) → ℕ → ℕ → ℕ → ℕ → ℕ → ℕ
-aside cells m χ x e h f z q = x (q * 16 + f) * cellSum cells m χ e q (h * 16 + f) z
-
--- the words of a repetition, among those of all
-weighed : (S sums W χ : List ℕ) (m G tau : ℕ) → Tabled S sums (G * 8 * 32) → length S ≡ m * chunk → m ≤ G * 8 * 5 → ((k : ℕ) → byteAt χ k < 256)
-    → ((r : ℕ) → r < tau * 8 → Chosen χ m G W r) → (q : ℕ) → q < tau → Weighed S (byteAt (blockAt χ m q)) m sums W G (q * 8)
-weighed S sums W χ m G tau tabled long enough small chosen q h =
-    (tabled, long, enough, (λ i l. row-lt χ m q 256 (lit< tt) small i), λ p k j hp hk hj. chosen (q * 8 + p) (omega arith) k j hk hj ∙ ap₂ (λ x y. choice (byteAt (blockAt χ m x)) y (k * 8 + j)) (digits-div q hp) (digits-mod q hp))
 
 -- the first entry of a table of sums is 0
 first-zero : (S sums : List ℕ) (count f : ℕ) → 0 < count → Tabled S sums count → f < chunk → byteAt sums f ≡ 0
@@ -65,15 +55,15 @@ sum-is cells χ m e q f z h =
     ap₂ (λ x y. bitOf x z * y) (row-byte cells (m * chunk) q (i * chunk + f) inside ∙ ap (byteAt cells) (place q m i f)) (row-byte χ m e i l))
 
 abbrev Inv-loop : tie.InvT-loop
-Inv-loop stacks₀ sides₀ sums₀ cells panel m tau words count vectors bits polar q₀ stacks sides sums q = (q ≤ panel + 1) × (length stacks ≡ length stacks₀) × (length sides ≡ length sides₀) × (length sums ≡ 32768) × ((χ : List ℕ) (e h f z : ℕ) → ((k : ℕ) → byteAt χ k < 256) → ((r : ℕ) → r < tau * 8 → Chosen χ m count words r) → e < tau → h < 2 → f < 16 → stackOf 15 stacks e (h * 16 + f) z ≡ bitXor (stackOf 15 stacks₀ e (h * 16 + f) z) (xorSum q (term cells m χ vectors e h f z))) × ((χ : List ℕ) (x : ℕ → ℕ) (e h f z : ℕ) → ((k : ℕ) → byteAt χ k < 256) → ((r : ℕ) → r < tau * 8 → Chosen χ m count words r) → ((c : ℕ) → x c < 2) → ((c : ℕ) → c < most → byteAt bits c ≡ x c * 255) → e < tau → h < 2 → f < 16 → stackOf 8 sides e (h * 16 + f) z ≡ bitXor (stackOf 8 sides₀ e (h * 16 + f) z) (xorSum q (aside cells m χ x e h f z)))
+Inv-loop stacks₀ sums₀ cells panel m tau words count vectors q₀ stacks sums q = (q ≤ panel + 1) × (length stacks ≡ length stacks₀) × (length sums ≡ 32768) × ((χ : List ℕ) (e h f z : ℕ) → ((k : ℕ) → byteAt χ k < 256) → ((r : ℕ) → r < tau * 8 → Chosen χ m count words r) → e < tau → h < 2 → f < 16 → stackOf 15 stacks e (h * 16 + f) z ≡ bitXor (stackOf 15 stacks₀ e (h * 16 + f) z) (xorSum q (term cells m χ vectors e h f z)))
 
 abbrev μ-loop : tie.MeasureT-loop
-μ-loop stacks₀ sides₀ sums₀ cells panel m tau words count vectors bits polar q₀ stacks sides sums q = panel + 1 - q
+μ-loop stacks₀ sums₀ cells panel m tau words count vectors q₀ stacks sums q = panel + 1 - q
 
 loop-holds : tie.Need-loop-holds Inv-loop μ-loop
 unfolding xorSum
 loop-holds c =
-    (search needs, refl, refl, c .before .before .before .before .before .before .before .pre .2, (λ χ e h f z s k l i j. sym (xor-zero-r _)), λ χ x e h f z s k b i j l r. sym (xor-zero-r _))
+    (search needs, refl, c .before .before .before .before .before .pre .1, λ χ e h f z s k l i j. sym (xor-zero-r _))
 
 mul-fill-sums : tie.Need-mul-fill-sums Inv-loop μ-loop
 mul-fill-sums c = search needs
@@ -83,65 +73,45 @@ mul-row-at c = search needs
 
 row-at-requires : tie.Need-row-at-requires Inv-loop μ-loop
 row-at-requires c κs =
-    let a = c .before .before .before .before .before .before .before .before .before .before .args in
-    let pre = c .before .before .before .before .before .before .before .before .before .before .pre in
+    let a = c .before .before .before .before .before .before .before .before .args in
+    let pre = c .before .before .before .before .before .before .before .before .pre in
     let l = c .before .before .loop in
-    omega (arith, pre .3, row-end (l .q) (a .panel + 1) (a .m * chunk) (omega (arith, c .before .loop-test .taken)))
+    omega (arith, pre .2, row-end (l .q) (a .panel + 1) (a .m * chunk) (omega (arith, c .before .loop-test .taken)))
 
 fill-sums-requires : tie.Need-fill-sums-requires Inv-loop μ-loop
 fill-sums-requires c κs =
-    let pre = c .before .before .before .before .before .before .before .before .before .before .before .pre in
+    let pre = c .before .before .before .before .before .before .before .before .before .pre in
     let l = c .before .before .before .loop in
-    (omega (arith, l .inv .3, pre .6, pre .9), c .row-at .ensures .1)
+    (omega (arith, l .inv .2, pre .5, pre .8), c .row-at .ensures .1)
 
 add-first-requires : tie.Need-add-first-requires Inv-loop μ-loop
 add-first-requires c κs =
-    let pre = c .before .before .before .before .before .before .before .before .before .before .before .before .before .before .before .before .pre in
+    let pre = c .before .before .before .before .before .before .before .before .before .before .before .before .before .before .pre in
     let l = c .before .before .before .before .before .before .before .before .loop in
-    (omega (arith, l .inv .1, pre .0, pre .7), omega (arith, l .inv .3, c .before .before .before .before .fill-sums .kept .0))
-
-slice-aggregate-spread-twice : tie.Need-slice-aggregate-spread-twice Inv-loop μ-loop
-slice-aggregate-spread-twice c = search needs
-
-mul-spread-twice : tie.Need-mul-spread-twice Inv-loop μ-loop
-mul-spread-twice c = search needs
-
-spread-twice-requires : tie.Need-spread-twice-requires Inv-loop μ-loop
-spread-twice-requires c κs =
-    let pre = c .before .before .before .before .before .before .before .before .before .before .before .before .before .before .before .before .before .before .before .before .pre in
-    (search needs, omega (arith, pre .4, pre .12, c .before .before .before .before .before .before .before .before .before .before .before .loop-test .taken))
+    (omega (arith, l .inv .1, pre .0, pre .6), omega (arith, l .inv .2, c .before .before .before .before .fill-sums .kept .0))
 
 mul-absorb-lanes : tie.Need-mul-absorb-lanes Inv-loop μ-loop
 mul-absorb-lanes c = search needs
 
-slice-aggregate-absorb-lanes : tie.Need-slice-aggregate-absorb-lanes Inv-loop μ-loop
-slice-aggregate-absorb-lanes c = search needs
-
 absorb-lanes-requires : tie.Need-absorb-lanes-requires Inv-loop μ-loop
 absorb-lanes-requires c κs =
-    let pre = c .before .before .before .before .before .before .before .before .before .before .before .before .before .before .before .before .before .before .before .before .before .before .before .before .before .before .pre in
-    let l = c .before .before .before .before .before .before .before .before .before .before .before .before .before .before .before .before .before .before .loop in
-    let filled = c .before .before .before .before .before .before .before .before .before .before .before .before .before .before .fill-sums in
-    let masked = c .before .before .before .before .before .spread-twice in
-    let settled = c .before .before .before .before .before .before .before .before .before .add-first in (
+    let pre = c .before .before .before .before .before .before .before .before .before .before .before .before .before .before .before .before .before .before .before .pre in
+    let l = c .before .before .before .before .before .before .before .before .before .before .before .before .before .loop in
+    let filled = c .before .before .before .before .before .before .before .before .before .fill-sums in
+    let settled = c .before .before .before .before .add-first in (
       omega (arith, pre .0, settled .kept .0, l .inv .1),
-      omega (arith, pre .1, l .inv .2),
+      pre .9,
+      omega (arith, pre .8, pre .5),
+      omega (arith, pre .8, pre .5, filled .kept .0, l .inv .2),
       pre .10,
-      omega (arith, pre .9, pre .6),
-      omega (arith, pre .9, pre .6, filled .kept .0, l .inv .3),
-      pre .11,
-      omega (arith, pre .4, c .before .before .before .before .before .before .before .before .before .before .before .before .before .before .before .before .before .loop-test .taken),
-      search needs,
-      pre .8,
-      λ off h f hh hf.
-          let at : f / 16 * 16 + f % 16 ≡ f = omega arith in
-          rw at at (masked .ensures h (f / 16) (f % 16) hh (omega arith) (omega arith)) ∙ pre .13 off (l .q * 16 + f % 16) (omega (arith, pre .4, c .before .before .before .before .before .before .before .before .before .before .before .before .before .before .before .before .before .loop-test .taken)),
+      omega (arith, pre .3, c .before .before .before .before .before .before .before .before .before .before .before .before .loop-test .taken),
+      pre .7,
     )
 
 add-q : tie.Need-add-q Inv-loop μ-loop
 add-q c =
-    let pre = c .before .before .before .before .before .before .before .before .before .before .before .before .before .before .before .before .before .before .before .before .before .before .before .before .before .before .before .before .before .before .before .pre in
-    let few : c .before .before .before .before .before .before .before .before .before .before .before .before .before .before .before .before .before .before .before .before .before .before .before .loop .q ≤ 9 = omega (arith, pre .4, c .before .before .before .before .before .before .before .before .before .before .before .before .before .before .before .before .before .before .before .before .before .before .loop-test .taken) in
+    let pre = c .before .before .before .before .before .before .before .before .before .before .before .before .before .before .before .before .before .before .before .before .before .before .pre in
+    let few : c .before .before .before .before .before .before .before .before .before .before .before .before .before .before .before .before .loop .q ≤ 9 = omega (arith, pre .3, c .before .before .before .before .before .before .before .before .before .before .before .before .before .before .before .loop-test .taken) in
     search (needs, few)
 
 loop-less : tie.Need-loop-less Inv-loop μ-loop
@@ -149,40 +119,32 @@ loop-less c = search needs
 
 loop-again : tie.Need-loop-again Inv-loop μ-loop
 loop-again c =
-    let a = c .before .before .before .before .before .before .before .before .before .before .before .before .before .before .before .before .before .before .before .before .before .before .before .before .before .before .before .before .before .before .before .args in
-    let pre = c .before .before .before .before .before .before .before .before .before .before .before .before .before .before .before .before .before .before .before .before .before .before .before .before .before .before .before .before .before .before .before .pre in
-    let l = c .before .before .before .before .before .before .before .before .before .before .before .before .before .before .before .before .before .before .before .before .before .before .before .loop in
-    let row = c .before .before .before .before .before .before .before .before .before .before .before .before .before .before .before .before .before .before .before .before .row-at in
-    let filled = c .before .before .before .before .before .before .before .before .before .before .before .before .before .before .before .before .before .before .before .fill-sums in
-    let settled = c .before .before .before .before .before .before .before .before .before .before .before .before .before .before .add-first in
-    let spreads = c .before .before .before .before .before .before .before .before .before .before .spread-twice in
-    let done = c .before .before .before .before .absorb-lanes in
+    let a = c .before .before .before .before .before .before .before .before .before .before .before .before .before .before .before .before .before .before .before .before .before .before .args in
+    let pre = c .before .before .before .before .before .before .before .before .before .before .before .before .before .before .before .before .before .before .before .before .before .before .pre in
+    let l = c .before .before .before .before .before .before .before .before .before .before .before .before .before .before .before .before .loop in
+    let row = c .before .before .before .before .before .before .before .before .before .before .before .before .before .row-at in
+    let filled = c .before .before .before .before .before .before .before .before .before .before .before .before .fill-sums in
+    let settled = c .before .before .before .before .before .before .before .add-first in
+    let done = c .before .before .absorb-lanes in
     let cells = now (a .cells) in
     let S = blockAt cells (a .m * chunk) (l .q) in
     let tabled : Tabled S (filled .last .0) (a .count * 8 * 32) = rw (sym (row .ensures .0)) (filled .ensures) in
     let long : length S ≡ a .m * chunk = ap length (sym (row .ensures .0)) ∙ row .ensures .1 in
-    let enough : a .m ≤ a .count * 8 * 5 = omega (arith, pre .9) in
-    let some : 0 < a .count * 8 * 32 = omega (arith, pre .9, pre .5) in
+    let enough : a .m ≤ a .count * 8 * 5 = omega (arith, pre .8) in
+    let some : 0 < a .count * 8 * 32 = omega (arith, pre .8, pre .4) in
     let same = unchanged S (filled .last .0) (l .stacks) (settled .last .0) (a .count * 8 * 32) some tabled (settled .ensures .0) (settled .ensures .1) in
     let all : (χ : List ℕ) → ((k : ℕ) → byteAt χ k < 256) → ((r : ℕ) → r < a .tau * 8 → Chosen χ (a .m) (a .count) (now (a .words)) r) → (q : ℕ) → q < a .tau → Weighed S (byteAt (blockAt χ (a .m) q)) (a .m) (filled .last .0) (now (a .words)) (a .count) (q * 8) =
-    λ χ. weighed S (filled .last .0) (now (a .words)) χ (a .m) (a .count) (a .tau) tabled long enough in (
-      omega (arith, c .before .before .before .before .before .before .before .before .before .before .before .before .before .before .before .before .before .before .before .before .before .before .loop-test .taken),
+    λ χ. weighed-rows S (filled .last .0) (now (a .words)) χ (a .m) (a .count) (a .tau) tabled long enough in (
+      omega (arith, c .before .before .before .before .before .before .before .before .before .before .before .before .before .before .before .loop-test .taken),
       done .kept .0 ∙ settled .kept .0 ∙ l .inv .1,
-      done .kept .1 .0 ∙ l .inv .2,
-      filled .kept .0 ∙ l .inv .3,
+      filled .kept .0 ∙ l .inv .2,
       (λ χ e h f z small chosen he hh hf.
           let inside : h * 16 + f < chunk = omega arith in
-          done .ensures .0 S (λ q. byteAt (blockAt χ (a .m) q)) (a .m) e h f z (all χ small chosen) he hh hf
+          done .ensures S (λ q. byteAt (blockAt χ (a .m) q)) (a .m) e h f z (all χ small chosen) he hh hf
           ∙ ap₂ (λ (y x : ℕ). bitXor y (product (byteAt (now (a .vectors)) (e * most + (l .q * 16 + f))) x))
           (stack-same 15 (settled .last .0) (l .stacks) e (h * 16 + f) z inside (λ b k. same (e * (15 * chunk) + b)))
           (sum-is cells χ (a .m) e (l .q) (h * 16 + f) z inside)
-          ∙ sum-step (stackOf 15 (now (a .stacks)) e (h * 16 + f) z) (stackOf 15 (l .stacks) e (h * 16 + f) z) (l .q) (term cells (a .m) χ (now (a .vectors)) e h f z) (l .inv .4 χ e h f z small chosen he hh hf)),
-      (λ χ x e h f z small chosen bit masks he hh hf.
-          let inside : h * 16 + f < chunk = omega arith in
-          let row : l .q * 16 + f < most = omega (arith, pre .4, c .before .before .before .before .before .before .before .before .before .before .before .before .before .before .before .before .before .before .before .before .before .before .loop-test .taken) in
-          done .ensures .1 S (λ q. byteAt (blockAt χ (a .m) q)) (a .m) (x (l .q * 16 + f)) e (h * 16 + f) z (all χ small chosen) (bit (l .q * 16 + f)) (λ k hk. spreads .ensures k h f hk hh hf ∙ masks (l .q * 16 + f) row) he inside
-          ∙ ap (λ (y : ℕ). bitXor (stackOf 8 (l .sides) e (h * 16 + f) z) (x (l .q * 16 + f) * y)) (sum-is cells χ (a .m) e (l .q) (h * 16 + f) z inside)
-          ∙ sum-step (stackOf 8 (now (a .sides)) e (h * 16 + f) z) (stackOf 8 (l .sides) e (h * 16 + f) z) (l .q) (aside cells (a .m) χ x e h f z) (l .inv .5 χ x e h f z small chosen bit masks he hh hf)),
+          ∙ sum-step (stackOf 15 (now (a .stacks)) e (h * 16 + f) z) (stackOf 15 (l .stacks) e (h * 16 + f) z) (l .q) (term cells (a .m) χ (now (a .vectors)) e h f z) (l .inv .3 χ e h f z small chosen he hh hf)),
     )
 
 same-length : tie.Need-same-length Inv-loop μ-loop
@@ -191,15 +153,12 @@ same-length c = search needs
 same-length-2 : tie.Need-same-length-2 Inv-loop μ-loop
 same-length-2 c = search needs
 
-same-length-3 : tie.Need-same-length-3 Inv-loop μ-loop
-same-length-3 c = search needs
-
 returns : tie.Need-returns Inv-loop μ-loop
 returns c =
-    let a = c .before .before .before .before .before .before .before .before .before .args in
+    let a = c .before .before .before .before .before .before .before .args in
     let l = c .before .loop in
     let end : l .q ≡ a .panel + 1 = omega arith in
-    (rw end at (l .inv .4), rw end at (l .inv .5))
+    rw end at (l .inv .3)
 
 pub collect-spec : {M : Type 1} → statement M
 collect-spec =
@@ -213,16 +172,11 @@ collect-spec =
     row-at-requires
     fill-sums-requires
     add-first-requires
-    slice-aggregate-spread-twice
-    mul-spread-twice
-    spread-twice-requires
     mul-absorb-lanes
-    slice-aggregate-absorb-lanes
     absorb-lanes-requires
     add-q
     loop-less
     loop-again
     same-length
     same-length-2
-    same-length-3
     returns)

@@ -11,14 +11,14 @@ use Rattle.strings.proofs.Rows.{put-in, put-other}
 use Rattle.choices.proofs.picks.fill_rows.Statement.{statement}
 use Rattle.choices.proofs.picks.fill_rows.Tie as tie
 
-slice-aggregate-space : tie.Need-slice-aggregate-space
-slice-aggregate-space c = search needs
+slice-aggregate-copy-apart : tie.Need-slice-aggregate-copy-apart
+slice-aggregate-copy-apart c = search needs
 
-mul-space : tie.Need-mul-space
-mul-space c = search needs
+mul-copy-apart : tie.Need-mul-copy-apart
+mul-copy-apart c = search needs
 
-space-requires : tie.Need-space-requires
-space-requires c κs = search needs
+copy-apart-requires : tie.Need-copy-apart-requires
+copy-apart-requires c κs = search needs
 
 mul-at : tie.Need-mul-at
 mul-at c = search needs
@@ -56,7 +56,7 @@ returns c =
     let long : length (take 128 (drop at l)) ≡ 128 = simp (length-take, length-drop) (omega arith) in
     let kept : length r ≡ 128 = rw e at (done .kept .0) ∙ long in
     rw e (
-      (λ i h. put-in at 128 l r fits kept i h ∙ done .ensures i h ∙ c .before .before .before .before .before .before .space .ensures (i % 16) (i / 16) (omega arith) (omega arith)),
+      (λ i h. put-in at 128 l r fits kept i h ∙ done .ensures i h ∙ c .before .before .before .before .before .before .copy-apart .ensures (i % 16) (i / 16) (omega arith) (omega arith)),
       put-other (a .h) 128 l r fits kept,
     )
 
@@ -64,9 +64,9 @@ pub fill-rows-spec : {M : Type 1} → statement M
 fill-rows-spec =
     tie.close
     (tie.spec
-    slice-aggregate-space
-    mul-space
-    space-requires
+    slice-aggregate-copy-apart
+    mul-copy-apart
+    copy-apart-requires
     mul-at
     add-part
     sub-part

@@ -1,0 +1,150 @@
+-- Laws of a set of panels: sixteen rows that are made and put, the rows of a matrix, and the matrices.
+-- Assumes nothing.
+use mathlib.Core.Path.{_≡_, refl, sym, ap, ap₂, _∙_}
+use mathlib.Core.Bool.{cond}
+use mathlib.Core.List.{List}
+use mathlib.Core.Logic.{⊎-elim}
+use Prim.Native.Nat.{ℕ, _+_, _*_, _/_, _%_, _≤_, _<_}
+use native.Mathlib.Nat.{eq-or-lt-of-le, le-of-suc-le-suc, add-mul, mul-le-mul}
+use native.Mathlib.Decide.{decLt}
+use native.Mathlib.Numerals.{add-one}
+use native.Mathlib.Omega.{arith}
+use lib.Bits.{bitXor}
+use lib.Dec.{ltb}
+use lib.ListN.{drop}
+use lib.Seq.{getD-drop}
+use Rattle.protocol.specs.Strings.{bytesFor}
+use Rattle.protocol.specs.Lists.{blockAt}
+use Rattle.strings.specs.Sums.{byteAt, bitOf}
+use Rattle.strings.proofs.Meaning.{bitOf-xor}
+use Rattle.strings.proofs.Rows.{row-end}
+use Rattle.chunks.specs.Chunks.{chunk, cellAt}
+use Rattle.folds.specs.Folds.{entry, foldedBit, before, Folded, FoldedSet}
+use Rattle.folds.specs.Sets.{Mirrors, Summed, place, Put, ChunksKept, Kept, ChunkFolded, SetFolded, MatrixFolded}
+use Rattle.folds.proofs.PlaceLaws.{beside-rows, beside-panel, beside-matrix}
+
+-- what holds below n, and of n, holds below n + 1
+pub below-next : (P : ℕ → Type 0) (n : ℕ) → P n → ((k : ℕ) → k < n → P k) → (k : ℕ) → k < n + 1 → P k
+below-next P n own done k h = ⊎-elim (λ (e : k ≡ n). rw e own) (λ (lt : k < n). done k lt) (eq-or-lt-of-le (le-of-suc-le-suc (rw add-one at h)))
+
+-- ---- sixteen rows
+
+-- eight bytes of each row, parted, and the bytes that are added
+pub summed : (w from first q : ℕ) (src t rows cols add made : List ℕ)
+    → ((z f : ℕ) → z < 16 → f < 8 → byteAt rows (z * 8 + f) ≡ byteAt src (from + q * 16 * w + 2 * first + z * w + f))
+    → ((i : ℕ) → i < 128 → byteAt cols i ≡ byteAt rows (i % 16 * 8 + i / 16))
+    → ((z f : ℕ) → z < 8 → f < 16 → byteAt add (z * 16 + f) ≡ byteAt t (q * 16 + z * 160 + f))
+    → ((j : ℕ) → j < 128 → byteAt made j ≡ bitXor (byteAt cols j) (byteAt add j))
+    → Summed w (drop from src) first t q made
+summed w from first q src t rows cols add made taken parted added both k f hk hf =
+    let low : (k * 16 + f) % 16 ≡ f = omega arith in
+    let high : (k * 16 + f) / 16 ≡ k = omega arith in
+    let at : (k * 16 + f) % 16 * 8 + (k * 16 + f) / 16 ≡ f * 8 + k = rw (low, high) in
+    let byte : from + q * 16 * w + 2 * first + f * w + k ≡ from + ((q * 16 + f) * w + (2 * first + k)) = omega (arith, add-mul (q * 16) f w) in
+    let row : q * 16 + k * 160 + f ≡ k * 160 + (q * 16 + f) = omega arith in
+    both (k * 16 + f) (omega arith)
+    ∙ ap₂ bitXor
+    (parted (k * 16 + f) (omega arith) ∙ ap (byteAt rows) at ∙ taken f k hf hk ∙ ap (byteAt src) byte ∙ sym (getD-drop from src ((q * 16 + f) * w + (2 * first + k)) 0))
+    (added k f hk hf ∙ ap (byteAt t) row)
+
+module _ (first p end q m i : ℕ) (made cells cells′ : List ℕ) (inside : i < m)
+    (row : q ≤ first + p → first + p < end → (e : ℕ) → e < chunk → cellAt cells′ (place first p q m i) e ≡ byteAt made (p * chunk + e))
+    (others : (at e : ℕ) → (q ≤ first + p → at ≡ place first p q m i → ⊥) → e < chunk → cellAt cells′ at e ≡ cellAt cells at e) where
+  pub put-more : Put first end q m i p made cells → Put first end q m i (p + 1) made cells′
+  put-more done x e hx hq hend he =
+      below-next (λ x. q ≤ first + x → first + x < end → cellAt cells′ (place first x q m i) e ≡ byteAt made (x * chunk + e)) p (λ k l. row k l e he)
+      (λ x lt k l. others (place first x q m i) e (λ _. beside-panel m i inside first p x q lt k) he ∙ done x e lt k l he)
+      x hx hq hend
+
+  pub chunks-more : (old : List ℕ) → ChunksKept first q m i p old cells → ChunksKept first q m i (p + 1) old cells′
+  chunks-more old done at e beside he = others at e (beside p (omega arith)) he ∙ done at e (λ x hx. beside x (omega arith)) he
+
+-- a byte x of column C, and what is added to it
+folded-bit : (w C r z x y : ℕ) (M : List ℕ) → z < 8 → x ≡ byteAt M (r * w + C) → bitOf y z ≡ cond (ltb (r / 16) (C / 2)) (entry w M (C * 8 + z) r) 0
+    → bitOf (bitXor x y) z ≡ foldedBit w M r (C * 8 + z)
+unfolding foldedBit
+folded-bit w C r z x y M hz own added =
+    let byte : C ≡ (C * 8 + z) / 8 = omega arith in
+    let place : z ≡ (C * 8 + z) % 8 = omega arith in
+    let panel : C / 2 ≡ (C * 8 + z) / 16 = omega arith in
+    bitOf-xor x y z
+    ∙ ap₂ bitXor (ap (λ k. bitOf k z) own ∙ ap₂ (λ b p. bitOf (byteAt M (r * w + b)) p) byte place) (added ∙ ap (λ J. cond (ltb (r / 16) J) (entry w M (C * 8 + z) r) 0) panel)
+
+-- what was put, of what was made
+pub chunk-folded : (w first end q m i : ℕ) (M t made cells : List ℕ) → Mirrors w M first end t → Summed w M first t q made → Put first end q m i 4 made cells
+    → (p : ℕ) → p < 4 → q ≤ first + p → first + p < end → ChunkFolded w M (first + p) q cells (place first p q m i)
+chunk-folded w first end q m i M t made cells mirrors sum put p hp hq hend h f z hh hf hz =
+    let k = 2 * p + h in
+    let r = q * 16 + f in
+    let at : p * chunk + (h * 16 + f) ≡ k * 16 + f = omega arith in
+    let column : (2 * first + k) * 8 + z ≡ (first + p) * 16 + (h * 8 + z) = omega arith in
+    ap (λ x. bitOf x z) (put p (h * 16 + f) hp hq hend (omega arith) ∙ ap (byteAt made) at ∙ sum k f (omega arith) hf)
+    ∙ folded-bit w (2 * first + k) r z (byteAt M (r * w + (2 * first + k))) (byteAt t (k * 160 + r)) M hz refl (mirrors k (omega arith) r z (omega arith) hz)
+    ∙ ap (foldedBit w M r) column
+
+-- ---- the rows of a matrix
+
+module _ (w first end m i q : ℕ) (M cells cells′ : List ℕ) (inside : i < m) (kept : ChunksKept first q m i 4 cells cells′) where
+  pub set-more : ((p : ℕ) → p < 4 → q ≤ first + p → first + p < end → ChunkFolded w M (first + p) q cells′ (place first p q m i))
+      → SetFolded w M first end m i q cells → SetFolded w M first end m i (q + 1) cells′
+  set-more own done x p hx =
+      below-next (λ x. p < 4 → x ≤ first + p → first + p < end → ChunkFolded w M (first + p) x cells′ (place first p x m i)) q (own p)
+      (λ x lt hp hq hend h f z hh hf hz.
+      ap (λ b. bitOf b z) (kept (place first p x m i) (h * 16 + f) (beside-rows m i inside first p x q lt hq) (omega arith)) ∙ done x p lt hp hq hend h f z hh hf hz)
+      x hx
+
+  pub kept-more : (old : List ℕ) → Kept m i old cells → Kept m i old cells′
+  kept-more old done Q x e hx other he = kept (Q * m + x) e (beside-matrix m i inside first q 4 Q x hx other) he ∙ done Q x e hx other he
+
+-- ---- the matrices
+
+-- the bytes of a matrix, and of its rows up to a whole sixteen
+pub size : (n w end : ℕ) → w ≡ bytesFor n → n ≤ 160 → end ≤ 10 → (n * w ≤ 3200) × (end * 16 * w ≤ 3200)
+unfolding bytesFor
+size n w end wide few most =
+    let bytes : w ≤ 20 = omega arith in
+    let rows : end * 16 ≤ 160 = omega arith in
+    (mul-le-mul few bytes, mul-le-mul rows bytes)
+
+-- the panels of a set that begin before n end before the least of two bounds
+pub set-ends : (first n end : ℕ) → end ≤ first + 4 → (end < first + 4 → end ≡ (n + 15) / 16) → (p : ℕ) → p < 4 → (first + p) * 16 < n → first + p < end
+set-ends first n end most least p hp h = go (decLt end (first + 4))
+  where
+    go : Dec (end < first + 4) → first + p < end
+    go (yes lt) = omega (arith, least lt)
+    go (no ge) = omega arith
+
+-- strings that agree on a matrix have its entries
+entry-same : (n w ρ c : ℕ) (S M : List ℕ) → w ≡ bytesFor n → ((k : ℕ) → k < n * w → byteAt S k ≡ byteAt M k) → ρ < n → c < n → entry w S ρ c ≡ entry w M ρ c
+unfolding bytesFor
+entry-same n w ρ c S M wide same hρ hc = ap (λ b. bitOf b (c % 8)) (same (ρ * w + c / 8) (omega (arith, row-end ρ n w hρ)))
+
+folded-same : (n w ρ c : ℕ) (S M : List ℕ) → w ≡ bytesFor n → ((k : ℕ) → k < n * w → byteAt S k ≡ byteAt M k) → ρ < n → c < n → foldedBit w S ρ c ≡ foldedBit w M ρ c
+unfolding foldedBit
+folded-same n w ρ c S M wide same hρ hc =
+    ap₂ bitXor (entry-same n w ρ c S M wide same hρ hc) (ap (λ x. cond (ltb (ρ / 16) (c / 16)) x 0) (entry-same n w c ρ S M wide same hc hρ))
+
+pub matrix-folded : (n w first end m i : ℕ) (S M cells : List ℕ) → w ≡ bytesFor n → ((k : ℕ) → k < n * w → byteAt S k ≡ byteAt M k)
+    → ((p : ℕ) → p < 4 → (first + p) * 16 < n → first + p < end) → SetFolded w S first end m i end cells → MatrixFolded n w M first m i cells
+matrix-folded n w first end m i S M cells wide same ends done p q h f z hp hq hh hf hz hr hc =
+    let inside : first + p < end = ends p hp (omega arith) in
+    done q p (omega arith) hp hq inside h f z hh hf hz ∙ folded-same n w (q * 16 + f) ((first + p) * 16 + (h * 8 + z)) S M wide same hr hc
+
+pub matrix-more : (n w first m k : ℕ) (a cells cells′ : List ℕ) → k < m → MatrixFolded n w (blockAt a (n * w) k) first m k cells′ → Kept m k cells cells′
+    → ((i : ℕ) → i < k → MatrixFolded n w (blockAt a (n * w) i) first m i cells) → (i : ℕ) → i < k + 1 → MatrixFolded n w (blockAt a (n * w) i) first m i cells′
+matrix-more n w first m k a cells cells′ inside own kept done =
+    below-next (λ i. MatrixFolded n w (blockAt a (n * w) i) first m i cells′) k own
+    (λ i lt p q h f z hp hq hh hf hz hr hc.
+    ap (λ b. bitOf b z) (kept (before first p + q) i (h * 16 + f) (omega arith) (λ e. omega arith) (omega arith)) ∙ done i lt p q h f z hp hq hh hf hz hr hc)
+
+-- ---- a panel of a set
+
+pub panel-folded : (n w m J b : ℕ) (A cells r : List ℕ) → b ≡ before (J / 4 * 4) (J % 4) → ((k : ℕ) → k < (J + 1) * m * chunk → byteAt r k ≡ byteAt cells (b * m * chunk + k))
+    → FoldedSet n w m A (J / 4 * 4) cells → Folded n w m A J r
+panel-folded n w m J b A cells r begin part set q i h f z hq hi hh hf hz hr hc =
+    let which : J / 4 * 4 + J % 4 ≡ J = omega arith in
+    let inside : (q * m + i) * chunk + (h * 16 + f) < (J + 1) * m * chunk = omega (arith, row-end q (J + 1) m (omega arith)) in
+    let at : b * m * chunk + ((q * m + i) * chunk + (h * 16 + f)) ≡ ((b + q) * m + i) * chunk + (h * 16 + f) = omega (arith, add-mul b q m) in
+    ap (λ x. bitOf x z) (part ((q * m + i) * chunk + (h * 16 + f)) inside ∙ ap (byteAt cells) at ∙ ap (λ x. byteAt cells (((x + q) * m + i) * chunk + (h * 16 + f))) begin)
+    ∙ set (J % 4) q i h f z (omega arith) (omega arith) hi hh hf hz hr (omega arith)
+    ∙ ap (λ K. foldedBit w (blockAt A (n * w) i) (q * 16 + f) (K * 16 + (h * 8 + z))) which

@@ -1,0 +1,80 @@
+-- `folds::rows::put_panel` meets its contract: the chunk stands among the 26 sixteens of rows of the set.
+-- Assumes nothing.
+use borrow.Author.Needs.{needs}
+use Prim.Native.Nat.{ℕ, _+_, _*_, _%_, _≤_, _<_}
+use mathlib.Core.Path.{_≡_}
+use native.Mathlib.Omega.{arith}
+use Rattle.strings.proofs.Rows.{row-end}
+use Rattle.folds.specs.Folds.{before}
+use Rattle.folds.proofs.PlaceLaws.{before-fits}
+use Rattle.folds.proofs.rows.put_panel.Statement.{statement}
+use Rattle.folds.proofs.rows.put_panel.Tie as tie
+
+fits : (b first p q m : ℕ) → b ≡ before first p → first % 4 ≡ 0 → p < 4 → first + p < 10 → q ≤ first + p → (b + q < 26) × ((b + q) * m + m ≤ 26 * m)
+fits b first p q m begin h k l hq =
+    let few : b + q < 26 = omega (arith, begin, before-fits first p h k l) in
+    (few, row-end (b + q) 26 m few)
+
+add-if1 : tie.Need-add-if1
+add-if1 c = search needs
+
+add-if2 : tie.Need-add-if2
+add-if2 c = search needs
+
+begin-requires : tie.Need-begin-requires
+begin-requires c κs = search needs
+
+add-copy-part : tie.Need-add-copy-part
+add-copy-part c =
+    let a = c .before .before .before .before .before .before .args in
+    omega (arith, fits (c .begin .result) (a .first) (a .p) (a .q) (a .m) (c .begin .ensures) (omega arith) (omega arith) (omega arith) (omega arith) .0)
+
+mul-copy-part : tie.Need-mul-copy-part
+mul-copy-part c =
+    let a = c .before .before .before .before .before .before .args in
+    omega (arith, fits (c .begin .result) (a .first) (a .p) (a .q) (a .m) (c .begin .ensures) (omega arith) (omega arith) (omega arith) (omega arith) .1)
+
+add-copy-part-2 : tie.Need-add-copy-part-2
+add-copy-part-2 c =
+    let a = c .before .before .before .before .before .before .args in
+    omega (arith, fits (c .begin .result) (a .first) (a .p) (a .q) (a .m) (c .begin .ensures) (omega arith) (omega arith) (omega arith) (omega arith) .1)
+
+mul-copy-part-2 : tie.Need-mul-copy-part-2
+mul-copy-part-2 c = search needs
+
+copy-part-requires : tie.Need-copy-part-requires
+copy-part-requires c κs =
+    let a = c .before .before .before .before .before .before .args in
+    let end = fits (c .begin .result) (a .first) (a .p) (a .q) (a .m) (c .begin .ensures) (omega arith) (omega arith) (omega arith) (omega arith) .1 in
+    (omega (arith, end), omega arith)
+
+same-length : tie.Need-same-length
+same-length c = search needs
+
+returns : tie.Need-returns
+returns c =
+    let done = c .before .before .copy-part in
+    ((λ hq hend e he. rw (c .before .before .before .begin .ensures) at (done .ensures .0 e he)), λ at e other he. done .ensures .1 at e (rw (c .before .before .before .begin .ensures) (other (omega arith))) he)
+
+returns-2 : tie.Need-returns-2
+returns-2 c = search needs
+
+returns-3 : tie.Need-returns-3
+returns-3 c = search needs
+
+pub put-panel-spec : {M : Type 1} → statement M
+put-panel-spec =
+    tie.close
+    (tie.spec
+    add-if1
+    add-if2
+    begin-requires
+    add-copy-part
+    mul-copy-part
+    add-copy-part-2
+    mul-copy-part-2
+    copy-part-requires
+    same-length
+    returns
+    returns-2
+    returns-3)
