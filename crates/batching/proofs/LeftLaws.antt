@@ -21,7 +21,7 @@ use Rattle.folds.specs.Folds.{entry, foldedBit, Folded}
 use Rattle.columns.specs.Stacks.{product}
 use Rattle.columns.proofs.ProductLaws.{product-zero}
 use Rattle.batching.specs.Batched.{batchedByte, leftSum}
-use Rattle.batching.specs.Lines.{leftBit, lineSum, leftOf}
+use Rattle.batching.specs.Lines.{lineBit, leftBit, lineSum, leftOf}
 use Rattle.batching.proofs.FormLaws.{product-scale, product-xor}
 use Rattle.batching.proofs.FoldLaws.{folded-bit-lt, left-form}
 use Rattle.batching.proofs.StackLaws.{scaled-lt}
@@ -30,7 +30,7 @@ use Rattle.batching.proofs.StackLaws.{scaled-lt}
 
 -- bit c of line i has got its sum
 abbrev pub Added : ℕ → ℕ → List ℕ → (ℕ → ℕ) → List ℕ → List ℕ → ℕ → ℕ → Type 0
-Added w size A x L₀ L i c = bitOf (cellAt L i (c / 8)) (c % 8) ≡ bitXor (bitOf (cellAt L₀ i (c / 8)) (c % 8)) (leftOf w size A x i c)
+Added w size A x L₀ L i c = lineBit L i c ≡ bitXor (lineBit L₀ i c) (leftOf w size A x i c)
 
 -- bits that are 0 add nothing
 pub left-none : (w size : ℕ) (A : List ℕ) (x : ℕ → ℕ) (i c : ℕ) → ((ρ : ℕ) → x ρ ≡ 0) → leftOf w size A x i c ≡ 0
@@ -121,9 +121,9 @@ module _ (w size m : ℕ) (A χ : List ℕ) (e : ℕ) (small : (k : ℕ) → byt
   line-added : (L₀ L : List ℕ) (c : ℕ) → ((i : ℕ) → i < m → Added w size A x L₀ L i c) → lineSum L m χ e c ≡ bitXor (lineSum L₀ m χ e c) (leftSum w size m A χ e x (c / 16) c)
   unfolding lineSum
   line-added L₀ L c are =
-      sum-same m _ (λ i. bitXor (bitOf (cellAt L₀ i (c / 8)) (c % 8) * byteAt χ (e * m + i)) (leftOf w size A x i c * byteAt χ (e * m + i)))
-      (λ i l. ap (λ b. b * byteAt χ (e * m + i)) (are i l) ∙ xor-scale (bitOf (cellAt L₀ i (c / 8)) (c % 8)) (leftOf w size A x i c) (byteAt χ (e * m + i)) (bitOf-lt _ (c % 8)) (left-lt w size A x bits i c))
-      ∙ sum-both m (λ i. bitOf (cellAt L₀ i (c / 8)) (c % 8) * byteAt χ (e * m + i)) (λ i. leftOf w size A x i c * byteAt χ (e * m + i))
+      sum-same m _ (λ i. bitXor (lineBit L₀ i c * byteAt χ (e * m + i)) (leftOf w size A x i c * byteAt χ (e * m + i)))
+      (λ i l. ap (λ b. b * byteAt χ (e * m + i)) (are i l) ∙ xor-scale (lineBit L₀ i c) (leftOf w size A x i c) (byteAt χ (e * m + i)) (bitOf-lt _ (c % 8)) (left-lt w size A x bits i c))
+      ∙ sum-both m (λ i. lineBit L₀ i c * byteAt χ (e * m + i)) (λ i. leftOf w size A x i c * byteAt χ (e * m + i))
       ∙ ap (bitXor (lineSum L₀ m χ e c)) (left-sum c)
 
   module _ (N n : ℕ) (enough : n ≤ N * 16) (y : ℕ → ℕ) (gone : (c : ℕ) → n ≤ c → y c ≡ 0) where

@@ -25,7 +25,7 @@ use Rattle.choices.proofs.ChoiceLaws.{chosen-sum}
 use Rattle.columns.specs.Stacks.{alpha, product}
 use Rattle.columns.proofs.ProductLaws.{product-comm, byte-bits}
 use Rattle.batching.specs.Batched.{most}
-use Rattle.batching.specs.Lines.{leftBit, lineSum}
+use Rattle.batching.specs.Lines.{lineBit, leftBit, lineSum}
 use Rattle.batching.proofs.FormLaws.{product-one}
 use Rattle.batching.proofs.StackLaws.{scaled-lt, planes-added}
 
@@ -112,7 +112,7 @@ planes-sum S χ m f z small =
 -- an element whose bits are those of the planes at its coordinate
 pub element-is : (S : List ℕ) (χ : ℕ → ℕ) (m : ℕ) (sums W : List ℕ) (G r : ℕ) (planes : List ℕ) (v c : ℕ) → Weighed S χ m sums W G r → v < 256 → c < 256
     → ((p f : ℕ) → p < 8 → f < chunk → cellAt planes p f ≡ xorSum G (λ k. eightByte sums k (byteAt W ((r + p) * G + k)) f))
-    → ((p : ℕ) → p < 8 → bitOf v p ≡ bitOf (cellAt planes p (c / 8)) (c % 8)) → v ≡ xorSum m (λ i. bitOf (cellAt S i (c / 8)) (c % 8) * χ i)
+    → ((p : ℕ) → p < 8 → bitOf v p ≡ bitOf (cellAt planes p (c / 8)) (c % 8)) → v ≡ xorSum m (λ i. lineBit S i c * χ i)
 element-is S χ m sums W G r planes v c weighed small hc are bits =
     let inside : c / 8 < chunk = omega arith in
     sym (byte-bits v small)
@@ -127,7 +127,7 @@ weighed-rows S sums W χ m G tau tabled long enough small chosen q h =
     (tabled, long, enough, (λ i l. row-lt χ m q 256 (lit< tt) small i), λ p k j hp hk hj. chosen (q * 8 + p) (omega arith) k j hk hj ∙ ap₂ (λ x y. choice (byteAt (blockAt χ m x)) y (k * 8 + j)) (digits-div q hp) (digits-mod q hp))
 
 -- the lines, as the front of what is lent
-pub line-sum : (L χ : List ℕ) (m e c : ℕ) → c < 256 → xorSum m (λ i. bitOf (cellAt (take (m * chunk) L) i (c / 8)) (c % 8) * byteAt (blockAt χ m e) i) ≡ lineSum L m χ e c
+pub line-sum : (L χ : List ℕ) (m e c : ℕ) → c < 256 → xorSum m (λ i. lineBit (take (m * chunk) L) i c * byteAt (blockAt χ m e) i) ≡ lineSum L m χ e c
 unfolding lineSum
 line-sum L χ m e c h =
     sum-same m _ _ (λ i l. ap₂ (λ x y. bitOf x (c % 8) * y) (getD-take (m * chunk) L (i * chunk + c / 8) 0 (omega arith)) (row-byte χ m e i l))

@@ -1,6 +1,7 @@
--- The lines of the equations, and their batch. A line is a chunk of bits, one for each coordinate: bit c of it is bit c mod 8 of its byte ⌊c/8⌋.
+-- The lines of the equations, and their batch. A line is the coefficients of a linear form, a bit for each coordinate: those of line i stand in chunk i.
+--   lineBit L i c == coefficient c of line i: bit c mod 8 of byte ⌊c/8⌋ of chunk i
 --   leftBit cells m x i J h z == Σ_ρ x(ρ)·b_ρ over the rows ρ up to the J-th sixteen, b_ρ bit z of row ρ of byte column h of chunk i of its sixteen
---   lineSum L m χ e c == Σ_i χ(e, i)·(bit c of line i)
+--   lineSum L m χ e c == Σ_i χ(e, i)·lineBit L i c
 --   leftOf w size A x i c == Σ_ρ x(ρ)·F_i(ρ, c) over the rows ρ up to the sixteen of c, where F_i is string i of A, of size bytes, in rows of w bytes, folded
 -- Assumes nothing.
 use mathlib.Core.List.{List}
@@ -10,11 +11,14 @@ use Rattle.strings.specs.Sums.{byteAt, bitOf, xorSum}
 use Rattle.chunks.specs.Chunks.{cellAt}
 use Rattle.folds.specs.Folds.{foldedBit}
 
+abbrev pub lineBit : List ℕ → ℕ → ℕ → ℕ
+lineBit L i c = bitOf (cellAt L i (c / 8)) (c % 8)
+
 unfoldable pub leftBit : List ℕ → ℕ → (ℕ → ℕ) → ℕ → ℕ → ℕ → ℕ → ℕ
 leftBit cells m x i J h z = xorSum ((J + 1) * 16) (λ ρ. x ρ * bitOf (cellAt cells (ρ / 16 * m + i) (h * 16 + ρ % 16)) z)
 
 unfoldable pub lineSum : List ℕ → ℕ → List ℕ → ℕ → ℕ → ℕ
-lineSum L m χ e c = xorSum m (λ i. bitOf (cellAt L i (c / 8)) (c % 8) * byteAt χ (e * m + i))
+lineSum L m χ e c = xorSum m (λ i. lineBit L i c * byteAt χ (e * m + i))
 
 unfoldable pub leftOf : ℕ → ℕ → List ℕ → (ℕ → ℕ) → ℕ → ℕ → ℕ
 leftOf w size A x i c = xorSum ((c / 16 + 1) * 16) (λ ρ. x ρ * foldedBit w (blockAt A size i) ρ c)

@@ -6,14 +6,14 @@ ghost use Prim.Native.Nat.{ℕ, _+_, _*_, _/_, _%_, _<_, _≤_};
 ghost use lib.ListN.{length};
 ghost use lib.Bits.{bitXor};
 ghost use Rattle.protocol.specs.Strings.{bytesFor};
-ghost use Rattle.strings.specs.Sums.{byteAt, bitOf, xorSum};
+ghost use Rattle.strings.specs.Sums.{byteAt, xorSum};
 ghost use Rattle.lanes.specs.Lanes.{lanes, laneAt};
-ghost use Rattle.chunks.specs.Chunks.{chunk, cellAt};
+ghost use Rattle.chunks.specs.Chunks.{chunk};
 ghost use Rattle.choices.specs.Entries.{Chosen};
 ghost use Rattle.columns.specs.Stacks.{product};
 ghost use Rattle.folds.specs.Folds.{Folded, FoldedSet};
 ghost use Rattle.batching.specs.Batched.{most, leftSum, formSum};
-ghost use Rattle.batching.specs.Lines.{lineSum, leftOf};
+ghost use Rattle.batching.specs.Lines.{lineBit, lineSum, leftOf};
 use super::stacks::MOST;
 use chunks::CHUNK;
 use columns::STACK;
@@ -98,7 +98,7 @@ pub fn add_forms(
     requires { ⌜ (length (now quad) ≡ lanes) × (length (now mid) ≡ lanes) × (length (now a) ≡ m * (n * width)) × (width ≡ bytesFor n) × (n ≤ 160) × (0 < m) × (m ≤ 160) × (0 < tau) × (tau ≤ lanes) × (count ≡ (m + 39) / 40) × (tau * 8 * count ≤ length (now words)) × (length (now table) ≡ n * lanes) × (length (now xs) ≡ most) × ((c : ℕ) → byteAt (now xs) c < 2) × ((c : ℕ) → n ≤ c → byteAt (now xs) c ≡ 0) × (polar ≡ false → (c : ℕ) → byteAt (now xs) c ≡ 0) × (m * chunk ≤ length (now lines)) ⌝ }
     ensures { λ _. ⌜ ((χ : List ℕ) (e : ℕ) → ((k : ℕ) → byteAt χ k < 256) → ((r : ℕ) → r < tau * 8 → Chosen χ m count (now (words .entry)) r) → e < tau → byteAt (now (quad .exit)) e ≡ bitXor (byteAt (now (quad .entry)) e) (formSum n width m (now (a .entry)) χ e (λ c. laneAt (now (table .entry)) c e) (λ c. laneAt (now (table .entry)) c e))) ⌝ }
     ensures { λ _. ⌜ ((χ : List ℕ) (e : ℕ) → ((k : ℕ) → byteAt χ k < 256) → ((r : ℕ) → r < tau * 8 → Chosen χ m count (now (words .entry)) r) → e < tau → byteAt (now (mid .exit)) e ≡ bitXor (bitXor (byteAt (now (mid .entry)) e) (bitXor (formSum n width m (now (a .entry)) χ e (λ c. laneAt (now (table .entry)) c e) (byteAt (now (xs .entry)))) (formSum n width m (now (a .entry)) χ e (byteAt (now (xs .entry))) (λ c. laneAt (now (table .entry)) c e)))) (xorSum n (λ c. product (laneAt (now (table .entry)) c e) (lineSum (now (lines .entry)) m χ e c)))) ⌝ }
-    ensures { λ _. ⌜ (polar ≡ true → (i c : ℕ) → i < m → c < n → bitOf (cellAt (now (lines .exit)) i (c / 8)) (c % 8) ≡ bitXor (bitOf (cellAt (now (lines .entry)) i (c / 8)) (c % 8)) (leftOf width (n * width) (now (a .entry)) (byteAt (now (xs .entry))) i c)) ⌝ }
+    ensures { λ _. ⌜ (polar ≡ true → (i c : ℕ) → i < m → c < n → lineBit (now (lines .exit)) i c ≡ bitXor (lineBit (now (lines .entry)) i c) (leftOf width (n * width) (now (a .entry)) (byteAt (now (xs .entry))) i c)) ⌝ }
     ensures { λ _. ⌜ (polar ≡ false → now (lines .exit) ≡ now (lines .entry)) ⌝ }
 {
     let mut cells = [0u8; CELLS];

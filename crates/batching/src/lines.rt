@@ -13,7 +13,7 @@ ghost use Rattle.chunks.specs.Chunks.{chunk, cellAt};
 ghost use Rattle.choices.specs.Entries.{eightByte, Chosen, Weighed};
 ghost use Rattle.columns.specs.Stacks.{product};
 ghost use Rattle.batching.specs.Batched.{most};
-ghost use Rattle.batching.specs.Lines.{leftBit, lineSum};
+ghost use Rattle.batching.specs.Lines.{lineBit, leftBit, lineSum};
 use super::stacks::MOST;
 use chunks::CHUNK;
 use field::Gf256;
@@ -136,7 +136,7 @@ fn turn_half(elements: &mut [u8], h: usize, planes: &[u8])
 // The batched line of repetition e times its vector.
 fn line_product(words: &[u64], e: usize, count: usize, sums: &[u8], vectors: &[u8]) -> u8
     requires { ⌜ ((e * 8 + 8) * count ≤ length (now words)) × (e < lanes) × (count ≤ 4) × (count * 256 * chunk ≤ length (now sums)) × (e * most + most ≤ length (now vectors)) ⌝ }
-    ensures { λ r. ⌜ ((S : List ℕ) (χ : ℕ → ℕ) (m : ℕ) → Weighed S χ m (now (sums .entry)) (now (words .entry)) count (e * 8) → r ≡ xorSum most (λ c. product (byteAt (now (vectors .entry)) (e * most + c)) (xorSum m (λ i. bitOf (cellAt S i (c / 8)) (c % 8) * χ i)))) ⌝ }
+    ensures { λ r. ⌜ ((S : List ℕ) (χ : ℕ → ℕ) (m : ℕ) → Weighed S χ m (now (sums .entry)) (now (words .entry)) count (e * 8) → r ≡ xorSum most (λ c. product (byteAt (now (vectors .entry)) (e * most + c)) (xorSum m (λ i. lineBit S i c * χ i)))) ⌝ }
 {
     let mut planes = [0u8; PLANES];
     let mut elements = [0u8; ELEMENTS];
@@ -156,7 +156,7 @@ fn add_products(
     vectors: &[u8],
 )
     requires { ⌜ (length (now mid) ≡ lanes) × (tau ≤ lanes) × (tau * 8 * count ≤ length (now words)) × (count ≤ 4) × (count * 256 * chunk ≤ length (now sums)) × (tau * most ≤ length (now vectors)) ⌝ }
-    ensures { λ _. ⌜ ((S : List ℕ) (χ : ℕ → ℕ → ℕ) (m e : ℕ) → ((q : ℕ) → q < tau → Weighed S (χ q) m (now (sums .entry)) (now (words .entry)) count (q * 8)) → e < tau → byteAt (now (mid .exit)) e ≡ bitXor (byteAt (now (mid .entry)) e) (xorSum most (λ c. product (byteAt (now (vectors .entry)) (e * most + c)) (xorSum m (λ i. bitOf (cellAt S i (c / 8)) (c % 8) * χ e i))))) ⌝ }
+    ensures { λ _. ⌜ ((S : List ℕ) (χ : ℕ → ℕ → ℕ) (m e : ℕ) → ((q : ℕ) → q < tau → Weighed S (χ q) m (now (sums .entry)) (now (words .entry)) count (q * 8)) → e < tau → byteAt (now (mid .exit)) e ≡ bitXor (byteAt (now (mid .entry)) e) (xorSum most (λ c. product (byteAt (now (vectors .entry)) (e * most + c)) (xorSum m (λ i. lineBit S i c * χ e i))))) ⌝ }
 {
     let mut e = 0;
     while e < tau {

@@ -21,7 +21,7 @@ use Rattle.chunks.proofs.BitSumLaws.{sum-swap}
 use Rattle.columns.specs.Stacks.{product}
 use Rattle.columns.proofs.ProductLaws.{product-comm, product-bits}
 use Rattle.batching.specs.Batched.{formSum}
-use Rattle.batching.specs.Lines.{lineSum}
+use Rattle.batching.specs.Lines.{lineBit, lineSum}
 use Rattle.batching.proofs.FormLaws.{product-scale, product-xor}
 use Rattle.batching.proofs.StackLaws.{scaled-lt}
 use Rattle.equations.specs.Equations.{rowOf, matrixOf}
@@ -29,7 +29,6 @@ use Rattle.equations.proofs.BlockLaws.{bytes-enough}
 use Rattle.equations.proofs.RowLaws.{row-bit}
 use Rattle.quadratic.specs.Forms.{formByte, rowBit, middleByte}
 use Rattle.quadratic.specs.Batch.{batchByte}
-use Rattle.quadratic.specs.Errors.{lineBit}
 
 -- ---- batched sums
 

@@ -14,13 +14,13 @@ use Rattle.strings.specs.Sums.{bitOf, xorSum}
 use Rattle.strings.proofs.SumLaws.{sum-same, sum-short}
 use Rattle.strings.proofs.Meaning.{bit-is}
 use Rattle.chunks.specs.Chunks.{chunk}
-use Rattle.batching.specs.Lines.{leftOf}
+use Rattle.batching.specs.Lines.{lineBit, leftOf}
 use Rattle.batching.proofs.LeftLaws.{line-times}
 use Rattle.equations.specs.Equations.{rowProduct, rowOf, matrixOf, errorBit, errorOf}
 use Rattle.equations.proofs.BlockLaws.{bytes-enough}
 use Rattle.equations.proofs.RowLaws.{row-bit}
 use Rattle.equations.proofs.ElementLaws.{product-short}
-use Rattle.quadratic.specs.Errors.{lineBit, lineProduct, lineError}
+use Rattle.quadratic.specs.Errors.{lineProduct, lineError}
 
 -- the part of the lines that is lent, times x
 pub line-is : (L x : List ℕ) (i : ℕ) → length (take (length x) (drop (i * chunk) L)) ≡ length x → rowProduct (take (length x) (drop (i * chunk) L)) x ≡ lineProduct L x i

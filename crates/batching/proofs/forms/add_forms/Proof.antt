@@ -10,7 +10,7 @@ use native.Mathlib.Omega.{arith}
 use denote.Ref.{now}
 use lib.ListN.{length}
 use lib.Bits.{bitXor, xor-zero-r}
-use Rattle.strings.specs.Sums.{byteAt, bitOf, xorSum}
+use Rattle.strings.specs.Sums.{byteAt, xorSum}
 use Rattle.strings.proofs.SumLaws.{sum-same, sum-short, sum-step}
 use Rattle.lanes.specs.Lanes.{lanes, laneAt}
 use Rattle.chunks.specs.Chunks.{chunk, cellAt}
@@ -19,7 +19,7 @@ use Rattle.folds.specs.Folds.{Folded, FoldedSet}
 use Rattle.columns.specs.Stacks.{product}
 use Rattle.columns.proofs.ProductLaws.{product-zero}
 use Rattle.batching.specs.Batched.{most, leftSum}
-use Rattle.batching.specs.Lines.{lineSum}
+use Rattle.batching.specs.Lines.{lineBit, lineSum}
 use Rattle.batching.proofs.FoldLaws.{form-is, polar-is}
 use Rattle.batching.proofs.StackLaws.{lane-past}
 use Rattle.batching.proofs.LeftLaws.{Added, left-none, lines-more, lines-added, both-halves}
@@ -45,7 +45,7 @@ same-set J later = go (decLt ((J + 1) % 4) 1)
 all-added : (asked : Bool) (w size : ℕ) (A xs L₀ L : List ℕ) (i c : ℕ) → (asked ≡ true → Added w size A (byteAt xs) L₀ L i c) → (asked ≡ false → L ≡ L₀) → (asked ≡ false → (k : ℕ) → byteAt xs k ≡ 0) → Added w size A (byteAt xs) L₀ L i c
 all-added true w size A xs L₀ L i c on off none = on refl
 all-added false w size A xs L₀ L i c on off none =
-    ap (λ l. bitOf (cellAt l i (c / 8)) (c % 8)) (off refl) ∙ sym (ap (bitXor (bitOf (cellAt L₀ i (c / 8)) (c % 8))) (left-none w size A (byteAt xs) i c (none refl)) ∙ xor-zero-r _)
+    ap (λ l. lineBit l i c) (off refl) ∙ sym (ap (bitXor (lineBit L₀ i c)) (left-none w size A (byteAt xs) i c (none refl)) ∙ xor-zero-r _)
 
 abbrev Inv-loop : tie.InvT-loop
 Inv-loop quad₀ mid₀ lines₀ a n width m tau words count table xs asked cells₀ sums₀ vectors bits stacks₀ panel₀ quad mid lines cells sums stacks panel = (panel * 16 < n + 16) × (length quad ≡ lanes) × (length mid ≡ lanes) × (length cells ≡ 133120) × (length sums ≡ 32768) × ((e c : ℕ) → e < tau → c < most → byteAt vectors (e * most + c) ≡ laneAt table c e) × ((c : ℕ) → c < most → byteAt bits c ≡ byteAt xs c * 255) × ((χ : List ℕ) (e : ℕ) → ((k : ℕ) → byteAt χ k < 256) → ((r : ℕ) → r < tau * 8 → Chosen χ m count words r) → e < tau → byteAt quad e ≡ bitXor (byteAt quad₀ e) (xorSum panel (term n width m a table χ e))) × ((χ : List ℕ) (e : ℕ) → ((k : ℕ) → byteAt χ k < 256) → ((r : ℕ) → r < tau * 8 → Chosen χ m count words r) → e < tau → byteAt mid e ≡ bitXor (byteAt mid₀ e) (xorSum panel (half n width m a table xs χ e))) × (length vectors ≡ 7680) × (length bits ≡ most) × ((panel % 4 ≡ 0 → ⊥) → FoldedSet n width m a (panel / 4 * 4) cells) × (length stacks ≡ 23040) × (length lines ≡ length lines₀) × (asked ≡ true → (i c : ℕ) → i < m → c < n → c < panel * 16 → Added width (n * width) a (byteAt xs) lines₀ lines i c) × ((i k : ℕ) → k < chunk → panel * 2 ≤ k → cellAt lines i k ≡ cellAt lines₀ i k) × (asked ≡ false → lines ≡ lines₀)

@@ -1,7 +1,7 @@
 -- `batching::lines::add_products` meets its contract. The invariant: the products of the repetitions below e are added, and the other places are as they were.
 -- Assumes nothing.
 use borrow.Author.Needs.{needs}
-use Prim.Native.Nat.{ℕ, _+_, _*_, _-_, _/_, _%_, _≤_, _<_}
+use Prim.Native.Nat.{ℕ, _+_, _*_, _-_, _≤_, _<_}
 use mathlib.Core.List.{List}
 use mathlib.Core.Logic.{⊎-elim}
 use mathlib.Core.Path.{_≡_, refl, ap₂, _∙_}
@@ -11,18 +11,18 @@ use native.Mathlib.Omega.{arith}
 use lib.ListN.{length, length-set}
 use lib.Seq.{getD-set-same, getD-set-other}
 use lib.Bits.{bitXor}
-use Rattle.strings.specs.Sums.{byteAt, bitOf, xorSum}
+use Rattle.strings.specs.Sums.{byteAt, xorSum}
 use Rattle.lanes.specs.Lanes.{lanes}
-use Rattle.chunks.specs.Chunks.{cellAt}
 use Rattle.choices.specs.Entries.{Weighed}
 use Rattle.columns.specs.Stacks.{product}
 use Rattle.batching.specs.Batched.{most}
+use Rattle.batching.specs.Lines.{lineBit}
 use Rattle.batching.proofs.lines.add_products.Statement.{statement}
 use Rattle.batching.proofs.lines.add_products.Tie as tie
 
 -- the batched line of repetition e times its vector
 abbrev term : List ℕ → (ℕ → ℕ → ℕ) → ℕ → List ℕ → ℕ → ℕ
-term S χ m vectors e = xorSum most (λ c. product (byteAt vectors (e * most + c)) (xorSum m (λ i. bitOf (cellAt S i (c / 8)) (c % 8) * χ e i)))
+term S χ m vectors e = xorSum most (λ c. product (byteAt vectors (e * most + c)) (xorSum m (λ i. lineBit S i c * χ e i)))
 
 abbrev Inv-loop : tie.InvT-loop
 Inv-loop mid₀ tau words count sums vectors e₀ mid e = (e ≤ tau) × (length mid ≡ lanes) × ((S : List ℕ) (χ : ℕ → ℕ → ℕ) (m d : ℕ) → ((q : ℕ) → q < tau → Weighed S (χ q) m sums words count (q * 8)) → d < e → byteAt mid d ≡ bitXor (byteAt mid₀ d) (term S χ m vectors d)) × ((d : ℕ) → e ≤ d → byteAt mid d ≡ byteAt mid₀ d)
