@@ -52,12 +52,12 @@ halves-more v old l f y z hf long is is′ done k hk = go (ℕ-discrete k f) (�
         let same : byteAt (set (set l f y) (16 + f) z) k ≡ byteAt l k = getD-set-other (set l f y) (16 + f) k z 0 n′ ∙ getD-set-other l f k y 0 n in
         ((λ h. same ∙ done k hk .0 (omega (arith, h, n, n′, hk))), λ h. same ∙ done k hk .1 (omega arith))
 
--- what a chunk of sums comes to, half by half
-pub left-is : (cells bits acc : List ℕ) (x : ℕ → ℕ) (m i J h z : ℕ) → ((k : ℕ) → byteAt cells k < 256) → ((c : ℕ) → x c < 2) → ((c : ℕ) → c < most → byteAt bits c ≡ x c * 255) → J < 10 → h < 2
+-- what a half of a chunk of sums comes to
+pub half-left-bit : (cells bits acc : List ℕ) (x : ℕ → ℕ) (m i J h z : ℕ) → ((k : ℕ) → byteAt cells k < 256) → ((c : ℕ) → x c < 2) → ((c : ℕ) → c < most → byteAt bits c ≡ x c * 255) → J < 10 → h < 2
     → ((k : ℕ) → k < chunk → byteAt acc k ≡ xorSum (J + 1) (λ q. bitAnd (byteAt cells ((q * m + i) * chunk + k)) (byteAt bits (q * 16 + k % 16))))
     → bitOf (xorSum 16 (λ f. byteAt acc (h * 16 + f))) z ≡ leftBit cells m x i J h z
 unfolding leftBit
-left-is cells bits acc x m i J h z small bit masks hJ hh are =
+half-left-bit cells bits acc x m i J h z small bit masks hJ hh are =
     bitOf-sum 16 (λ f. byteAt acc (h * 16 + f)) z
     ∙ sum-same 16 _ (λ f. xorSum (J + 1) (λ q. row (q * 16 + f)))
     (λ f l.

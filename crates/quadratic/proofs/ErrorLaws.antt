@@ -20,11 +20,11 @@ use Rattle.equations.specs.Equations.{rowProduct, rowOf, matrixOf, errorBit, er
 use Rattle.equations.proofs.BlockLaws.{bytes-enough}
 use Rattle.equations.proofs.RowLaws.{row-bit}
 use Rattle.equations.proofs.ElementLaws.{product-short}
-use Rattle.quadratic.specs.Errors.{lineProduct, lineError}
+use Rattle.quadratic.specs.Errors.{lineTimes, lineError}
 
 -- the part of the lines that is lent, times x
-pub line-is : (L x : List ℕ) (i : ℕ) → length (take (length x) (drop (i * chunk) L)) ≡ length x → rowProduct (take (length x) (drop (i * chunk) L)) x ≡ lineProduct L x i
-unfolding lineProduct
+pub line-is : (L x : List ℕ) (i : ℕ) → length (take (length x) (drop (i * chunk) L)) ≡ length x → rowProduct (take (length x) (drop (i * chunk) L)) x ≡ lineTimes L x i
+unfolding lineTimes
 line-is L x i long =
     let row = take (length x) (drop (i * chunk) L) in
     ap (λ w. xorSum (w * 8) (λ c. bit row c * bit x c)) long
@@ -35,7 +35,7 @@ line-is L x i long =
 -- line times x, plus y, is the error
 pub error-is : (n : ℕ) (A b y x L : List ℕ) (i : ℕ) → n ≤ 160 → length x ≡ bytesFor n → ((c : ℕ) → n ≤ c → bit x c ≡ 0)
     → ((c : ℕ) → c < n → lineBit L i c ≡ bitXor (bit (rowOf n b i) c) (leftOf (bytesFor n) (n * bytesFor n) A (bit x) i c)) → lineError L y x i ≡ errorOf n A b y x i
-unfolding lineProduct errorOf errorBit
+unfolding lineTimes errorOf errorBit
 error-is n A b y x L i few long none are =
     let w = bytesFor n in
     let enough : n ≤ length x * 8 = omega (arith, long, bytes-enough n) in

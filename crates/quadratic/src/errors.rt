@@ -5,13 +5,13 @@ ghost use Prim.Native.Nat.{ℕ, _+_, _*_, _<_, _≤_};
 ghost use lib.ListN.{length};
 ghost use Rattle.strings.specs.Sums.{byteAt};
 ghost use Rattle.chunks.specs.Chunks.{chunk};
-ghost use Rattle.quadratic.specs.Errors.{lineProduct, lineError};
+ghost use Rattle.quadratic.specs.Errors.{lineTimes, lineError};
 use chunks::CHUNK;
 
 // Line i, as far as x goes, times x.
-fn line_product(lines: &[u8], i: usize, x: &[u8]) -> u8
+fn line_times(lines: &[u8], i: usize, x: &[u8]) -> u8
     requires { ⌜ (i * chunk + chunk ≤ length (now lines)) × (length (now x) ≤ chunk) ⌝ }
-    ensures { λ r. ⌜ r ≡ lineProduct (now (lines .entry)) (now (x .entry)) i ⌝ }
+    ensures { λ r. ⌜ r ≡ lineTimes (now (lines .entry)) (now (x .entry)) i ⌝ }
 {
     let at = i * CHUNK;
     parity::row_product(&lines[at..at + x.len()], x)
@@ -24,7 +24,7 @@ pub fn line_errors(errors: &mut [u8], lines: &[u8], y: &[u8], x: &[u8])
 {
     let mut i = 0;
     while i < errors.len() {
-        errors[i] = line_product(lines, i, x) ^ strings::bit_at(y, i);
+        errors[i] = line_times(lines, i, x) ^ strings::bit_at(y, i);
         i += 1;
     }
 }

@@ -15,7 +15,7 @@ use Rattle.strings.proofs.Rows.{row-end}
 use Rattle.strings.proofs.SumLaws.{sum-more}
 use Rattle.strings.proofs.Meaning.{bitOf-xor}
 use Rattle.chunks.specs.Chunks.{chunk}
-use Rattle.batching.proofs.LineLaws.{left-is, two-added}
+use Rattle.batching.proofs.LineLaws.{half-left-bit, two-added}
 use Rattle.batching.proofs.lines.add_line.Statement.{statement}
 use Rattle.batching.proofs.lines.add_line.Tie as tie
 
@@ -152,7 +152,7 @@ returns c =
           ap (λ (j : ℕ). bitOf (byteAt (set (set L at y) (at + 1) w) j) z) place
           ∙ ap (λ (b : ℕ). bitOf b z) (two-added L at y w half fits (ap (bitXor (byteAt L at)) (first .ensures)) (ap (bitXor (byteAt (set L at y) (at + 1))) (second .ensures)) h hh)
           ∙ bitOf-xor (byteAt L (at + h)) (half h) z
-          ∙ ap₂ bitXor (ap (λ (j : ℕ). bitOf (byteAt L j) z) (sym place)) (left-is (now (a .cells)) (now (a .bits)) (l .acc) x (a .m) (a .i) (a .panel) h z (λ k. known k .fits) bit masks (pre .3) hh all)),
+          ∙ ap₂ bitXor (ap (λ (j : ℕ). bitOf (byteAt L j) z) (sym place)) (half-left-bit (now (a .cells)) (now (a .bits)) (l .acc) x (a .m) (a .i) (a .panel) h z (λ k. known k .fits) bit masks (pre .3) hh all)),
       (λ k other. getD-set-other (set L at y) (at + 1) k w 0 (λ e. other (omega (arith, e))) ∙ getD-set-other L at k y 0 (λ e. other (omega (arith, e)))),
     )
 

@@ -26,8 +26,8 @@ loop-holds : tie.Need-loop-holds Inv-loop μ-loop
 unfolding changed
 loop-holds c = (search needs, refl, refl)
 
-line-product-requires : tie.Need-line-product-requires Inv-loop μ-loop
-line-product-requires c κs = search needs
+line-times-requires : tie.Need-line-times-requires Inv-loop μ-loop
+line-times-requires c κs = search needs
 
 bit-at-requires : tie.Need-bit-at-requires Inv-loop μ-loop
 bit-at-requires c κs = search needs
@@ -45,7 +45,7 @@ loop-again : tie.Need-loop-again Inv-loop μ-loop
 loop-again c =
     let a = c .before .before .before .before .before .before .before .before .args in
     let l = c .before .before .before .loop in
-    (omega arith, simp length-set (l .inv .1), changed-more (change (now (a .lines)) (now (a .y)) (now (a .x))) (now (a .errors)) (l .errors) (l .i) _ (l .inv .2) (ap₂ bitXor (c .before .line-product .ensures) (c .bit-at .ensures)))
+    (omega arith, simp length-set (l .inv .1), changed-more (change (now (a .lines)) (now (a .y)) (now (a .x))) (now (a .errors)) (l .errors) (l .i) _ (l .inv .2) (ap₂ bitXor (c .before .line-times .ensures) (c .bit-at .ensures)))
 
 same-length : tie.Need-same-length Inv-loop μ-loop
 same-length c = search needs
@@ -63,7 +63,7 @@ line-errors-spec =
     Inv-loop
     μ-loop
     loop-holds
-    line-product-requires
+    line-times-requires
     bit-at-requires
     slice-write-errors
     add-i

@@ -1,4 +1,4 @@
--- `quadratic::errors::line_product` meets its contract: the part that is lent is the front of line i (`ErrorLaws`).
+-- `quadratic::errors::line_times` meets its contract: the part that is lent is the front of line i (`ErrorLaws`).
 -- Assumes nothing.
 use borrow.Author.Needs.{needs}
 use Prim.Native.Nat.{_+_, _*_, _-_}
@@ -9,8 +9,8 @@ use denote.Ref.{now}
 use lib.ListN.{length, length-take, length-drop}
 use Rattle.chunks.specs.Chunks.{chunk}
 use Rattle.quadratic.proofs.ErrorLaws.{line-is}
-use Rattle.quadratic.proofs.errors.line_product.Statement.{statement}
-use Rattle.quadratic.proofs.errors.line_product.Tie as tie
+use Rattle.quadratic.proofs.errors.line_times.Statement.{statement}
+use Rattle.quadratic.proofs.errors.line_times.Tie as tie
 
 mul-at : tie.Need-mul-at
 mul-at c = search needs
@@ -36,8 +36,8 @@ returns c =
     let e : a .i * chunk + length (now (a .x)) - a .i * chunk ≡ length (now (a .x)) = add-sub-cancel-left (a .i * chunk) (length (now (a .x))) in
     rw e at (c .row-product .ensures .0) ∙ line-is (now (a .lines)) (now (a .x)) (a .i) (simp (length-take, length-drop) (omega (arith, c .before .before .before .before .pre .0, c .before .before .before .before .pre .1)))
 
-pub line-product-spec : {M : Type 1} → statement M
-line-product-spec =
+pub line-times-spec : {M : Type 1} → statement M
+line-times-spec =
     tie.close
     (tie.spec
     mul-at
