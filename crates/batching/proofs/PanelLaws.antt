@@ -33,11 +33,11 @@ module _ (n w m : ℕ) (A χ cells : List ℕ) (e J : ℕ) (loaded : Folded n w 
             rw zero (product-zero (cellSum cells m χ e q (h * 16 + f) z) ∙ sym (product-zero (batchedByte w (n * w) m A χ e (q * 16 + f) (J * 16 + (h * 8 + z)))))
 
     -- the sum over the sixteen bytes of a half
-    pub fold-is : (P : ℕ) (T : List ℕ) (s : ℕ) → s < 16 → J * 16 + s < n
-        → ((f : ℕ) → f < 16 → stackOf P T e (s / 8 * 16 + f) (s % 8) ≡ xorSum (J + 1) (λ q. product (W (q * 16 + f)) (cellSum cells m χ e q (s / 8 * 16 + f) (s % 8))))
-        → foldOf P T e (s / 8) (s % 8) ≡ leftSum w (n * w) m A χ e W J (J * 16 + s)
+    pub fold-is : (T : List ℕ) (s : ℕ) → s < 16 → J * 16 + s < n
+        → ((f : ℕ) → f < 16 → stackOf T e (s / 8 * 16 + f) (s % 8) ≡ xorSum (J + 1) (λ q. product (W (q * 16 + f)) (cellSum cells m χ e q (s / 8 * 16 + f) (s % 8))))
+        → foldOf T e (s / 8) (s % 8) ≡ leftSum w (n * w) m A χ e W J (J * 16 + s)
     unfolding foldOf
-    fold-is P T s hs col are =
+    fold-is T s hs col are =
         let place : J * 16 + (s / 8 * 8 + s % 8) ≡ J * 16 + s = omega arith in
         sum-same 16 _ (λ f. xorSum (J + 1) (λ q. product (W (q * 16 + f)) (batchedByte w (n * w) m A χ e (q * 16 + f) (J * 16 + s))))
         (λ f hf. are f hf ∙ sum-same (J + 1) _ _ (λ q hq.

@@ -14,7 +14,7 @@ use Rattle.strings.proofs.ProductLaws.{bit-times-lt}
 use Rattle.lanes.specs.Lanes.{lanes, laneAt}
 use Rattle.chunks.specs.Chunks.{chunk}
 use Rattle.chunks.proofs.BitSumLaws.{sum-swap, times-sum, bit-sum}
-use Rattle.columns.specs.Stacks.{alpha, product, stackAt, stackOf}
+use Rattle.columns.specs.Stacks.{alpha, product, planes, stackAt, stackOf}
 use Rattle.columns.proofs.ProductLaws.{product-comm, byte-bits, product-bits}
 
 pub scaled-lt : (q x : ℕ) → q < 2 → x < 256 → q * x < 256
@@ -40,15 +40,15 @@ planes-added m v χ y small bits =
 
 -- ---- stacks whose bytes are known
 
-pub stack-is : (P : ℕ) (T r : List ℕ) (e f z : ℕ) → f < chunk → ((b : ℕ) → b < P * chunk → byteAt T (e * (P * chunk) + b) ≡ byteAt r b) → stackOf P T e f z ≡ stackAt P r f z
-stack-is P T r e f z h same = sum-same P _ _ (λ s l. ap (λ x. bitOf x z * alpha s) (same (s * chunk + f) (omega arith)))
+pub stack-is : (T r : List ℕ) (e f z : ℕ) → f < chunk → ((b : ℕ) → b < planes * chunk → byteAt T (e * (planes * chunk) + b) ≡ byteAt r b) → stackOf T e f z ≡ stackAt r f z
+stack-is T r e f z h same = sum-same planes _ _ (λ s l. ap (λ x. bitOf x z * alpha s) (same (s * chunk + f) (omega arith)))
 
-pub stack-same : (P : ℕ) (T T′ : List ℕ) (e f z : ℕ) → f < chunk → ((b : ℕ) → b < P * chunk → byteAt T (e * (P * chunk) + b) ≡ byteAt T′ (e * (P * chunk) + b)) → stackOf P T e f z ≡ stackOf P T′ e f z
-stack-same P T T′ e f z h same = sum-same P _ _ (λ s l. ap (λ x. bitOf x z * alpha s) (same (s * chunk + f) (omega arith)))
+pub stack-same : (T T′ : List ℕ) (e f z : ℕ) → f < chunk → ((b : ℕ) → b < planes * chunk → byteAt T (e * (planes * chunk) + b) ≡ byteAt T′ (e * (planes * chunk) + b)) → stackOf T e f z ≡ stackOf T′ e f z
+stack-same T T′ e f z h same = sum-same planes _ _ (λ s l. ap (λ x. bitOf x z * alpha s) (same (s * chunk + f) (omega arith)))
 
-pub stack-none : (P : ℕ) (T : List ℕ) (e f z : ℕ) → f < chunk → ((b : ℕ) → b < P * chunk → byteAt T (e * (P * chunk) + b) ≡ 0) → stackOf P T e f z ≡ 0
-stack-none P T e f z h none =
-    sum-same P _ (λ s. 0) (λ s l. ap (λ x. x * alpha s) (ap (λ x. bitOf x z) (none (s * chunk + f) (omega arith)) ∙ bitOf-zero z) ∙ zero-mul (alpha s)) ∙ sum-none P
+pub stack-none : (T : List ℕ) (e f z : ℕ) → f < chunk → ((b : ℕ) → b < planes * chunk → byteAt T (e * (planes * chunk) + b) ≡ 0) → stackOf T e f z ≡ 0
+stack-none T e f z h none =
+    sum-same planes _ (λ s. 0) (λ s l. ap (λ x. x * alpha s) (ap (λ x. bitOf x z) (none (s * chunk + f) (omega arith)) ∙ bitOf-zero z) ∙ zero-mul (alpha s)) ∙ sum-none planes
 
 -- a table has no coordinates from n on
 pub lane-past : (T : List ℕ) (n c e : ℕ) → length T ≡ n * lanes → n ≤ c → laneAt T c e ≡ 0

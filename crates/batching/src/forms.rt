@@ -10,7 +10,7 @@ ghost use Rattle.strings.specs.Sums.{byteAt, xorSum};
 ghost use Rattle.lanes.specs.Lanes.{lanes, laneAt};
 ghost use Rattle.chunks.specs.Chunks.{chunk};
 ghost use Rattle.choices.specs.Entries.{Chosen};
-ghost use Rattle.columns.specs.Stacks.{product};
+ghost use Rattle.columns.specs.Stacks.{product, planes};
 ghost use Rattle.folds.specs.Folds.{Folded, FoldedSet};
 ghost use Rattle.batching.specs.Batched.{most, leftSum, formSum};
 ghost use Rattle.batching.specs.Lines.{lineBit, lineSum, leftOf};
@@ -67,7 +67,7 @@ fn add_panel(
     polar: bool,
     panel: usize,
 )
-    requires { ⌜ (length (now quad) ≡ lanes) × (length (now mid) ≡ lanes) × (length (now sums) ≡ 32768) × ((panel + 1) * (m * chunk) ≤ length (now cells)) × (n ≤ 160) × (0 < m) × (m ≤ 160) × (0 < tau) × (tau ≤ lanes) × (count ≡ (m + 39) / 40) × (tau * 8 * count ≤ length (now words)) × (length (now table) ≡ n * lanes) × (panel * 16 < n) × (tau * (15 * chunk) ≤ length (now stacks)) ⌝ }
+    requires { ⌜ (length (now quad) ≡ lanes) × (length (now mid) ≡ lanes) × (length (now sums) ≡ 32768) × ((panel + 1) * (m * chunk) ≤ length (now cells)) × (n ≤ 160) × (0 < m) × (m ≤ 160) × (0 < tau) × (tau ≤ lanes) × (count ≡ (m + 39) / 40) × (tau * 8 * count ≤ length (now words)) × (length (now table) ≡ n * lanes) × (panel * 16 < n) × (tau * (planes * chunk) ≤ length (now stacks)) ⌝ }
     requires { ⌜ (tau * most ≤ length (now vectors)) × (length (now xs) ≡ most) × ((c : ℕ) → byteAt (now xs) c < 2) × ((c : ℕ) → n ≤ c → byteAt (now xs) c ≡ 0) × ((e c : ℕ) → e < tau → c < most → byteAt (now vectors) (e * most + c) ≡ laneAt (now table) c e) × (polar ≡ false → (c : ℕ) → byteAt (now xs) c ≡ 0) ⌝ }
     ensures { λ _. ⌜ ((A χ : List ℕ) (w e : ℕ) → Folded n w m A panel (now (cells .entry)) → ((k : ℕ) → byteAt χ k < 256) → ((r : ℕ) → r < tau * 8 → Chosen χ m count (now (words .entry)) r) → e < tau → byteAt (now (quad .exit)) e ≡ bitXor (byteAt (now (quad .entry)) e) (xorSum 16 (λ s. product (laneAt (now (table .entry)) (panel * 16 + s) e) (leftSum w (n * w) m A χ e (λ ρ. laneAt (now (table .entry)) ρ e) panel (panel * 16 + s))))) ⌝ }
     ensures { λ _. ⌜ ((A χ : List ℕ) (w e : ℕ) → Folded n w m A panel (now (cells .entry)) → ((k : ℕ) → byteAt χ k < 256) → ((r : ℕ) → r < tau * 8 → Chosen χ m count (now (words .entry)) r) → e < tau → byteAt (now (mid .exit)) e ≡ bitXor (byteAt (now (mid .entry)) e) (xorSum 16 (λ s. product (byteAt (now (xs .entry)) (panel * 16 + s)) (leftSum w (n * w) m A χ e (λ ρ. laneAt (now (table .entry)) ρ e) panel (panel * 16 + s))))) ⌝ }

@@ -21,7 +21,7 @@ use turns::EIGHT_ROWS;
 use turns::turn_rows;
 
 // The bytes of eight planes, each a chunk.
-const PLANES: usize = 8 * CHUNK;
+const EIGHT_PLANES: usize = 8 * CHUNK;
 
 // As many elements as two turns give.
 const ELEMENTS: usize = 2 * EIGHT_ROWS;
@@ -138,7 +138,7 @@ fn line_product(words: &[u64], e: usize, count: usize, sums: &[u8], vectors: &[u
     requires { ⌜ ((e * 8 + 8) * count ≤ length (now words)) × (e < lanes) × (count ≤ 4) × (count * 256 * chunk ≤ length (now sums)) × (e * most + most ≤ length (now vectors)) ⌝ }
     ensures { λ r. ⌜ ((S : List ℕ) (χ : ℕ → ℕ) (m : ℕ) → Weighed S χ m (now (sums .entry)) (now (words .entry)) count (e * 8) → r ≡ xorSum most (λ c. product (byteAt (now (vectors .entry)) (e * most + c)) (xorSum m (λ i. lineBit S i c * χ i)))) ⌝ }
 {
-    let mut planes = [0u8; PLANES];
+    let mut planes = [0u8; EIGHT_PLANES];
     let mut elements = [0u8; ELEMENTS];
     look_up_planes(&mut planes, words, e * 8, count, sums);
     turn_half(&mut elements, 0, &planes);

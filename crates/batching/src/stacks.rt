@@ -9,7 +9,7 @@ ghost use Rattle.strings.specs.Sums.{byteAt, bitOf, xorSum};
 ghost use Rattle.lanes.specs.Lanes.{lanes, laneAt};
 ghost use Rattle.chunks.specs.Chunks.{chunk, cellAt, Masks};
 ghost use Rattle.choices.specs.Entries.{Chosen, Weighed};
-ghost use Rattle.columns.specs.Stacks.{product, stackAt, stackOf};
+ghost use Rattle.columns.specs.Stacks.{product, planes, stackAt, stackOf};
 ghost use Rattle.batching.specs.Batched.{most, cellSum};
 use chunks::CHUNK;
 use chunks::PAIR;
@@ -77,8 +77,8 @@ fn spread(v: &mut [u8], src: &[u8], from: usize)
 
 // Adds a chunk of the batched matrix to a stack, times v: it is the sum of the rows S, each times its byte χ, whose bits the words hold.
 fn absorb(t: &mut [u8], words: &[u64], base: usize, count: usize, sums: &[u8], masks: &[u8])
-    requires { ⌜ (length (now t) ≡ 15 * chunk) × ((base + 8) * count ≤ length (now words)) × (count ≤ 4) × (count * 256 * chunk ≤ length (now sums)) × (length (now masks) ≡ 8 * chunk) × (base ≤ 1000) ⌝ }
-    ensures { λ _. ⌜ ((S v : List ℕ) (χ : ℕ → ℕ) (m f z : ℕ) → Weighed S χ m (now (sums .entry)) (now (words .entry)) count base → Masks v (now (masks .entry)) → byteAt v f < 256 → f < chunk → stackAt 15 (now (t .exit)) f z ≡ bitXor (stackAt 15 (now (t .entry)) f z) (product (byteAt v f) (xorSum m (λ i. bitOf (cellAt S i f) z * χ i)))) ⌝ }
+    requires { ⌜ (length (now t) ≡ planes * chunk) × ((base + 8) * count ≤ length (now words)) × (count ≤ 4) × (count * 256 * chunk ≤ length (now sums)) × (length (now masks) ≡ 8 * chunk) × (base ≤ 1000) ⌝ }
+    ensures { λ _. ⌜ ((S v : List ℕ) (χ : ℕ → ℕ) (m f z : ℕ) → Weighed S χ m (now (sums .entry)) (now (words .entry)) count base → Masks v (now (masks .entry)) → byteAt v f < 256 → f < chunk → stackAt (now (t .exit)) f z ≡ bitXor (stackAt (now (t .entry)) f z) (product (byteAt v f) (xorSum m (λ i. bitOf (cellAt S i f) z * χ i)))) ⌝ }
 {
     let mut k = 0;
     while k < 4 {
@@ -104,9 +104,9 @@ fn absorb_lane(
     vectors: &[u8],
     first: usize,
 )
-    requires { ⌜ (e * (15 * chunk) + 15 * chunk ≤ length (now stacks)) × ((e * 8 + 8) * count ≤ length (now words)) × (count ≤ 4) × (count * 256 * chunk ≤ length (now sums)) × (e * most + most ≤ length (now vectors)) × (first + 16 ≤ most) × (e < lanes) ⌝ }
-    ensures { λ _. ⌜ ((S : List ℕ) (χ : ℕ → ℕ) (m h f z : ℕ) → Weighed S χ m (now (sums .entry)) (now (words .entry)) count (e * 8) → h < 2 → f < 16 → stackOf 15 (now (stacks .exit)) e (h * 16 + f) z ≡ bitXor (stackOf 15 (now (stacks .entry)) e (h * 16 + f) z) (product (byteAt (now (vectors .entry)) (e * most + (first + f))) (xorSum m (λ i. bitOf (cellAt S i (h * 16 + f)) z * χ i)))) ⌝ }
-    ensures { λ _. ⌜ ((q b : ℕ) → (q ≡ e → ⊥) → b < 15 * chunk → byteAt (now (stacks .exit)) (q * (15 * chunk) + b) ≡ byteAt (now (stacks .entry)) (q * (15 * chunk) + b)) ⌝ }
+    requires { ⌜ (e * (planes * chunk) + planes * chunk ≤ length (now stacks)) × ((e * 8 + 8) * count ≤ length (now words)) × (count ≤ 4) × (count * 256 * chunk ≤ length (now sums)) × (e * most + most ≤ length (now vectors)) × (first + 16 ≤ most) × (e < lanes) ⌝ }
+    ensures { λ _. ⌜ ((S : List ℕ) (χ : ℕ → ℕ) (m h f z : ℕ) → Weighed S χ m (now (sums .entry)) (now (words .entry)) count (e * 8) → h < 2 → f < 16 → stackOf (now (stacks .exit)) e (h * 16 + f) z ≡ bitXor (stackOf (now (stacks .entry)) e (h * 16 + f) z) (product (byteAt (now (vectors .entry)) (e * most + (first + f))) (xorSum m (λ i. bitOf (cellAt S i (h * 16 + f)) z * χ i)))) ⌝ }
+    ensures { λ _. ⌜ ((q b : ℕ) → (q ≡ e → ⊥) → b < planes * chunk → byteAt (now (stacks .exit)) (q * (planes * chunk) + b) ≡ byteAt (now (stacks .entry)) (q * (planes * chunk) + b)) ⌝ }
 {
     let mut v = [0u8; CHUNK];
     let mut masks = [0u8; MASKS];
@@ -133,8 +133,8 @@ fn absorb_lanes(
     vectors: &[u8],
     first: usize,
 )
-    requires { ⌜ (tau * (15 * chunk) ≤ length (now stacks)) × (tau * 8 * count ≤ length (now words)) × (count ≤ 4) × (count * 256 * chunk ≤ length (now sums)) × (tau * most ≤ length (now vectors)) × (first + 16 ≤ most) × (tau ≤ lanes) ⌝ }
-    ensures { λ _. ⌜ ((S : List ℕ) (χ : ℕ → ℕ → ℕ) (m e h f z : ℕ) → ((q : ℕ) → q < tau → Weighed S (χ q) m (now (sums .entry)) (now (words .entry)) count (q * 8)) → e < tau → h < 2 → f < 16 → stackOf 15 (now (stacks .exit)) e (h * 16 + f) z ≡ bitXor (stackOf 15 (now (stacks .entry)) e (h * 16 + f) z) (product (byteAt (now (vectors .entry)) (e * most + (first + f))) (xorSum m (λ i. bitOf (cellAt S i (h * 16 + f)) z * χ e i)))) ⌝ }
+    requires { ⌜ (tau * (planes * chunk) ≤ length (now stacks)) × (tau * 8 * count ≤ length (now words)) × (count ≤ 4) × (count * 256 * chunk ≤ length (now sums)) × (tau * most ≤ length (now vectors)) × (first + 16 ≤ most) × (tau ≤ lanes) ⌝ }
+    ensures { λ _. ⌜ ((S : List ℕ) (χ : ℕ → ℕ → ℕ) (m e h f z : ℕ) → ((q : ℕ) → q < tau → Weighed S (χ q) m (now (sums .entry)) (now (words .entry)) count (q * 8)) → e < tau → h < 2 → f < 16 → stackOf (now (stacks .exit)) e (h * 16 + f) z ≡ bitXor (stackOf (now (stacks .entry)) e (h * 16 + f) z) (product (byteAt (now (vectors .entry)) (e * most + (first + f))) (xorSum m (λ i. bitOf (cellAt S i (h * 16 + f)) z * χ e i)))) ⌝ }
 {
     let mut e = 0;
     while e < tau {
@@ -156,8 +156,8 @@ pub fn collect(
     count: usize,
     vectors: &[u8],
 )
-    requires { ⌜ (tau * (15 * chunk) ≤ length (now stacks)) × (length (now sums) ≡ 32768) × ((panel + 1) * (m * chunk) ≤ length (now cells)) × (panel * 16 + 16 ≤ most) × (0 < m) × (m ≤ 160) × (0 < tau) × (tau ≤ lanes) × (count ≡ (m + 39) / 40) × (tau * 8 * count ≤ length (now words)) × (tau * most ≤ length (now vectors)) ⌝ }
-    ensures { λ _. ⌜ ((χ : List ℕ) (e h f z : ℕ) → ((k : ℕ) → byteAt χ k < 256) → ((r : ℕ) → r < tau * 8 → Chosen χ m count (now (words .entry)) r) → e < tau → h < 2 → f < 16 → stackOf 15 (now (stacks .exit)) e (h * 16 + f) z ≡ bitXor (stackOf 15 (now (stacks .entry)) e (h * 16 + f) z) (xorSum (panel + 1) (λ q. product (byteAt (now (vectors .entry)) (e * most + (q * 16 + f))) (cellSum (now (cells .entry)) m χ e q (h * 16 + f) z)))) ⌝ }
+    requires { ⌜ (tau * (planes * chunk) ≤ length (now stacks)) × (length (now sums) ≡ 32768) × ((panel + 1) * (m * chunk) ≤ length (now cells)) × (panel * 16 + 16 ≤ most) × (0 < m) × (m ≤ 160) × (0 < tau) × (tau ≤ lanes) × (count ≡ (m + 39) / 40) × (tau * 8 * count ≤ length (now words)) × (tau * most ≤ length (now vectors)) ⌝ }
+    ensures { λ _. ⌜ ((χ : List ℕ) (e h f z : ℕ) → ((k : ℕ) → byteAt χ k < 256) → ((r : ℕ) → r < tau * 8 → Chosen χ m count (now (words .entry)) r) → e < tau → h < 2 → f < 16 → stackOf (now (stacks .exit)) e (h * 16 + f) z ≡ bitXor (stackOf (now (stacks .entry)) e (h * 16 + f) z) (xorSum (panel + 1) (λ q. product (byteAt (now (vectors .entry)) (e * most + (q * 16 + f))) (cellSum (now (cells .entry)) m χ e q (h * 16 + f) z)))) ⌝ }
 {
     let mut q = 0;
     while q <= panel {

@@ -8,16 +8,19 @@ ghost use lib.Bits.{bitXor};
 ghost use Rattle.strings.specs.Sums.{byteAt, bitOf, xorSum};
 ghost use Rattle.lanes.specs.Lanes.{lanes, laneAt};
 ghost use Rattle.chunks.specs.Chunks.{chunk};
-ghost use Rattle.columns.specs.Stacks.{alpha, product, foldOf};
+ghost use Rattle.columns.specs.Stacks.{alpha, product, planes, foldOf};
 use chunks::CHUNK;
 use field::Gf256;
 use lanes::LANES;
 
-// The bytes of a stack of 15 planes.
-pub const STACK: usize = 15 * CHUNK;
+// The planes of a stack: as many as a product of two elements has coefficients before it is reduced.
+const PLANES: usize = 15;
+
+// The bytes of a stack.
+pub const STACK: usize = PLANES * CHUNK;
 
 // The bytes of a plane of all repetitions for each plane of a stack.
-const ROWS: usize = 15 * LANES;
+const ROWS: usize = PLANES * LANES;
 
 // The sum of sixteen bytes from `at` on.
 pub fn sum_at(s: &[u8], at: usize) -> u8
@@ -55,13 +58,13 @@ fn gather_at(rows: &mut [u8], s: usize, stacks: &[u8], size: usize, at: usize, t
 }
 
 // The planes of all repetitions, each the sum of its sixteen bytes of half h.
-fn gather(rows: &mut [u8], stacks: &[u8], planes: usize, h: usize, tau: usize)
+fn gather(rows: &mut [u8], stacks: &[u8], h: usize, tau: usize)
     requires { ⌜ (length (now rows) ≡ planes * lanes) × (tau ≤ lanes) × (tau * (planes * chunk) ≤ length (now stacks)) × (h < 2) ⌝ }
     ensures { λ _. ⌜ ((s e : ℕ) → s < planes → e < tau → laneAt (now (rows .exit)) s e ≡ xorSum 16 (λ f. byteAt (now (stacks .entry)) (e * (planes * chunk) + (s * chunk + h * 16 + f)))) ⌝ }
 {
     let mut s = 0;
-    while s < planes {
-        gather_at(rows, s, stacks, planes * CHUNK, s * CHUNK + h * 16, tau);
+    while s < PLANES {
+        gather_at(rows, s, stacks, STACK, s * CHUNK + h * 16, tau);
         s += 1;
     }
 }
@@ -79,14 +82,14 @@ fn add_weighted(u: &mut [u8], row: &[u8], z: usize, weight: u8)
 }
 
 // u[e] = the value at bit z of the planes of repetition e.
-fn weigh(u: &mut [u8], rows: &[u8], planes: usize, z: usize)
+fn weigh(u: &mut [u8], rows: &[u8], z: usize)
     requires { ⌜ (length (now u) ≡ lanes) × (length (now rows) ≡ planes * lanes) × (z < 8) ⌝ }
     ensures { λ _. ⌜ ((e : ℕ) → e < lanes → byteAt (now (u .exit)) e ≡ xorSum planes (λ s. bitOf (laneAt (now (rows .entry)) s e) z * alpha s)) ⌝ }
 {
     strings::clear(u);
     let mut weight: u8 = 1;
     let mut s = 0;
-    while s < planes {
+    while s < PLANES {
         add_weighted(u, strings::row_at(rows, LANES, s), z, weight);
         weight = Gf256::multiply(2, weight);
         s += 1;
@@ -127,13 +130,13 @@ fn add_column(
     xs: &[u8],
     polar: bool,
 )
-    requires { ⌜ (length (now quad) ≡ lanes) × (length (now mid) ≡ lanes) × (length (now rows) ≡ 15 * lanes) × (z < 8) × (length (now table) ≡ n * lanes) × (c < length (now xs)) × (byteAt (now xs) c < 2) ⌝ }
-    ensures { λ _. ⌜ ((e : ℕ) → e < lanes → byteAt (now (quad .exit)) e ≡ bitXor (byteAt (now (quad .entry)) e) (product (laneAt (now (table .entry)) c e) (xorSum 15 (λ s. bitOf (laneAt (now (rows .entry)) s e) z * alpha s)))) ⌝ }
-    ensures { λ _. ⌜ (polar ≡ true → (e : ℕ) → e < lanes → byteAt (now (mid .exit)) e ≡ bitXor (byteAt (now (mid .entry)) e) (byteAt (now (xs .entry)) c * xorSum 15 (λ s. bitOf (laneAt (now (rows .entry)) s e) z * alpha s))) ⌝ }
+    requires { ⌜ (length (now quad) ≡ lanes) × (length (now mid) ≡ lanes) × (length (now rows) ≡ planes * lanes) × (z < 8) × (length (now table) ≡ n * lanes) × (c < length (now xs)) × (byteAt (now xs) c < 2) ⌝ }
+    ensures { λ _. ⌜ ((e : ℕ) → e < lanes → byteAt (now (quad .exit)) e ≡ bitXor (byteAt (now (quad .entry)) e) (product (laneAt (now (table .entry)) c e) (xorSum planes (λ s. bitOf (laneAt (now (rows .entry)) s e) z * alpha s)))) ⌝ }
+    ensures { λ _. ⌜ (polar ≡ true → (e : ℕ) → e < lanes → byteAt (now (mid .exit)) e ≡ bitXor (byteAt (now (mid .entry)) e) (byteAt (now (xs .entry)) c * xorSum planes (λ s. bitOf (laneAt (now (rows .entry)) s e) z * alpha s))) ⌝ }
     ensures { λ _. ⌜ (polar ≡ false → now (mid .exit) ≡ now (mid .entry)) ⌝ }
 {
     let mut u = [0u8; LANES];
-    weigh(&mut u, rows, 15, z);
+    weigh(&mut u, rows, z);
     add_product(quad, c, n, table, &u);
     add_polar(mid, &u, c, xs, polar);
 }
@@ -149,9 +152,9 @@ fn add_columns(
     xs: &[u8],
     polar: bool,
 )
-    requires { ⌜ (length (now quad) ≡ lanes) × (length (now mid) ≡ lanes) × (length (now rows) ≡ 15 * lanes) × (length (now table) ≡ n * lanes) × (first + 8 ≤ length (now xs)) × ((c : ℕ) → byteAt (now xs) c < 2) ⌝ }
-    ensures { λ _. ⌜ ((e : ℕ) → e < lanes → byteAt (now (quad .exit)) e ≡ bitXor (byteAt (now (quad .entry)) e) (xorSum 8 (λ z. product (laneAt (now (table .entry)) (first + z) e) (xorSum 15 (λ s. bitOf (laneAt (now (rows .entry)) s e) z * alpha s))))) ⌝ }
-    ensures { λ _. ⌜ (polar ≡ true → (e : ℕ) → e < lanes → byteAt (now (mid .exit)) e ≡ bitXor (byteAt (now (mid .entry)) e) (xorSum 8 (λ z. byteAt (now (xs .entry)) (first + z) * xorSum 15 (λ s. bitOf (laneAt (now (rows .entry)) s e) z * alpha s)))) ⌝ }
+    requires { ⌜ (length (now quad) ≡ lanes) × (length (now mid) ≡ lanes) × (length (now rows) ≡ planes * lanes) × (length (now table) ≡ n * lanes) × (first + 8 ≤ length (now xs)) × ((c : ℕ) → byteAt (now xs) c < 2) ⌝ }
+    ensures { λ _. ⌜ ((e : ℕ) → e < lanes → byteAt (now (quad .exit)) e ≡ bitXor (byteAt (now (quad .entry)) e) (xorSum 8 (λ z. product (laneAt (now (table .entry)) (first + z) e) (xorSum planes (λ s. bitOf (laneAt (now (rows .entry)) s e) z * alpha s))))) ⌝ }
+    ensures { λ _. ⌜ (polar ≡ true → (e : ℕ) → e < lanes → byteAt (now (mid .exit)) e ≡ bitXor (byteAt (now (mid .entry)) e) (xorSum 8 (λ z. byteAt (now (xs .entry)) (first + z) * xorSum planes (λ s. bitOf (laneAt (now (rows .entry)) s e) z * alpha s)))) ⌝ }
     ensures { λ _. ⌜ (polar ≡ false → now (mid .exit) ≡ now (mid .entry)) ⌝ }
 {
     let mut z = 0;
@@ -174,15 +177,15 @@ pub fn finish(
     xs: &[u8],
     polar: bool,
 )
-    requires { ⌜ (length (now quad) ≡ lanes) × (length (now mid) ≡ lanes) × (tau ≤ lanes) × (tau * (15 * chunk) ≤ length (now stacks)) × (length (now table) ≡ n * lanes) × (panel * 16 + 16 ≤ length (now xs)) × ((c : ℕ) → byteAt (now xs) c < 2) × (n ≤ 160) ⌝ }
-    ensures { λ _. ⌜ ((e : ℕ) → e < tau → byteAt (now (quad .exit)) e ≡ bitXor (byteAt (now (quad .entry)) e) (xorSum 16 (λ s. product (laneAt (now (table .entry)) (panel * 16 + s) e) (foldOf 15 (now (stacks .entry)) e (s / 8) (s % 8))))) ⌝ }
-    ensures { λ _. ⌜ (polar ≡ true → (e : ℕ) → e < tau → byteAt (now (mid .exit)) e ≡ bitXor (byteAt (now (mid .entry)) e) (xorSum 16 (λ s. byteAt (now (xs .entry)) (panel * 16 + s) * foldOf 15 (now (stacks .entry)) e (s / 8) (s % 8)))) ⌝ }
+    requires { ⌜ (length (now quad) ≡ lanes) × (length (now mid) ≡ lanes) × (tau ≤ lanes) × (tau * (planes * chunk) ≤ length (now stacks)) × (length (now table) ≡ n * lanes) × (panel * 16 + 16 ≤ length (now xs)) × ((c : ℕ) → byteAt (now xs) c < 2) × (n ≤ 160) ⌝ }
+    ensures { λ _. ⌜ ((e : ℕ) → e < tau → byteAt (now (quad .exit)) e ≡ bitXor (byteAt (now (quad .entry)) e) (xorSum 16 (λ s. product (laneAt (now (table .entry)) (panel * 16 + s) e) (foldOf (now (stacks .entry)) e (s / 8) (s % 8))))) ⌝ }
+    ensures { λ _. ⌜ (polar ≡ true → (e : ℕ) → e < tau → byteAt (now (mid .exit)) e ≡ bitXor (byteAt (now (mid .entry)) e) (xorSum 16 (λ s. byteAt (now (xs .entry)) (panel * 16 + s) * foldOf (now (stacks .entry)) e (s / 8) (s % 8)))) ⌝ }
     ensures { λ _. ⌜ (polar ≡ false → now (mid .exit) ≡ now (mid .entry)) ⌝ }
 {
     let mut h = 0;
     while h < 2 {
         let mut rows = [0u8; ROWS];
-        gather(&mut rows, stacks, 15, h, tau);
+        gather(&mut rows, stacks, h, tau);
         add_columns(quad, mid, &rows, panel * 16 + h * 8, n, table, xs, polar);
         h += 1;
     }

@@ -14,25 +14,25 @@ use Rattle.strings.proofs.SumLaws.{sum-same, sum-both, sum-put, xor-scale}
 use Rattle.strings.proofs.Meaning.{bitOf-lt, bitOf-xor, times-bit}
 use Rattle.chunks.specs.Chunks.{cellAt}
 use Rattle.chunks.proofs.BitSumLaws.{bit-sum}
-use Rattle.columns.specs.Stacks.{alpha, product, stackAt}
+use Rattle.columns.specs.Stacks.{alpha, product, planes, stackAt}
 use Rattle.columns.proofs.ProductLaws.{alpha-add, byte-bits, product-bits}
 
 -- a byte in a plane
-cell-added : (P : ℕ) (t t′ : List ℕ) (s d f z : ℕ) → s < P → cellAt t′ s f ≡ bitXor (cellAt t s f) d → ((q : ℕ) → (q ≡ s → ⊥) → cellAt t′ q f ≡ cellAt t q f)
-    → stackAt P t′ f z ≡ bitXor (stackAt P t f z) (bitOf d z * alpha s)
-cell-added P t t′ s d f z h here there =
-    sum-put P s (bitOf d z * alpha s) (λ q. bitOf (cellAt t q f) z * alpha q) (λ q. bitOf (cellAt t′ q f) z * alpha q)
+cell-added : (t t′ : List ℕ) (s d f z : ℕ) → s < planes → cellAt t′ s f ≡ bitXor (cellAt t s f) d → ((q : ℕ) → (q ≡ s → ⊥) → cellAt t′ q f ≡ cellAt t q f)
+    → stackAt t′ f z ≡ bitXor (stackAt t f z) (bitOf d z * alpha s)
+cell-added t t′ s d f z h here there =
+    sum-put planes s (bitOf d z * alpha s) (λ q. bitOf (cellAt t q f) z * alpha q) (λ q. bitOf (cellAt t′ q f) z * alpha q)
     (ap (λ y. y * alpha s) (ap (λ y. bitOf y z) here ∙ bitOf-xor (cellAt t s f) d z) ∙ xor-scale (bitOf (cellAt t s f) z) (bitOf d z) (alpha s) (bitOf-lt _ z) (bitOf-lt d z))
     (λ q other. ap (λ y. bitOf y z * alpha q) (there q other))
-    ∙ ap (λ b. bitXor (stackAt P t f z) (cond b 1 0 * (bitOf d z * alpha s))) (ltb-yes s P h)
-    ∙ ap (bitXor (stackAt P t f z)) (one-mul (bitOf d z * alpha s))
+    ∙ ap (λ b. bitXor (stackAt t f z) (cond b 1 0 * (bitOf d z * alpha s))) (ltb-yes s planes h)
+    ∙ ap (bitXor (stackAt t f z)) (one-mul (bitOf d z * alpha s))
 
 -- the same, where it is x under the mask of the bit q
-pub masked-added : (P : ℕ) (t t′ : List ℕ) (s x mask q f z : ℕ) → s < P → x < 256 → q < 2 → mask ≡ q * 255 → cellAt t′ s f ≡ bitXor (cellAt t s f) (bitAnd x mask)
-    → ((r : ℕ) → (r ≡ s → ⊥) → cellAt t′ r f ≡ cellAt t r f) → stackAt P t′ f z ≡ bitXor (stackAt P t f z) (q * (bitOf x z * alpha s))
-masked-added P t t′ s x mask q f z h hx hq is here there =
-    cell-added P t t′ s (x * q) f z h (here ∙ ap (bitXor (cellAt t s f)) (ap (bitAnd x) is ∙ mask-times q x hq hx)) there
-    ∙ ap (bitXor (stackAt P t f z)) (ap (λ y. y * alpha s) (times-bit q x z hq ∙ mul-comm (bitOf x z) q) ∙ mul-assoc q (bitOf x z) (alpha s))
+pub masked-added : (t t′ : List ℕ) (s x mask q f z : ℕ) → s < planes → x < 256 → q < 2 → mask ≡ q * 255 → cellAt t′ s f ≡ bitXor (cellAt t s f) (bitAnd x mask)
+    → ((r : ℕ) → (r ≡ s → ⊥) → cellAt t′ r f ≡ cellAt t r f) → stackAt t′ f z ≡ bitXor (stackAt t f z) (q * (bitOf x z * alpha s))
+masked-added t t′ s x mask q f z h hx hq is here there =
+    cell-added t t′ s (x * q) f z h (here ∙ ap (bitXor (cellAt t s f)) (ap (bitAnd x) is ∙ mask-times q x hq hx)) there
+    ∙ ap (bitXor (stackAt t f z)) (ap (λ y. y * alpha s) (times-bit q x z hq ∙ mul-comm (bitOf x z) q) ∙ mul-assoc q (bitOf x z) (alpha s))
 
 -- one after the other
 pub two-added : (a b c d e : ℕ) → b ≡ bitXor a d → c ≡ bitXor b e → c ≡ bitXor a (bitXor d e)

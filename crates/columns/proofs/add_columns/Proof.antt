@@ -12,13 +12,13 @@ use lib.Bits.{bitXor, xor-zero-r}
 use Rattle.strings.specs.Sums.{byteAt, bitOf, xorSum}
 use Rattle.strings.proofs.SumLaws.{sum-step}
 use Rattle.lanes.specs.Lanes.{lanes, laneAt}
-use Rattle.columns.specs.Stacks.{alpha, product}
+use Rattle.columns.specs.Stacks.{alpha, product, planes}
 use Rattle.columns.proofs.add_columns.Statement.{statement}
 use Rattle.columns.proofs.add_columns.Tie as tie
 
 -- the value of column z, and what it adds
 abbrev value : List ℕ → ℕ → ℕ → ℕ
-value rows e z = xorSum 15 (λ s. bitOf (laneAt rows s e) z * alpha s)
+value rows e z = xorSum planes (λ s. bitOf (laneAt rows s e) z * alpha s)
 
 abbrev quadTerm : List ℕ → List ℕ → ℕ → ℕ → ℕ → ℕ
 quadTerm rows table first e z = product (laneAt table (first + z) e) (value rows e z)

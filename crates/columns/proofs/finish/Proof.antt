@@ -14,14 +14,14 @@ use lib.Bits.{bitXor, xor-zero-r}
 use Rattle.strings.specs.Sums.{byteAt, bitOf, xorSum}
 use Rattle.lanes.specs.Lanes.{lanes, laneAt}
 use Rattle.chunks.specs.Chunks.{chunk}
-use Rattle.columns.specs.Stacks.{alpha, product, foldOf}
+use Rattle.columns.specs.Stacks.{alpha, product, planes, foldOf}
 use Rattle.columns.proofs.ColumnLaws.{fold-is, eight-more}
 use Rattle.columns.proofs.finish.Statement.{statement}
 use Rattle.columns.proofs.finish.Tie as tie
 
 -- the value of column s of a panel, and what it adds
 abbrev column : List ℕ → ℕ → ℕ → ℕ
-column T e s = foldOf 15 T e (s / 8) (s % 8)
+column T e s = foldOf T e (s / 8) (s % 8)
 
 abbrev quadTerm : List ℕ → ℕ → List ℕ → ℕ → ℕ → ℕ
 quadTerm stacks panel table e s = product (laneAt table (panel * 16 + s) e) (column stacks e s)
@@ -29,9 +29,9 @@ quadTerm stacks panel table e s = product (laneAt table (panel * 16 + s) e) (col
 abbrev midTerm : List ℕ → ℕ → List ℕ → ℕ → ℕ → ℕ
 midTerm stacks panel xs e s = byteAt xs (panel * 16 + s) * column stacks e s
 
-column-is : (rows T : List ℕ) (e h z : ℕ) → z < 8 → ((s : ℕ) → s < 15 → laneAt rows s e ≡ xorSum 16 (λ f. byteAt T (e * (15 * chunk) + (s * chunk + h * 16 + f))))
-    → xorSum 15 (λ s. bitOf (laneAt rows s e) z * alpha s) ≡ column T e (h * 8 + z)
-column-is rows T e h z k are = fold-is 15 rows T e h z are ∙ sym (ap₂ (foldOf 15 T e) (digits-div h k) (digits-mod h k))
+column-is : (rows T : List ℕ) (e h z : ℕ) → z < 8 → ((s : ℕ) → s < planes → laneAt rows s e ≡ xorSum 16 (λ f. byteAt T (e * (planes * chunk) + (s * chunk + h * 16 + f))))
+    → xorSum planes (λ s. bitOf (laneAt rows s e) z * alpha s) ≡ column T e (h * 8 + z)
+column-is rows T e h z k are = fold-is rows T e h z are ∙ sym (ap₂ (foldOf T e) (digits-div h k) (digits-mod h k))
 
 abbrev Inv-loop : tie.InvT-loop
 Inv-loop quad₀ mid₀ stacks panel tau n table xs polar h₀ quad mid h = (h ≤ 2) × (length quad ≡ lanes) × (length mid ≡ lanes) × ((e : ℕ) → e < tau → byteAt quad e ≡ bitXor (byteAt quad₀ e) (xorSum (h * 8) (quadTerm stacks panel table e))) × (polar ≡ true → (e : ℕ) → e < tau → byteAt mid e ≡ bitXor (byteAt mid₀ e) (xorSum (h * 8) (midTerm stacks panel xs e))) × (polar ≡ false → mid ≡ mid₀)
@@ -81,7 +81,7 @@ loop-again c =
     let most : a .tau ≤ lanes = c .before .before .before .before .before .before .before .before .before .before .before .before .before .before .before .before .before .before .pre .2 in
     let rows = c .before .before .before .before .before .before .before .before .before .gather in
     let done = c .before .before .before .before .add-columns in
-    let value : (e : ℕ) → e < a .tau → (z : ℕ) → z < 8 → xorSum 15 (λ s. bitOf (laneAt (rows .last .0) s e) z * alpha s) ≡ column (now (a .stacks)) e (l .h * 8 + z) =
+    let value : (e : ℕ) → e < a .tau → (z : ℕ) → z < 8 → xorSum planes (λ s. bitOf (laneAt (rows .last .0) s e) z * alpha s) ≡ column (now (a .stacks)) e (l .h * 8 + z) =
     λ e h z k. column-is (rows .last .0) (now (a .stacks)) e (l .h) z k (λ s q. rows .ensures s e q h) in
     let place = add-assoc (a .panel * 16) (l .h * 8) in (
       omega (arith, c .before .before .before .before .before .before .before .before .before .before .before .loop-test .taken),

@@ -11,14 +11,15 @@ use lib.ListN.{length}
 use Rattle.strings.specs.Sums.{byteAt, xorSum}
 use Rattle.lanes.specs.Lanes.{lanes, laneAt}
 use Rattle.chunks.specs.Chunks.{chunk}
+use Rattle.columns.specs.Stacks.{planes}
 use Rattle.columns.proofs.gather.Statement.{statement}
 use Rattle.columns.proofs.gather.Tie as tie
 
 abbrev Inv-loop : tie.InvT-loop
-Inv-loop rows₀ stacks planes h tau s₀ rows s = (s ≤ planes) × (length rows ≡ planes * lanes) × ((q e : ℕ) → q < s → e < tau → laneAt rows q e ≡ xorSum 16 (λ f. byteAt stacks (e * (planes * chunk) + (q * chunk + h * 16 + f))))
+Inv-loop rows₀ stacks h tau s₀ rows s = (s ≤ planes) × (length rows ≡ planes * lanes) × ((q e : ℕ) → q < s → e < tau → laneAt rows q e ≡ xorSum 16 (λ f. byteAt stacks (e * (planes * chunk) + (q * chunk + h * 16 + f))))
 
 abbrev μ-loop : tie.MeasureT-loop
-μ-loop rows₀ stacks planes h tau s₀ rows s = planes - s
+μ-loop rows₀ stacks h tau s₀ rows s = planes - s
 
 loop-holds : tie.Need-loop-holds Inv-loop μ-loop
 loop-holds c =
@@ -29,9 +30,6 @@ mul-gather-at c = search needs
 
 mul-gather-at-2 : tie.Need-mul-gather-at-2 Inv-loop μ-loop
 mul-gather-at-2 c = search needs
-
-mul-gather-at-3 : tie.Need-mul-gather-at-3 Inv-loop μ-loop
-mul-gather-at-3 c = search needs
 
 add-gather-at : tie.Need-add-gather-at Inv-loop μ-loop
 add-gather-at c = search needs
@@ -73,7 +71,6 @@ gather-spec =
     loop-holds
     mul-gather-at
     mul-gather-at-2
-    mul-gather-at-3
     add-gather-at
     gather-at-requires
     add-s

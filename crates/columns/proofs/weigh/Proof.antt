@@ -12,16 +12,16 @@ use Rattle.strings.specs.Sums.{byteAt, bitOf, xorSum}
 use Rattle.strings.proofs.Rows.{row-byte}
 use Rattle.strings.proofs.SumLaws.{sum-more}
 use Rattle.lanes.specs.Lanes.{lanes, laneAt}
-use Rattle.columns.specs.Stacks.{alpha, product}
+use Rattle.columns.specs.Stacks.{alpha, product, planes}
 use Rattle.columns.proofs.ProductLaws.{alpha-zero, alpha-more}
 use Rattle.columns.proofs.weigh.Statement.{statement}
 use Rattle.columns.proofs.weigh.Tie as tie
 
 abbrev Inv-loop : tie.InvT-loop
-Inv-loop u₀ rows planes z weight₀ s₀ u weight s = (s ≤ planes) × (length u ≡ lanes) × (weight ≡ alpha s) × ((e : ℕ) → e < lanes → byteAt u e ≡ xorSum s (λ i. bitOf (laneAt rows i e) z * alpha i))
+Inv-loop u₀ rows z weight₀ s₀ u weight s = (s ≤ planes) × (length u ≡ lanes) × (weight ≡ alpha s) × ((e : ℕ) → e < lanes → byteAt u e ≡ xorSum s (λ i. bitOf (laneAt rows i e) z * alpha i))
 
 abbrev μ-loop : tie.MeasureT-loop
-μ-loop u₀ rows planes z weight₀ s₀ u weight s = planes - s
+μ-loop u₀ rows z weight₀ s₀ u weight s = planes - s
 
 clear-requires : tie.Need-clear-requires Inv-loop μ-loop
 clear-requires c κs = search needs
@@ -70,7 +70,7 @@ same-length c = search needs
 returns : tie.Need-returns Inv-loop μ-loop
 returns c e h =
     let l = c .before .loop in
-    let end : l .s ≡ c .before .before .before .before .before .before .before .before .args .planes = omega arith in
+    let end : l .s ≡ planes = omega arith in
     (rw end at (l .inv .3)) e h
 
 pub weigh-spec : {M : Type 1} → statement M

@@ -12,7 +12,7 @@ use lib.Bits.{bitXor}
 use Rattle.strings.specs.Sums.{byteAt, bitOf}
 use Rattle.strings.proofs.SumLaws.{sum-same}
 use Rattle.chunks.specs.Chunks.{chunk, cellAt, Masks}
-use Rattle.columns.specs.Stacks.{alpha, product, stackAt}
+use Rattle.columns.specs.Stacks.{alpha, product, planes, stackAt}
 use Rattle.planes.proofs.absorb_planes.Statement.{statement}
 use Rattle.planes.proofs.absorb_planes.Tie as tie
 
@@ -21,8 +21,8 @@ abbrev term : List ℕ → ℕ → List ℕ → ℕ → ℕ → ℕ
 term both p v f z = bitXor (bitOf (cellAt both 0 f) z * product (alpha p) (byteAt v f)) (bitOf (cellAt both 1 f) z * product (alpha (p + 1)) (byteAt v f))
 
 -- bytes at one place make the stack there
-stack-same : (t t′ : List ℕ) (f z : ℕ) → ((q : ℕ) → cellAt t′ q f ≡ cellAt t q f) → stackAt 15 t′ f z ≡ stackAt 15 t f z
-stack-same t t′ f z same = sum-same 15 _ _ (λ s l. ap (λ x. bitOf x z * alpha s) (same s))
+stack-same : (t t′ : List ℕ) (f z : ℕ) → ((q : ℕ) → cellAt t′ q f ≡ cellAt t q f) → stackAt t′ f z ≡ stackAt t f z
+stack-same t t′ f z same = sum-same planes _ _ (λ s l. ap (λ x. bitOf x z * alpha s) (same s))
 
 split : (g f : ℕ) (P : Type 0) → g < f + 1 → (g < f → P) → (g ≡ f → P) → P
 split g f P h below here = go (decLt g f)
@@ -32,7 +32,7 @@ split g f P h below here = go (decLt g f)
     go (no k) = here (omega arith)
 
 abbrev Inv-loop : tie.InvT-loop
-Inv-loop t₀ p both masks f₀ t f = (f ≤ chunk) × (length t ≡ 15 * chunk) × ((v : List ℕ) (g z : ℕ) → Masks v masks → byteAt v g < 256 → g < f → stackAt 15 t g z ≡ bitXor (stackAt 15 t₀ g z) (term both p v g z)) × ((q g : ℕ) → f ≤ g → g < chunk → cellAt t q g ≡ cellAt t₀ q g)
+Inv-loop t₀ p both masks f₀ t f = (f ≤ chunk) × (length t ≡ planes * chunk) × ((v : List ℕ) (g z : ℕ) → Masks v masks → byteAt v g < 256 → g < f → stackAt t g z ≡ bitXor (stackAt t₀ g z) (term both p v g z)) × ((q g : ℕ) → f ≤ g → g < chunk → cellAt t q g ≡ cellAt t₀ q g)
 
 abbrev μ-loop : tie.MeasureT-loop
 μ-loop t₀ p both masks f₀ t f = chunk - f
@@ -73,14 +73,14 @@ loop-again c =
     let lt : f < chunk = omega (arith, c .before .before .before .before .before .before .loop-test .taken) in
     let front : f ≡ 0 * chunk + f = omega arith in
     let back : chunk + f ≡ 1 * chunk + f = omega arith in
-    let here : (v : List ℕ) (z : ℕ) → Masks v (now (a .masks)) → byteAt v f < 256 → stackAt 15 t′ f z ≡ bitXor (stackAt 15 t₀ f z) (term both (a .p) v f z) =
+    let here : (v : List ℕ) (z : ℕ) → Masks v (now (a .masks)) → byteAt v f < 256 → stackAt t′ f z ≡ bitXor (stackAt t₀ f z) (term both (a .p) v f z) =
     λ v z masks hv.
     done .ensures .0 (byteAt v f) z (λ b k. masks b f k lt) hv
     ∙ ap (λ (x : ℕ). bitXor x (bitXor (bitOf (byteAt both f) z * product (alpha (a .p)) (byteAt v f)) (bitOf (byteAt both (chunk + f)) z * product (alpha (a .p + 1)) (byteAt v f)))) (stack-same t₀ t f z (λ q. l .inv .3 q f (omega arith) lt))
-    ∙ ap₂ (λ (j k : ℕ). bitXor (stackAt 15 t₀ f z) (bitXor (bitOf (byteAt both j) z * product (alpha (a .p)) (byteAt v f)) (bitOf (byteAt both k) z * product (alpha (a .p + 1)) (byteAt v f)))) front back in (
+    ∙ ap₂ (λ (j k : ℕ). bitXor (stackAt t₀ f z) (bitXor (bitOf (byteAt both j) z * product (alpha (a .p)) (byteAt v f)) (bitOf (byteAt both k) z * product (alpha (a .p + 1)) (byteAt v f)))) front back in (
       omega (arith, lt),
       done .kept .0 ∙ l .inv .1,
-      (λ v g z masks hv h. split g f (stackAt 15 t′ g z ≡ bitXor (stackAt 15 t₀ g z) (term both (a .p) v g z)) h (λ below. stack-same t t′ g z (λ q. done .ensures .1 q g (λ e. omega arith) (omega arith)) ∙ l .inv .2 v g z masks hv below) (λ e. rw e (here v z masks (rw e at hv)))),
+      (λ v g z masks hv h. split g f (stackAt t′ g z ≡ bitXor (stackAt t₀ g z) (term both (a .p) v g z)) h (λ below. stack-same t t′ g z (λ q. done .ensures .1 q g (λ e. omega arith) (omega arith)) ∙ l .inv .2 v g z masks hv below) (λ e. rw e (here v z masks (rw e at hv)))),
       (λ q g h k. done .ensures .1 q g (λ e. omega arith) k ∙ l .inv .3 q g (omega arith) k),
     )
 

@@ -16,7 +16,7 @@ use Rattle.lanes.specs.Lanes.{laneAt}
 use Rattle.chunks.specs.Chunks.{chunk}
 use Rattle.choices.specs.Entries.{Chosen}
 use Rattle.folds.specs.Folds.{Folded}
-use Rattle.columns.specs.Stacks.{product, stackOf, foldOf}
+use Rattle.columns.specs.Stacks.{product, planes, stackOf, foldOf}
 use Rattle.columns.proofs.ProductLaws.{product-zero}
 use Rattle.batching.specs.Batched.{most, cellSum, leftSum}
 use Rattle.batching.proofs.StackLaws.{stack-none, lane-past}
@@ -29,8 +29,8 @@ no-polar : (J : ℕ) (x L : ℕ → ℕ) → ((c : ℕ) → x c ≡ 0) → xorSu
 no-polar J x L none = sum-same 16 _ (λ s. 0) (λ s l. ap (λ v. product v (L (J * 16 + s))) (none (J * 16 + s)) ∙ product-zero _) ∙ sum-none 16
 
 -- the stacks that were cleared
-cleared : (r l : List ℕ) (k : ℕ) → length r ≡ k → ((b : ℕ) → b < length r → byteAt r b ≡ 0) → (e f z : ℕ) → e * (15 * chunk) + 15 * chunk ≤ k → f < chunk → stackOf 15 (r ++ l) e f z ≡ 0
-cleared r l k long zero e f z h hf = stack-none 15 (r ++ l) e f z hf (λ b hb. List·getD-append r l 0 (e * (15 * chunk) + b) (omega arith) ∙ zero (e * (15 * chunk) + b) (omega arith))
+cleared : (r l : List ℕ) (k : ℕ) → length r ≡ k → ((b : ℕ) → b < length r → byteAt r b ≡ 0) → (e f z : ℕ) → e * (planes * chunk) + planes * chunk ≤ k → f < chunk → stackOf (r ++ l) e f z ≡ 0
+cleared r l k long zero e f z h hf = stack-none (r ++ l) e f z hf (λ b hb. List·getD-append r l 0 (e * (planes * chunk) + b) (omega arith) ∙ zero (e * (planes * chunk) + b) (omega arith))
 
 either : (p : Bool) (P : Type 0) → (p ≡ true → P) → (p ≡ false → P) → P
 either true P on off = on refl
@@ -52,7 +52,7 @@ collect-requires : tie.Need-collect-requires
 collect-requires c κs =
     let a = c .before .before .before .before .before .before .before .before .before .before .before .before .before .before .before .args in
     let pre = c .before .before .before .before .before .before .before .before .before .before .before .before .before .before .before .pre .0 in
-    let k : ℕ = a .tau * (15 * chunk) in
+    let k : ℕ = a .tau * (planes * chunk) in
     let r = c .before .before .before .before .clear .last .0 in
     let front : length r ≡ k = c .before .before .before .before .clear .kept .0 ∙ length-take-le k (now (a .stacks)) (pre .13) in
     let whole : k ≤ length (r ++ drop k (now (a .stacks))) = rw (length-append r (drop k (now (a .stacks)))) (omega (arith, front)) in
@@ -63,7 +63,7 @@ finish-requires c κs =
     let a = c .before .before .before .before .before .before .before .before .before .before .before .before .before .before .before .before .before .before .before .before .before .before .before .args in
     let pre = c .before .before .before .before .before .before .before .before .before .before .before .before .before .before .before .before .before .before .before .before .before .before .before .pre .0 in
     let more = c .before .before .before .before .before .before .before .before .before .before .before .before .before .before .before .before .before .before .before .before .before .before .before .pre .1 in
-    let k : ℕ = a .tau * (15 * chunk) in
+    let k : ℕ = a .tau * (planes * chunk) in
     let r = c .before .before .before .before .before .before .before .before .before .before .before .before .clear .last .0 in
     let front : length r ≡ k = c .before .before .before .before .before .before .before .before .before .before .before .before .clear .kept .0 ∙ length-take-le k (now (a .stacks)) (pre .13) in
     let whole : k ≤ length (r ++ drop k (now (a .stacks))) = rw (length-append r (drop k (now (a .stacks)))) (omega (arith, front)) in
@@ -92,15 +92,15 @@ returns c =
     let xs = now (a .xs) in
     let J = a .panel in
     let cells = now (a .cells) in
-    let k : ℕ = a .tau * (15 * chunk) in
+    let k : ℕ = a .tau * (planes * chunk) in
     let r = c .before .before .before .before .before .before .before .before .before .before .before .before .before .before .before .before .before .clear .last .0 in
     let front : length r ≡ k = c .before .before .before .before .before .before .before .before .before .before .before .before .before .before .before .before .before .clear .kept .0 ∙ length-take-le k (now (a .stacks)) (pre .13) in
     let empty = cleared r (drop k (now (a .stacks))) k front (λ b h. c .before .before .before .before .before .before .before .before .before .before .before .before .before .before .before .before .before .clear .ensures b (omega (arith, h, c .before .before .before .before .before .before .before .before .before .before .before .before .before .before .before .before .before .clear .kept .0))) in
     let gone : (e ρ : ℕ) → a .n ≤ ρ → laneAt T ρ e ≡ 0 = λ e ρ h. lane-past T (a .n) ρ e (pre .11) h in
     let column : (A χ : List ℕ) (w e s : ℕ) → Folded (a .n) w (a .m) A J cells → ((k : ℕ) → byteAt χ k < 256) → ((r : ℕ) → r < a .tau * 8 → Chosen χ (a .m) (a .count) (now (a .words)) r) → e < a .tau → s < 16 → J * 16 + s < a .n
-    → foldOf 15 (collected .last .0) e (s / 8) (s % 8) ≡ leftSum w (a .n * w) (a .m) A χ e (λ ρ. laneAt T ρ e) J (J * 16 + s) =
+    → foldOf (collected .last .0) e (s / 8) (s % 8) ≡ leftSum w (a .n * w) (a .m) A χ e (λ ρ. laneAt T ρ e) J (J * 16 + s) =
     λ A χ w e s folded small chosen he hs col.
-    fold-is (a .n) w (a .m) A χ cells e J folded (λ ρ. laneAt T ρ e) (gone e) 15 (collected .last .0) s hs col
+    fold-is (a .n) w (a .m) A χ cells e J folded (λ ρ. laneAt T ρ e) (gone e) (collected .last .0) s hs col
     (λ f hf.
     collected .ensures χ e (s / 8) f (s % 8) small chosen he (omega arith) hf
     ∙ ap (λ (x : ℕ). bitXor x (xorSum (J + 1) (λ q. product (byteAt (now (a .vectors)) (e * most + (q * 16 + f))) (cellSum cells (a .m) χ e q (s / 8 * 16 + f) (s % 8))))) (empty e (s / 8 * 16 + f) (s % 8) (omega (arith, he)) (omega (arith, hs, hf)))
@@ -109,14 +109,14 @@ returns c =
       (λ A χ w e folded small chosen he.
           finished .ensures .0 e he
           ∙ ap (bitXor (byteAt (now (a .quad)) e))
-          (sum-same 16 _ _ (λ s hs. column-is (a .n) w (a .m) A χ cells e J folded (λ ρ. laneAt T ρ e) (gone e) (laneAt T (J * 16 + s) e) (foldOf 15 (collected .last .0) e (s / 8) (s % 8)) (J * 16 + s) (gone e (J * 16 + s)) (column A χ w e s folded small chosen he hs)))),
+          (sum-same 16 _ _ (λ s hs. column-is (a .n) w (a .m) A χ cells e J folded (λ ρ. laneAt T ρ e) (gone e) (laneAt T (J * 16 + s) e) (foldOf (collected .last .0) e (s / 8) (s % 8)) (J * 16 + s) (gone e (J * 16 + s)) (column A χ w e s folded small chosen he hs)))),
       (λ A χ w e folded small chosen he.
           either (a .polar) _
           (λ on.
           finished .ensures .1 .0 on e he
           ∙ ap (bitXor (byteAt (now (a .mid)) e))
           (sum-same 16 _ _ (λ s hs.
-          bit-column-is (a .n) w (a .m) A χ cells e J folded (λ ρ. laneAt T ρ e) (gone e) (byteAt xs (J * 16 + s)) (foldOf 15 (collected .last .0) e (s / 8) (s % 8)) (J * 16 + s) (more .2 (J * 16 + s)) (more .3 (J * 16 + s)) (column A χ w e s folded small chosen he hs))))
+          bit-column-is (a .n) w (a .m) A χ cells e J folded (λ ρ. laneAt T ρ e) (gone e) (byteAt xs (J * 16 + s)) (foldOf (collected .last .0) e (s / 8) (s % 8)) (J * 16 + s) (more .2 (J * 16 + s)) (more .3 (J * 16 + s)) (column A χ w e s folded small chosen he hs))))
           (λ off.
           ap (λ (r : List ℕ). byteAt r e) (finished .ensures .1 .1 off)
           ∙ sym (ap (bitXor (byteAt (now (a .mid)) e)) (no-polar J (byteAt xs) (leftSum w (a .n * w) (a .m) A χ e (λ ρ. laneAt T ρ e) J) (more .5 off)) ∙ xor-zero-r (byteAt (now (a .mid)) e)))),

@@ -17,7 +17,7 @@ use Rattle.strings.proofs.Meaning.{bitOf-lt, bitOf-sum, bit-times}
 use Rattle.chunks.specs.Chunks.{chunk, cellAt, Masks}
 use Rattle.choices.specs.Entries.{eightByte, Weighed}
 use Rattle.choices.proofs.ChoiceLaws.{chosen-sum}
-use Rattle.columns.specs.Stacks.{alpha, product, stackAt}
+use Rattle.columns.specs.Stacks.{alpha, product, planes, stackAt}
 use Rattle.batching.proofs.StackLaws.{planes-added}
 use Rattle.batching.proofs.stacks.absorb.Statement.{statement}
 use Rattle.batching.proofs.stacks.absorb.Tie as tie
@@ -48,7 +48,7 @@ step-two a s k f h =
     sym (xor-assoc s (f (2 * k)) (f (2 * k + 1))) ∙ ap (λ x. bitXor x (f (2 * k + 1))) (sum-step a s (2 * k) f h) ∙ sum-step a _ (2 * k + 1) f refl ∙ ap (λ n. bitXor a (xorSum n f)) e
 
 abbrev Inv-loop : tie.InvT-loop
-Inv-loop t₀ words base count sums masks k₀ t k = (k ≤ 4) × (length t ≡ 15 * chunk) × ((S v : List ℕ) (χ : ℕ → ℕ) (m f z : ℕ) → Weighed S χ m sums words count base → Masks v masks → byteAt v f < 256 → f < chunk → stackAt 15 t f z ≡ bitXor (stackAt 15 t₀ f z) (xorSum (2 * k) (term S v χ m f z)))
+Inv-loop t₀ words base count sums masks k₀ t k = (k ≤ 4) × (length t ≡ planes * chunk) × ((S v : List ℕ) (χ : ℕ → ℕ) (m f z : ℕ) → Weighed S χ m sums words count base → Masks v masks → byteAt v f < 256 → f < chunk → stackAt t f z ≡ bitXor (stackAt t₀ f z) (xorSum (2 * k) (term S v χ m f z)))
 
 abbrev μ-loop : tie.MeasureT-loop
 μ-loop t₀ words base count sums masks k₀ t k = 4 - k
@@ -129,8 +129,8 @@ loop-again c =
       done .kept .0 ∙ l .inv .1,
       (λ S v χ m f z weighed masks hv h.
           done .ensures v f z masks hv h
-          ∙ ap₂ (λ (x y : ℕ). bitXor (stackAt 15 (l .t) f z) (bitXor (bitOf x z * product (alpha p) (byteAt v f)) (bitOf y z * product (alpha (p + 1)) (byteAt v f)))) (one S χ m f weighed h) (two S χ m f weighed h)
-          ∙ step-two (stackAt 15 (now (a .t)) f z) (stackAt 15 (l .t) f z) (l .k) (term S v χ m f z) (l .inv .2 S v χ m f z weighed masks hv h)),
+          ∙ ap₂ (λ (x y : ℕ). bitXor (stackAt (l .t) f z) (bitXor (bitOf x z * product (alpha p) (byteAt v f)) (bitOf y z * product (alpha (p + 1)) (byteAt v f)))) (one S χ m f weighed h) (two S χ m f weighed h)
+          ∙ step-two (stackAt (now (a .t)) f z) (stackAt (l .t) f z) (l .k) (term S v χ m f z) (l .inv .2 S v χ m f z weighed masks hv h)),
     )
 
 same-length : tie.Need-same-length Inv-loop μ-loop
@@ -141,7 +141,7 @@ returns c =
     let a = c .before .before .before .before .before .before .args in
     let l = c .before .loop in
     let end : l .k ≡ 4 = omega arith in
-    λ S v χ m f z weighed masks hv h. (rw end at (l .inv .2)) S v χ m f z weighed masks hv h ∙ ap (bitXor (stackAt 15 (now (a .t)) f z)) (all-terms S v χ m f z (weighed .3))
+    λ S v χ m f z weighed masks hv h. (rw end at (l .inv .2)) S v χ m f z weighed masks hv h ∙ ap (bitXor (stackAt (now (a .t)) f z)) (all-terms S v χ m f z (weighed .3))
 
 pub absorb-spec : {M : Type 1} → statement M
 absorb-spec =

@@ -15,7 +15,7 @@ use Rattle.strings.specs.Sums.{byteAt, bitOf, xorSum}
 use Rattle.strings.proofs.Rows.{row-byte, put-in, put-other}
 use Rattle.chunks.specs.Chunks.{chunk, cellAt, Masks}
 use Rattle.choices.specs.Entries.{Weighed}
-use Rattle.columns.specs.Stacks.{product, stackAt}
+use Rattle.columns.specs.Stacks.{product, planes, stackAt}
 use Rattle.batching.specs.Batched.{most}
 use Rattle.batching.proofs.StackLaws.{stack-is}
 use Rattle.batching.proofs.stacks.absorb_lane.Statement.{statement}
@@ -76,29 +76,29 @@ unfolding blockAt part
 returns c =
     let a = c .before .before .before .before .before .before .before .before .before .before .before .before .before .before .before .before .args in
     let l = now (a .stacks) in
-    let at = a .e * (15 * chunk) in
+    let at = a .e * (planes * chunk) in
     let done = c .before .before .absorb in
     let r = done .last .0 in
     let spreads = c .before .before .before .before .before .before .before .before .before .before .spread in
     let v = spreads .last .0 in
     let known = c .before .before .before .before .before .before .before .before .before .before .before .before .shared-slice-known3 .given in
-    let e : at + 15 * chunk - at ≡ 15 * chunk = add-sub-cancel-left at (15 * chunk) in
-    let fits : at + 15 * chunk ≤ length l = c .before .before .before .before .before .before .before .before .before .before .before .before .before .before .before .before .pre .0 in
-    let long : length (blockAt l (15 * chunk) (a .e)) ≡ 15 * chunk = simp (length-take, length-drop) (omega arith) in
-    let kept : length r ≡ 15 * chunk = rw e at (done .kept .0) ∙ long in
+    let e : at + planes * chunk - at ≡ planes * chunk = add-sub-cancel-left at (planes * chunk) in
+    let fits : at + planes * chunk ≤ length l = c .before .before .before .before .before .before .before .before .before .before .before .before .before .before .before .before .pre .0 in
+    let long : length (blockAt l (planes * chunk) (a .e)) ≡ planes * chunk = simp (length-take, length-drop) (omega arith) in
+    let kept : length r ≡ planes * chunk = rw e at (done .kept .0) ∙ long in
     let filled = c .before .before .before .before .before .before .fill-masks in
-    let sums : ((S v : List ℕ) (χ : ℕ → ℕ) (m f z : ℕ) → Weighed S χ m (now (a .sums)) (now (a .words)) (a .count) (a .e * 8) → Masks v (filled .last .0) → byteAt v f < 256 → f < chunk → stackAt 15 r f z ≡ bitXor (stackAt 15 (blockAt l (15 * chunk) (a .e)) f z) (product (byteAt v f) (xorSum m (λ i. bitOf (cellAt S i f) z * χ i)))) =
+    let sums : ((S v : List ℕ) (χ : ℕ → ℕ) (m f z : ℕ) → Weighed S χ m (now (a .sums)) (now (a .words)) (a .count) (a .e * 8) → Masks v (filled .last .0) → byteAt v f < 256 → f < chunk → stackAt r f z ≡ bitXor (stackAt (blockAt l (planes * chunk) (a .e)) f z) (product (byteAt v f) (xorSum m (λ i. bitOf (cellAt S i f) z * χ i)))) =
     rw e at (done .ensures) in
     rw e (
       (λ S χ m h f z weighed hh hf.
           let inside : h * 16 + f < chunk = omega arith in
           let lane : byteAt v (h * 16 + f) ≡ byteAt (now (a .vectors)) (a .e * most + (a .first + f)) = spreads .ensures h f hh hf ∙ ap (byteAt (now (a .vectors))) (add-assoc (a .e * most) (a .first) f) in
           let small : byteAt v (h * 16 + f) < 256 = rw lane (known ((a .e * most) + (a .first + f)) .fits) in
-          stack-is 15 (putMid at (15 * chunk) l r) r (a .e) (h * 16 + f) z inside (put-in at (15 * chunk) l r fits kept)
+          stack-is (putMid at (planes * chunk) l r) r (a .e) (h * 16 + f) z inside (put-in at (planes * chunk) l r fits kept)
           ∙ sums S v χ m (h * 16 + f) z weighed (filled .ensures) small inside
           ∙ ap₂ (λ (x y : ℕ). bitXor x (product y (xorSum m (λ i. bitOf (cellAt S i (h * 16 + f)) z * χ i))))
-          (sym (stack-is 15 l (blockAt l (15 * chunk) (a .e)) (a .e) (h * 16 + f) z inside (λ b h. sym (row-byte l (15 * chunk) (a .e) b h)))) lane),
-      put-other (a .e) (15 * chunk) l r fits kept,
+          (sym (stack-is l (blockAt l (planes * chunk) (a .e)) (a .e) (h * 16 + f) z inside (λ b h. sym (row-byte l (planes * chunk) (a .e) b h)))) lane),
+      put-other (a .e) (planes * chunk) l r fits kept,
     )
 
 pub absorb-lane-spec : {M : Type 1} → statement M

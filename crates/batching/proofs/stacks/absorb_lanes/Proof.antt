@@ -14,7 +14,7 @@ use lib.Bits.{bitXor}
 use Rattle.strings.specs.Sums.{byteAt, bitOf, xorSum}
 use Rattle.chunks.specs.Chunks.{chunk, cellAt}
 use Rattle.choices.specs.Entries.{Weighed}
-use Rattle.columns.specs.Stacks.{product, stackOf}
+use Rattle.columns.specs.Stacks.{product, planes, stackOf}
 use Rattle.batching.specs.Batched.{most}
 use Rattle.batching.proofs.StackLaws.{stack-same}
 use Rattle.batching.proofs.stacks.absorb_lanes.Statement.{statement}
@@ -25,7 +25,7 @@ abbrev weight : List ℕ → (ℕ → ℕ → ℕ) → ℕ → ℕ → ℕ → �
 weight S χ m e f z = xorSum m (λ i. bitOf (cellAt S i f) z * χ e i)
 
 abbrev Inv-loop : tie.InvT-loop
-Inv-loop stacks₀ tau words count sums vectors first e₀ stacks e = (e ≤ tau) × (length stacks ≡ length stacks₀) × ((S : List ℕ) (χ : ℕ → ℕ → ℕ) (m q h f z : ℕ) → ((q : ℕ) → q < tau → Weighed S (χ q) m sums words count (q * 8)) → q < e → h < 2 → f < 16 → stackOf 15 stacks q (h * 16 + f) z ≡ bitXor (stackOf 15 stacks₀ q (h * 16 + f) z) (product (byteAt vectors (q * most + (first + f))) (weight S χ m q (h * 16 + f) z))) × ((q b : ℕ) → e ≤ q → b < 15 * chunk → byteAt stacks (q * (15 * chunk) + b) ≡ byteAt stacks₀ (q * (15 * chunk) + b))
+Inv-loop stacks₀ tau words count sums vectors first e₀ stacks e = (e ≤ tau) × (length stacks ≡ length stacks₀) × ((S : List ℕ) (χ : ℕ → ℕ → ℕ) (m q h f z : ℕ) → ((q : ℕ) → q < tau → Weighed S (χ q) m sums words count (q * 8)) → q < e → h < 2 → f < 16 → stackOf stacks q (h * 16 + f) z ≡ bitXor (stackOf stacks₀ q (h * 16 + f) z) (product (byteAt vectors (q * most + (first + f))) (weight S χ m q (h * 16 + f) z))) × ((q b : ℕ) → e ≤ q → b < planes * chunk → byteAt stacks (q * (planes * chunk) + b) ≡ byteAt stacks₀ (q * (planes * chunk) + b))
 
 abbrev μ-loop : tie.MeasureT-loop
 μ-loop stacks₀ tau words count sums vectors first e₀ stacks e = tau - e
@@ -64,9 +64,9 @@ loop-again c =
           rw same
           (done .ensures .0 S (χ (l .e)) m h f z (weighed (l .e) lt) hh hf
           ∙ ap (λ (x : ℕ). bitXor x (product (byteAt (now (a .vectors)) (l .e * most + (a .first + f))) (weight S χ m (l .e) (h * 16 + f) z)))
-          (stack-same 15 (l .stacks) (now (a .stacks)) (l .e) (h * 16 + f) z inside (λ b hb. l .inv .3 (l .e) b (omega arith) hb))))
+          (stack-same (l .stacks) (now (a .stacks)) (l .e) (h * 16 + f) z inside (λ b hb. l .inv .3 (l .e) b (omega arith) hb))))
           (λ (less : q < l .e).
-          stack-same 15 (done .last .0) (l .stacks) q (h * 16 + f) z inside (λ b hb. done .ensures .1 q b (λ x. omega arith) hb)
+          stack-same (done .last .0) (l .stacks) q (h * 16 + f) z inside (λ b hb. done .ensures .1 q b (λ x. omega arith) hb)
           ∙ l .inv .2 S χ m q h f z weighed less hh hf)
           (eq-or-lt-of-le (le-of-suc-le-suc (rw add-one at hq)))),
       (λ q b h k. done .ensures .1 q b (λ x. omega arith) k ∙ l .inv .3 q b (omega arith) k),

@@ -17,7 +17,7 @@ use Rattle.strings.proofs.SumLaws.{sum-same, sum-none, sum-step}
 use Rattle.strings.proofs.Meaning.{bitOf-zero}
 use Rattle.chunks.specs.Chunks.{chunk, cellAt}
 use Rattle.choices.specs.Entries.{Tabled, Chosen, Weighed}
-use Rattle.columns.specs.Stacks.{product, stackOf}
+use Rattle.columns.specs.Stacks.{product, planes, stackOf}
 use Rattle.batching.specs.Batched.{most, cellSum}
 use Rattle.batching.proofs.StackLaws.{stack-same}
 use Rattle.batching.proofs.LineLaws.{weighed-rows}
@@ -55,7 +55,7 @@ sum-is cells χ m e q f z h =
     ap₂ (λ x y. bitOf x z * y) (row-byte cells (m * chunk) q (i * chunk + f) inside ∙ ap (byteAt cells) (place q m i f)) (row-byte χ m e i l))
 
 abbrev Inv-loop : tie.InvT-loop
-Inv-loop stacks₀ sums₀ cells panel m tau words count vectors q₀ stacks sums q = (q ≤ panel + 1) × (length stacks ≡ length stacks₀) × (length sums ≡ 32768) × ((χ : List ℕ) (e h f z : ℕ) → ((k : ℕ) → byteAt χ k < 256) → ((r : ℕ) → r < tau * 8 → Chosen χ m count words r) → e < tau → h < 2 → f < 16 → stackOf 15 stacks e (h * 16 + f) z ≡ bitXor (stackOf 15 stacks₀ e (h * 16 + f) z) (xorSum q (term cells m χ vectors e h f z)))
+Inv-loop stacks₀ sums₀ cells panel m tau words count vectors q₀ stacks sums q = (q ≤ panel + 1) × (length stacks ≡ length stacks₀) × (length sums ≡ 32768) × ((χ : List ℕ) (e h f z : ℕ) → ((k : ℕ) → byteAt χ k < 256) → ((r : ℕ) → r < tau * 8 → Chosen χ m count words r) → e < tau → h < 2 → f < 16 → stackOf stacks e (h * 16 + f) z ≡ bitXor (stackOf stacks₀ e (h * 16 + f) z) (xorSum q (term cells m χ vectors e h f z)))
 
 abbrev μ-loop : tie.MeasureT-loop
 μ-loop stacks₀ sums₀ cells panel m tau words count vectors q₀ stacks sums q = panel + 1 - q
@@ -142,9 +142,9 @@ loop-again c =
           let inside : h * 16 + f < chunk = omega arith in
           done .ensures S (λ q. byteAt (blockAt χ (a .m) q)) (a .m) e h f z (all χ small chosen) he hh hf
           ∙ ap₂ (λ (y x : ℕ). bitXor y (product (byteAt (now (a .vectors)) (e * most + (l .q * 16 + f))) x))
-          (stack-same 15 (settled .last .0) (l .stacks) e (h * 16 + f) z inside (λ b k. same (e * (15 * chunk) + b)))
+          (stack-same (settled .last .0) (l .stacks) e (h * 16 + f) z inside (λ b k. same (e * (planes * chunk) + b)))
           (sum-is cells χ (a .m) e (l .q) (h * 16 + f) z inside)
-          ∙ sum-step (stackOf 15 (now (a .stacks)) e (h * 16 + f) z) (stackOf 15 (l .stacks) e (h * 16 + f) z) (l .q) (term cells (a .m) χ (now (a .vectors)) e h f z) (l .inv .3 χ e h f z small chosen he hh hf)),
+          ∙ sum-step (stackOf (now (a .stacks)) e (h * 16 + f) z) (stackOf (l .stacks) e (h * 16 + f) z) (l .q) (term cells (a .m) χ (now (a .vectors)) e h f z) (l .inv .3 χ e h f z small chosen he hh hf)),
     )
 
 same-length : tie.Need-same-length Inv-loop μ-loop
