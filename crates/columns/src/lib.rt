@@ -36,25 +36,25 @@ pub fn sum_at(s: &[u8], at: usize) -> u8
     sum
 }
 
-// out[e] = the sum of sixteen bytes from `at` on in stack e, where a stack has `size` bytes.
-fn gather_row(out: &mut [u8], stacks: &[u8], size: usize, at: usize, tau: usize)
-    requires { ⌜ (tau ≤ length (now out)) × (tau * size ≤ length (now stacks)) × (at + 16 ≤ size) ⌝ }
-    ensures { λ _. ⌜ ((e : ℕ) → e < tau → byteAt (now (out .exit)) e ≡ xorSum 16 (λ f. byteAt (now (stacks .entry)) (e * size + (at + f)))) ⌝ }
+// out[e] = the sum of sixteen bytes from `at` on in stack e.
+fn gather_row(out: &mut [u8], stacks: &[u8], at: usize, tau: usize)
+    requires { ⌜ (tau ≤ length (now out)) × (tau * (planes * chunk) ≤ length (now stacks)) × (at + 16 ≤ planes * chunk) ⌝ }
+    ensures { λ _. ⌜ ((e : ℕ) → e < tau → byteAt (now (out .exit)) e ≡ xorSum 16 (λ f. byteAt (now (stacks .entry)) (e * (planes * chunk) + (at + f)))) ⌝ }
 {
     let mut e = 0;
     while e < tau {
-        out[e] = sum_at(stacks, e * size + at);
+        out[e] = sum_at(stacks, e * STACK + at);
         e += 1;
     }
 }
 
-fn gather_at(rows: &mut [u8], s: usize, stacks: &[u8], size: usize, at: usize, tau: usize)
-    requires { ⌜ (s * lanes + lanes ≤ length (now rows)) × (tau ≤ lanes) × (tau * size ≤ length (now stacks)) × (at + 16 ≤ size) ⌝ }
-    ensures { λ _. ⌜ ((e : ℕ) → e < tau → laneAt (now (rows .exit)) s e ≡ xorSum 16 (λ f. byteAt (now (stacks .entry)) (e * size + (at + f)))) ⌝ }
+fn gather_at(rows: &mut [u8], s: usize, stacks: &[u8], at: usize, tau: usize)
+    requires { ⌜ (s * lanes + lanes ≤ length (now rows)) × (tau ≤ lanes) × (tau * (planes * chunk) ≤ length (now stacks)) × (at + 16 ≤ planes * chunk) ⌝ }
+    ensures { λ _. ⌜ ((e : ℕ) → e < tau → laneAt (now (rows .exit)) s e ≡ xorSum 16 (λ f. byteAt (now (stacks .entry)) (e * (planes * chunk) + (at + f)))) ⌝ }
     ensures { λ _. ⌜ ((q e : ℕ) → (q ≡ s → ⊥) → e < lanes → laneAt (now (rows .exit)) q e ≡ laneAt (now (rows .entry)) q e) ⌝ }
 {
     let from = s * LANES;
-    gather_row(&mut rows[from..from + LANES], stacks, size, at, tau);
+    gather_row(&mut rows[from..from + LANES], stacks, at, tau);
 }
 
 // The planes of all repetitions, each the sum of its sixteen bytes of half h.
@@ -64,7 +64,7 @@ fn gather(rows: &mut [u8], stacks: &[u8], h: usize, tau: usize)
 {
     let mut s = 0;
     while s < PLANES {
-        gather_at(rows, s, stacks, STACK, s * CHUNK + h * 16, tau);
+        gather_at(rows, s, stacks, s * CHUNK + h * 16, tau);
         s += 1;
     }
 }

@@ -10,19 +10,20 @@ use native.Mathlib.Nat.{add-assoc}
 use native.Mathlib.Omega.{arith}
 use Rattle.strings.specs.Sums.{byteAt, xorSum}
 use Rattle.strings.proofs.Elementwise.{changed, changed-more, changed-at}
-use Rattle.strings.proofs.Rows.{row-end}
 use Rattle.strings.proofs.SumLaws.{sum-same}
+use Rattle.chunks.specs.Chunks.{chunk}
+use Rattle.columns.specs.Stacks.{planes}
 use Rattle.columns.proofs.gather_row.Statement.{statement}
 use Rattle.columns.proofs.gather_row.Tie as tie
 
-abbrev change : List ℕ → ℕ → ℕ → ℕ → ℕ → ℕ
-change stacks size at k x = xorSum 16 (λ f. byteAt stacks (k * size + (at + f)))
+abbrev change : List ℕ → ℕ → ℕ → ℕ → ℕ
+change stacks at k x = xorSum 16 (λ f. byteAt stacks (k * (planes * chunk) + (at + f)))
 
 abbrev Inv-loop : tie.InvT-loop
-Inv-loop out₀ stacks size at tau e₀ out e = (e ≤ tau) × (out ≡ changed (change stacks size at) out₀ e) × (length out ≡ length out₀)
+Inv-loop out₀ stacks at tau e₀ out e = (e ≤ tau) × (out ≡ changed (change stacks at) out₀ e) × (length out ≡ length out₀)
 
 abbrev μ-loop : tie.MeasureT-loop
-μ-loop out₀ stacks size at tau e₀ out e = tau - e
+μ-loop out₀ stacks at tau e₀ out e = tau - e
 
 loop-holds : tie.Need-loop-holds Inv-loop μ-loop
 unfolding changed
@@ -30,19 +31,13 @@ loop-holds c =
     (search needs, refl, refl)
 
 mul-sum-at : tie.Need-mul-sum-at Inv-loop μ-loop
-mul-sum-at c =
-    let a = c .before .before .before .before .args in
-    omega (arith, row-end (c .before .loop .e) (a .tau) (a .size) (c .loop-test .taken))
+mul-sum-at c = search needs
 
 add-sum-at : tie.Need-add-sum-at Inv-loop μ-loop
-add-sum-at c =
-    let a = c .before .before .before .before .args in
-    omega (arith, row-end (c .before .loop .e) (a .tau) (a .size) (c .loop-test .taken))
+add-sum-at c = search needs
 
 sum-at-requires : tie.Need-sum-at-requires Inv-loop μ-loop
-sum-at-requires c κs =
-    let a = c .before .before .before .before .args in
-    omega (arith, row-end (c .before .loop .e) (a .tau) (a .size) (c .loop-test .taken))
+sum-at-requires c κs = search needs
 
 slice-write-out : tie.Need-slice-write-out Inv-loop μ-loop
 slice-write-out c = search needs
@@ -57,9 +52,9 @@ loop-again : tie.Need-loop-again Inv-loop μ-loop
 loop-again c =
     let a = c .before .before .before .before .before .args in
     let l = c .before .before .loop in
-    let i = l .e * a .size in (
+    let i = l .e * (planes * chunk) in (
       omega arith,
-      changed-more (change (now (a .stacks)) (a .size) (a .at)) (now (a .out)) (l .out) (l .e) _ (l .inv .1)
+      changed-more (change (now (a .stacks)) (a .at)) (now (a .out)) (l .out) (l .e) _ (l .inv .1)
           (c .sum-at .ensures ∙ sum-same 16 _ _ (λ f k. ap (byteAt (now (a .stacks))) (add-assoc i (a .at) f))),
       simp length-set (l .inv .2),
     )
@@ -72,8 +67,8 @@ returns c i h =
     let a = c .before .before .before .before .args in
     let l = c .before .loop in
     let end : l .e ≡ a .tau = omega arith in
-    let is : l .out ≡ changed (change (now (a .stacks)) (a .size) (a .at)) (now (a .out)) (a .tau) = rw end at (l .inv .1) in
-    ap (λ (d : List ℕ). byteAt d i) is ∙ changed-at (change (now (a .stacks)) (a .size) (a .at)) (now (a .out)) (a .tau) i (c .before .before .before .before .pre .0) h
+    let is : l .out ≡ changed (change (now (a .stacks)) (a .at)) (now (a .out)) (a .tau) = rw end at (l .inv .1) in
+    ap (λ (d : List ℕ). byteAt d i) is ∙ changed-at (change (now (a .stacks)) (a .at)) (now (a .out)) (a .tau) i (c .before .before .before .before .pre .0) h
 
 pub gather-row-spec : {M : Type 1} → statement M
 gather-row-spec =
