@@ -9,7 +9,7 @@ use lib.Bits.{bitXor}
 use Rattle.algebra.specs.Coded.{mulByte}
 use Rattle.field.specs.Gf256.{gf256}
 use Rattle.protocol.specs.Strings.{bit}
-use Rattle.strings.specs.Sums.{byteAt, xorSum, selected}
+use Rattle.strings.specs.Sums.{xorSum, selected}
 use Rattle.lanes.specs.Lanes.{lanes, laneAt}
 use Rattle.equations.specs.Equations.{rowOf}
 

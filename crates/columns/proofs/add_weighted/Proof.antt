@@ -1,7 +1,7 @@
 -- `columns::add_weighted` meets its contract. Each element is changed once (`Elementwise`); a mask is a product with a bit.
 -- Assumes nothing.
 use borrow.Author.Needs.{needs}
-use Prim.Native.Nat.{ℕ, _*_, _≤_, _<_, _-_}
+use Prim.Native.Nat.{ℕ, _*_, _≤_, _-_}
 use mathlib.Core.List.{List}
 use mathlib.Core.Path.{_≡_, refl, ap, _∙_}
 use denote.Ref.{now}
