@@ -1,6 +1,6 @@
 // Question 11: does the witness solve the system? Every equation is looked at; that the answer, place included, is told is 01's rule.
 ghost use mathlib.Core.Path.{_≡_};
-ghost use Prim.Native.Nat.{ℕ, _*_, _<_, _≤_};
+ghost use Prim.Native.Nat.{_≤_};
 ghost use lib.ListN.{length};
 ghost use Rattle.protocol.specs.Shape.{shapeOf};
 ghost use Rattle.format.specs.Verdict.{answerOf};

@@ -1,14 +1,11 @@
 -- `proving::prove_sections` meets its contract: the answer to question 11, and where it is accepted the sections that were filled, framed.
 -- Assumes nothing.
-use mathlib.Core.Path.{_≡_, sym, ap, _∙_}
-use mathlib.Core.List.{List, [], _∷_}
-use Prim.Native.Nat.{ℕ, _+_, _*_, _-_, _≤_, _<_}
+use mathlib.Core.Path.{sym, ap, _∙_}
+use Prim.Native.Nat.{_-_, _≤_}
 use native.Mathlib.Omega.{arith}
 use denote.Ref.{now}
-use lib.ListN.{length, take}
+use lib.ListN.{length}
 use Rattle.protocol.specs.Frames.{frame}
-use Rattle.protocol.specs.Binary.{bits256}
-use Rattle.protocol.specs.Shape.{wOf}
 use Rattle.protocol.specs.Sections.{bytesOf}
 use Rattle.format.specs.Sizes.{shapeFor}
 use Rattle.format.proofs.SizeLaws.{in-limits, w-most, corrections-most, hashed-most, row-most, bytes-most}

@@ -1,17 +1,13 @@
 -- `core::calls::batch` meets its contract: a refusal on form is its reply; else question 11's answer is, and the step's bytes are written where it is accepted.
 -- Assumes nothing.
-use mathlib.Core.Path.{_≡_, refl, sym, ap, _∙_, subst}
-use mathlib.Core.List.{List, [], _∷_}
-use Prim.Native.Nat.{ℕ, _≤_}
+use mathlib.Core.Path.{refl, sym, ap, _∙_, subst}
+use mathlib.Core.List.{[], _∷_}
 use denote.Ref.{now}
-use lib.ListN.{length}
 use Rattle.protocol.specs.Frames.{frame}
 use Rattle.protocol.specs.Binary.{bits256}
-use Rattle.protocol.specs.Shape.{Shape, shapeOf}
+use Rattle.protocol.specs.Shape.{Shape}
 use Rattle.protocol.specs.Prover.{qs0Section, qs1Section, batchBytes}
-use Rattle.protocol.specs.Answers.{accepted, ask, written}
-use Rattle.protocol.specs.Calls.{batchQuestions}
-use Rattle.format.specs.Sizes.{shapeFor}
+use Rattle.protocol.specs.Answers.{written}
 use Rattle.format.specs.Verdict.{answerOf}
 use Rattle.steps.specs.Facts.{BatchFacts}
 use Rattle.core.proofs.FactLaws.{batch-facts}

@@ -1,12 +1,7 @@
 -- `steps::witness::answer` meets its contract: the first error that is not 0 is told as the place of 11.
 -- Assumes nothing.
-use mathlib.Core.Path.{_≡_, refl}
-use Prim.Native.Nat.{ℕ, _≤_, _<_}
+use mathlib.Core.Path.{refl}
 use native.Mathlib.Omega.{arith}
-use denote.Ref.{now}
-use lib.ListN.{length}
-use Rattle.equations.specs.Equations.{FirstIn}
-use Rattle.equations.specs.declared.Found.the-variants.{At, Nothing}
 use borrow.Author.Needs.{needs}
 use Rattle.steps.proofs.witness.answer.Statement.{statement}
 use Rattle.steps.proofs.witness.answer.Tie as tie

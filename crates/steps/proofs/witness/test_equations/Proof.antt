@@ -1,8 +1,7 @@
 -- `steps::witness::test_equations` meets its contract: the errors of the equations, and their answer.
 -- Assumes nothing.
-use mathlib.Core.Path.{_≡_, refl, sym, ap, _∙_}
-use mathlib.Core.List.{List}
-use Prim.Native.Nat.{ℕ, _*_, _≤_, _<_}
+use mathlib.Core.Path.{_≡_, sym, ap, _∙_}
+use Prim.Native.Nat.{ℕ, _*_, _<_}
 use native.Mathlib.Nat.{mul-assoc}
 use native.Mathlib.Omega.{arith}
 use denote.Ref.{now}
@@ -11,7 +10,6 @@ use Rattle.protocol.specs.Strings.{bytesFor}
 use Rattle.protocol.specs.Binary.{bits256}
 use Rattle.protocol.specs.Shape.{Shape, shapeOf}
 use Rattle.protocol.specs.Key.{sectionA, sectionB, sectionY}
-use Rattle.format.specs.Sizes.{shapeFor}
 use Rattle.format.specs.Verdict.{answerOf}
 use Rattle.format.proofs.SizeLaws.{in-limits}
 use Rattle.strings.specs.Sums.{byteAt}
