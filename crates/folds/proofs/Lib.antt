@@ -1,3 +1,4 @@
+pub mod HalfLaws
 pub mod MirrorLaws
 pub mod PlaceLaws
 pub mod SetLaws

@@ -1,18 +1,19 @@
 -- Laws of a set of panels: sixteen rows that are made and put, the rows of a matrix, and the matrices.
 -- Assumes nothing.
-use mathlib.Core.Path.{_≡_, refl, sym, ap, ap₂, _∙_}
+use mathlib.Core.Path.{_≡_, sym, ap, ap₂, _∙_}
 use mathlib.Core.Bool.{cond}
-use mathlib.Core.List.{List}
+use mathlib.Core.List.{List, _++_}
 use mathlib.Core.Logic.{⊎-elim}
-use Prim.Native.Nat.{ℕ, _+_, _*_, _/_, _%_, _≤_, _<_}
+use Prim.Native.Nat.{ℕ, _+_, _*_, _-_, _/_, _%_, _≤_, _<_}
 use native.Mathlib.Nat.{eq-or-lt-of-le, le-of-suc-le-suc, add-mul, mul-le-mul}
 use native.Mathlib.Decide.{decLt}
 use native.Mathlib.Numerals.{add-one}
 use native.Mathlib.Omega.{arith}
 use lib.Bits.{bitXor}
 use lib.Dec.{ltb}
-use lib.ListN.{drop}
+use lib.ListN.{length, take, drop}
 use lib.Seq.{getD-drop}
+use borrow.Rule.Slice.PartMut.{putMid}
 use Rattle.protocol.specs.Strings.{bytesFor}
 use Rattle.protocol.specs.Lists.{blockAt}
 use Rattle.strings.specs.Sums.{byteAt, bitOf}
@@ -20,7 +21,8 @@ use Rattle.strings.proofs.Meaning.{bitOf-xor}
 use Rattle.strings.proofs.Rows.{row-end}
 use Rattle.chunks.specs.Chunks.{chunk, cellAt}
 use Rattle.folds.specs.Folds.{entry, foldedBit, before, Folded, FoldedSet}
-use Rattle.folds.specs.Sets.{Mirrors, Summed, place, Put, ChunksKept, Kept, ChunkFolded, SetFolded, MatrixFolded}
+use Rattle.folds.specs.Sets.{Mirrors, Parted, summed, place, Put, ChunksKept, Kept, ChunkFolded, SetFolded, MatrixFolded}
+use Rattle.folds.proofs.HalfLaws.{in-first, in-last}
 use Rattle.folds.proofs.PlaceLaws.{beside-rows, beside-panel, beside-matrix}
 
 -- what holds below n, and of n, holds below n + 1
@@ -29,30 +31,37 @@ below-next P n own done k h = ⊎-elim (λ (e : k ≡ n). rw e own) (λ (lt : k 
 
 -- ---- sixteen rows
 
--- eight bytes of each row, parted, and the bytes that are added
-pub summed : (w from first q : ℕ) (src t rows cols add made : List ℕ)
-    → ((z f : ℕ) → z < 16 → f < 8 → byteAt rows (z * 8 + f) ≡ byteAt src (from + q * 16 * w + 2 * first + z * w + f))
-    → ((i : ℕ) → i < 128 → byteAt cols i ≡ byteAt rows (i % 16 * 8 + i / 16))
-    → ((z f : ℕ) → z < 8 → f < 16 → byteAt add (z * 16 + f) ≡ byteAt t (q * 16 + z * 160 + f))
-    → ((j : ℕ) → j < 128 → byteAt made j ≡ bitXor (byteAt cols j) (byteAt add j))
-    → Summed w (drop from src) first t q made
-summed w from first q src t rows cols add made taken parted added both k f hk hf =
-    let low : (k * 16 + f) % 16 ≡ f = omega arith in
-    let high : (k * 16 + f) / 16 ≡ k = omega arith in
-    let at : (k * 16 + f) % 16 * 8 + (k * 16 + f) / 16 ≡ f * 8 + k = rw (low, high) in
-    let byte : from + q * 16 * w + 2 * first + f * w + k ≡ from + ((q * 16 + f) * w + (2 * first + k)) = omega (arith, add-mul (q * 16) f w) in
-    let row : q * 16 + k * 160 + f ≡ k * 160 + (q * 16 + f) = omega arith in
-    both (k * 16 + f) (omega arith)
-    ∙ ap₂ bitXor
-    (parted (k * 16 + f) (omega arith) ∙ ap (byteAt rows) at ∙ taken f k hf hk ∙ ap (byteAt src) byte ∙ sym (getD-drop from src ((q * 16 + f) * w + (2 * first + k)) 0))
-    (added k f hk hf ∙ ap (byteAt t) row)
+-- eight bytes of each row, taken in two halves, and parted
+pub parted : (w from first q : ℕ) (src low rest high made : List ℕ) → length low ≡ 64 → length rest ≡ 64 → length high ≡ length (take 64 (drop 64 (low ++ rest)))
+    → ((z f : ℕ) → z < 8 → f < 8 → byteAt low (z * 8 + f) ≡ byteAt src (from + q * 16 * w + 2 * first + z * w + f))
+    → ((z f : ℕ) → z < 8 → f < 8 → byteAt high (z * 8 + f) ≡ byteAt src (from + q * 16 * w + 2 * first + 8 * w + z * w + f))
+    → ((i : ℕ) → i < 128 → byteAt made i ≡ byteAt (putMid 64 64 (low ++ rest) high) (i % 16 * 8 + i / 16))
+    → Parted w (drop from src) first q made
+parted w from first q src low rest high made half old kept taken taken′ part k f hk hf =
+    let left : (k * 16 + f) % 16 ≡ f = omega arith in
+    let right : (k * 16 + f) / 16 ≡ k = omega arith in
+    let at : (k * 16 + f) % 16 * 8 + (k * 16 + f) / 16 ≡ f * 8 + k = rw (left, right) in
+    part (k * 16 + f) (omega arith) ∙ ap (byteAt rows) at ∙ go (decLt f 8) ∙ sym (getD-drop from src ((q * 16 + f) * w + (2 * first + k)) 0)
+  where
+    rows : List ℕ
+    rows = putMid 64 64 (low ++ rest) high
 
-module _ (first p end q m i : ℕ) (made cells cells′ : List ℕ) (inside : i < m)
-    (row : q ≤ first + p → first + p < end → (e : ℕ) → e < chunk → cellAt cells′ (place first p q m i) e ≡ byteAt made (p * chunk + e))
+    go : Dec (f < 8) → byteAt rows (f * 8 + k) ≡ byteAt src (from + ((q * 16 + f) * w + (2 * first + k)))
+    go (yes lt) =
+        let byte : from + q * 16 * w + 2 * first + f * w + k ≡ from + ((q * 16 + f) * w + (2 * first + k)) = omega (arith, add-mul (q * 16) f w) in
+        in-first low rest high half old kept (f * 8 + k) (omega arith) ∙ taken f k lt hk ∙ ap (byteAt src) byte
+    go (no ge) =
+        let row : f * 8 + k ≡ 64 + ((f - 8) * 8 + k) = omega arith in
+        let whole : f ≡ 8 + (f - 8) = omega arith in
+        let byte : from + q * 16 * w + 2 * first + 8 * w + (f - 8) * w + k ≡ from + ((q * 16 + f) * w + (2 * first + k)) = omega (arith, add-mul (q * 16) f w, ap (λ x. x * w) whole, add-mul 8 (f - 8) w) in
+        ap (byteAt rows) row ∙ in-last low rest high half old kept ((f - 8) * 8 + k) (omega arith) ∙ taken′ (f - 8) k (omega arith) hk ∙ ap (byteAt src) byte
+
+module _ (first p end q m i : ℕ) (made t cells cells′ : List ℕ) (inside : i < m)
+    (row : q ≤ first + p → first + p < end → (e : ℕ) → e < chunk → cellAt cells′ (place first p q m i) e ≡ summed made t q p e)
     (others : (at e : ℕ) → (q ≤ first + p → at ≡ place first p q m i → ⊥) → e < chunk → cellAt cells′ at e ≡ cellAt cells at e) where
-  pub put-more : Put first end q m i p made cells → Put first end q m i (p + 1) made cells′
+  pub put-more : Put first end q m i p made t cells → Put first end q m i (p + 1) made t cells′
   put-more done x e hx hq hend he =
-      below-next (λ x. q ≤ first + x → first + x < end → cellAt cells′ (place first x q m i) e ≡ byteAt made (x * chunk + e)) p (λ k l. row k l e he)
+      below-next (λ x. q ≤ first + x → first + x < end → cellAt cells′ (place first x q m i) e ≡ summed made t q x e) p (λ k l. row k l e he)
       (λ x lt k l. others (place first x q m i) e (λ _. beside-panel m i inside first p x q lt k) he ∙ done x e lt k l he)
       x hx hq hend
 
@@ -71,15 +80,16 @@ folded-bit w C r z x y M hz own added =
     ∙ ap₂ bitXor (ap (λ k. bitOf k z) own ∙ ap₂ (λ b p. bitOf (byteAt M (r * w + b)) p) byte place) (added ∙ ap (λ J. cond (ltb (r / 16) J) (entry w M (C * 8 + z) r) 0) panel)
 
 -- what was put, of what was made
-pub chunk-folded : (w first end q m i : ℕ) (M t made cells : List ℕ) → Mirrors w M first end t → Summed w M first t q made → Put first end q m i 4 made cells
+pub chunk-folded : (w first end q m i : ℕ) (M t made cells : List ℕ) → Mirrors w M first end t → Parted w M first q made → Put first end q m i 4 made t cells
     → (p : ℕ) → p < 4 → q ≤ first + p → first + p < end → ChunkFolded w M (first + p) q cells (place first p q m i)
-chunk-folded w first end q m i M t made cells mirrors sum put p hp hq hend h f z hh hf hz =
+chunk-folded w first end q m i M t made cells mirrors parts put p hp hq hend h f z hh hf hz =
     let k = 2 * p + h in
     let r = q * 16 + f in
     let at : p * chunk + (h * 16 + f) ≡ k * 16 + f = omega arith in
+    let row : (2 * p + (h * 16 + f) / 16) * 160 + (q * 16 + (h * 16 + f) % 16) ≡ k * 160 + r = omega arith in
     let column : (2 * first + k) * 8 + z ≡ (first + p) * 16 + (h * 8 + z) = omega arith in
-    ap (λ x. bitOf x z) (put p (h * 16 + f) hp hq hend (omega arith) ∙ ap (byteAt made) at ∙ sum k f (omega arith) hf)
-    ∙ folded-bit w (2 * first + k) r z (byteAt M (r * w + (2 * first + k))) (byteAt t (k * 160 + r)) M hz refl (mirrors k (omega arith) r z (omega arith) hz)
+    ap (λ x. bitOf x z) (put p (h * 16 + f) hp hq hend (omega arith) ∙ ap₂ (λ x y. bitXor (byteAt made x) (byteAt t y)) at row)
+    ∙ folded-bit w (2 * first + k) r z (byteAt made (k * 16 + f)) (byteAt t (k * 160 + r)) M hz (parts k f (omega arith) hf) (mirrors k (omega arith) r z (omega arith) hz)
     ∙ ap (foldedBit w M r) column
 
 -- ---- the rows of a matrix

@@ -3,9 +3,10 @@
 --   Reflected w M C t k == the same, and 0 in the column's own sixteen: what is added to the column's entries
 --   Mirrors w M first end t == the rows of t are the reflected columns of the panels first, .., end - 1
 --   RowsKept k old new == the rows of 160 bytes other than the k-th are as they were
---   Summed w M first t q made == made has, for the sixteen rows q, the bytes of each of the eight byte columns, with those of t added
+--   Parted w M first q made == made has, for the sixteen rows q, the bytes of each of the eight byte columns
+--   summed made t q p e == byte e of the chunk of the sixteen rows q of panel first + p: that of made, with that of t added
 --   place first p q m i == the chunk of matrix i of m, for the sixteen rows q of panel first + p
---   Put first end q m i k made cells == the chunks of the sixteen rows q are those of made, for the first k panels of the set that lie before `end` and reach down to q
+--   Put first end q m i k made t cells == the chunks of the sixteen rows q are so summed, for the first k panels of the set that lie before `end` and reach down to q
 --   Beside first q m i k at == chunk `at` is none of these;  ChunksKept first q m i k old new == the cells beside them are as they were
 --   Kept m i old new == the other matrices' cells are as they were
 --   ChunkFolded w M J q cells at == chunk `at` of the cells holds the folded entries of the sixteen rows q of panel J (Folds)
@@ -15,7 +16,7 @@
 use mathlib.Core.Path.{_≡_}
 use mathlib.Core.Bool.{cond}
 use mathlib.Core.List.{List}
-use Prim.Native.Nat.{ℕ, _+_, _*_, _/_, _≤_, _<_}
+use Prim.Native.Nat.{ℕ, _+_, _*_, _/_, _%_, _≤_, _<_}
 use lib.Bits.{bitXor}
 use lib.Dec.{ltb}
 use Rattle.strings.specs.Sums.{byteAt, bitOf}
@@ -35,16 +36,18 @@ Mirrors w M first end t = (k : ℕ) → 2 * first + k < 2 * end → Reflected w 
 abbrev pub RowsKept : ℕ → List ℕ → List ℕ → Type 0
 RowsKept k old new = (x r : ℕ) → (x ≡ k → ⊥) → r < 160 → byteAt new (x * 160 + r) ≡ byteAt old (x * 160 + r)
 
-abbrev pub Summed : ℕ → List ℕ → ℕ → List ℕ → ℕ → List ℕ → Type 0
-Summed w M first t q made =
-    (k f : ℕ) → k < 8 → f < 16 → byteAt made (k * 16 + f) ≡ bitXor (byteAt M ((q * 16 + f) * w + (2 * first + k))) (byteAt t (k * 160 + (q * 16 + f)))
+abbrev pub Parted : ℕ → List ℕ → ℕ → ℕ → List ℕ → Type 0
+Parted w M first q made = (k f : ℕ) → k < 8 → f < 16 → byteAt made (k * 16 + f) ≡ byteAt M ((q * 16 + f) * w + (2 * first + k))
+
+abbrev pub summed : List ℕ → List ℕ → ℕ → ℕ → ℕ → ℕ
+summed made t q p e = bitXor (byteAt made (p * chunk + e)) (byteAt t ((2 * p + e / 16) * 160 + (q * 16 + e % 16)))
 
 abbrev pub place : ℕ → ℕ → ℕ → ℕ → ℕ → ℕ
 place first p q m i = (before first p + q) * m + i
 
-abbrev pub Put : ℕ → ℕ → ℕ → ℕ → ℕ → ℕ → List ℕ → List ℕ → Type 0
-Put first end q m i k made cells =
-    (p e : ℕ) → p < k → q ≤ first + p → first + p < end → e < chunk → cellAt cells (place first p q m i) e ≡ byteAt made (p * chunk + e)
+abbrev pub Put : ℕ → ℕ → ℕ → ℕ → ℕ → ℕ → List ℕ → List ℕ → List ℕ → Type 0
+Put first end q m i k made t cells =
+    (p e : ℕ) → p < k → q ≤ first + p → first + p < end → e < chunk → cellAt cells (place first p q m i) e ≡ summed made t q p e
 
 abbrev pub Beside : ℕ → ℕ → ℕ → ℕ → ℕ → ℕ → Type 0
 Beside first q m i k at = (p : ℕ) → p < k → q ≤ first + p → at ≡ place first p q m i → ⊥

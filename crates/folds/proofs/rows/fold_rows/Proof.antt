@@ -10,14 +10,14 @@ use Rattle.folds.proofs.SetLaws.{chunk-folded}
 use Rattle.folds.proofs.rows.fold_rows.Statement.{statement}
 use Rattle.folds.proofs.rows.fold_rows.Tie as tie
 
-slice-aggregate-sum-rows : tie.Need-slice-aggregate-sum-rows
-slice-aggregate-sum-rows c = search needs
+slice-aggregate-part-rows : tie.Need-slice-aggregate-part-rows
+slice-aggregate-part-rows c = search needs
 
-sum-rows-requires : tie.Need-sum-rows-requires
-sum-rows-requires c κs =
+part-rows-requires : tie.Need-part-rows-requires
+part-rows-requires c κs =
     let a = c .before .before .before .before .args in
     let rows : a .q * 16 + 16 ≤ a .end * 16 = omega arith in
-    (search needs, omega arith, omega arith, omega arith, omega (arith, mul-le-mul-right (a .width) rows))
+    (search needs, omega arith, omega arith, omega (arith, mul-le-mul-right (a .width) rows))
 
 slice-aggregate-put-rows : tie.Need-slice-aggregate-put-rows
 slice-aggregate-put-rows c = search needs
@@ -31,7 +31,7 @@ same-length c = search needs
 returns : tie.Need-returns
 returns c =
     let a = c .before .before .before .before .before .before .before .before .before .before .before .args in
-    let made = c .before .before .before .before .before .before .sum-rows in
+    let made = c .before .before .before .before .before .before .part-rows in
     let put = c .before .before .put-rows in
     (chunk-folded (a .width) (a .first) (a .end) (a .q) (a .m) (a .i) (drop (a .from) (now (a .src))) (now (a .turned)) (made .last .0) (put .last .0) (c .before .before .before .before .before .before .before .before .before .before .before .pre .9) (made .ensures) (put .ensures .0), put .ensures .1)
 
@@ -39,8 +39,8 @@ pub fold-rows-spec : {M : Type 1} → statement M
 fold-rows-spec =
     tie.close
     (tie.spec
-    slice-aggregate-sum-rows
-    sum-rows-requires
+    slice-aggregate-part-rows
+    part-rows-requires
     slice-aggregate-put-rows
     put-rows-requires
     same-length

@@ -12,10 +12,10 @@ use Rattle.folds.proofs.rows.put_rows.Statement.{statement}
 use Rattle.folds.proofs.rows.put_rows.Tie as tie
 
 abbrev Inv-loop : tie.InvT-loop
-Inv-loop cells₀ made first end q m i p₀ cells p = (p ≤ 4) × (length cells ≡ length cells₀) × Put first end q m i p made cells × ChunksKept first q m i p cells₀ cells
+Inv-loop cells₀ made turned first end q m i p₀ cells p = (p ≤ 4) × (length cells ≡ length cells₀) × Put first end q m i p made turned cells × ChunksKept first q m i p cells₀ cells
 
 abbrev μ-loop : tie.MeasureT-loop
-μ-loop cells₀ made first end q m i p₀ cells p = 4 - p
+μ-loop cells₀ made turned first end q m i p₀ cells p = 4 - p
 
 loop-holds : tie.Need-loop-holds Inv-loop μ-loop
 loop-holds c = (search needs, refl, (λ p e hp. absurd (omega arith)), (λ at e beside he. refl))
@@ -31,13 +31,13 @@ loop-less c = search needs
 
 loop-again : tie.Need-loop-again Inv-loop μ-loop
 loop-again c =
-    let a = c .before .before .before .before .before .before .before .before .args in
+    let a = c .before .before .before .before .before .before .before .before .before .args in
     let l = c .before .before .before .before .before .loop in
     let done = c .before .before .put-panel in (
       omega arith,
       done .kept .0 ∙ l .inv .1,
-      put-more (a .first) (l .p) (a .end) (a .q) (a .m) (a .i) (now (a .made)) (l .cells) (done .last .0) (c .before .before .before .before .before .before .before .before .pre .3) (done .ensures .0) (done .ensures .1) (l .inv .2),
-      chunks-more (a .first) (l .p) (a .end) (a .q) (a .m) (a .i) (now (a .made)) (l .cells) (done .last .0) (c .before .before .before .before .before .before .before .before .pre .3) (done .ensures .0) (done .ensures .1) (now (a .cells)) (l .inv .3),
+      put-more (a .first) (l .p) (a .end) (a .q) (a .m) (a .i) (now (a .made)) (now (a .turned)) (l .cells) (done .last .0) (c .before .before .before .before .before .before .before .before .before .pre .3) (done .ensures .0) (done .ensures .1) (l .inv .2),
+      chunks-more (a .first) (l .p) (a .end) (a .q) (a .m) (a .i) (now (a .made)) (now (a .turned)) (l .cells) (done .last .0) (c .before .before .before .before .before .before .before .before .before .pre .3) (done .ensures .0) (done .ensures .1) (now (a .cells)) (l .inv .3),
     )
 
 same-length : tie.Need-same-length Inv-loop μ-loop
