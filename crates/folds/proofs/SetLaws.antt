@@ -29,6 +29,14 @@ use Rattle.folds.proofs.PlaceLaws.{beside-rows, beside-panel, beside-ma
 pub below-next : (P : ℕ → Type 0) (n : ℕ) → P n → ((k : ℕ) → k < n → P k) → (k : ℕ) → k < n + 1 → P k
 below-next P n own done k h = ⊎-elim (λ (e : k ≡ n). rw e own) (λ (lt : k < n). done k lt) (eq-or-lt-of-le (le-of-suc-le-suc (rw add-one at h)))
 
+-- what is below two bounds is below their least
+pub below-least : (a b r x : ℕ) → (r < a → r ≡ b) → x < a → x < b → x < r
+below-least a b r x least ha hb = go (decLt r a)
+  where
+    go : Dec (r < a) → x < r
+    go (yes lt) = omega (arith, least lt)
+    go (no ge) = omega arith
+
 -- ---- sixteen rows
 
 -- eight bytes of each row, taken in two halves, and parted
@@ -82,14 +90,14 @@ folded-bit w C r z x y M hz own added =
 -- what was put, of what was made
 pub chunk-folded : (w first end q m i : ℕ) (M t made cells : List ℕ) → Mirrors w M first end t → Parted w M first q made → Put first end q m i 4 made t cells
     → (p : ℕ) → p < 4 → q ≤ first + p → first + p < end → ChunkFolded w M (first + p) q cells (place first p q m i)
-chunk-folded w first end q m i M t made cells mirrors parts put p hp hq hend h f z hh hf hz =
+chunk-folded w first end q m i M t made cells mirrors parts put p hp hq hend h f z hh hw hf hz =
     let k = 2 * p + h in
     let r = q * 16 + f in
     let at : p * chunk + (h * 16 + f) ≡ k * 16 + f = omega arith in
     let row : (2 * p + (h * 16 + f) / 16) * 160 + (q * 16 + (h * 16 + f) % 16) ≡ k * 160 + r = omega arith in
     let column : (2 * first + k) * 8 + z ≡ (first + p) * 16 + (h * 8 + z) = omega arith in
     ap (λ x. bitOf x z) (put p (h * 16 + f) hp hq hend (omega arith) ∙ ap₂ (λ x y. bitXor (byteAt made x) (byteAt t y)) at row)
-    ∙ folded-bit w (2 * first + k) r z (byteAt made (k * 16 + f)) (byteAt t (k * 160 + r)) M hz (parts k f (omega arith) hf) (mirrors k (omega arith) r z (omega arith) hz)
+    ∙ folded-bit w (2 * first + k) r z (byteAt made (k * 16 + f)) (byteAt t (k * 160 + r)) M hz (parts k f (omega arith) hf) (mirrors k (omega arith) (omega arith) r z (omega arith) hz)
     ∙ ap (foldedBit w M r) column
 
 -- ---- the rows of a matrix
@@ -99,8 +107,8 @@ module _ (w first end m i q : ℕ) (M cells cells′ : List ℕ) (inside : i < m
       → SetFolded w M first end m i q cells → SetFolded w M first end m i (q + 1) cells′
   set-more own done x p hx =
       below-next (λ x. p < 4 → x ≤ first + p → first + p < end → ChunkFolded w M (first + p) x cells′ (place first p x m i)) q (own p)
-      (λ x lt hp hq hend h f z hh hf hz.
-      ap (λ b. bitOf b z) (kept (place first p x m i) (h * 16 + f) (beside-rows m i inside first p x q lt hq) (omega arith)) ∙ done x p lt hp hq hend h f z hh hf hz)
+      (λ x lt hp hq hend h f z hh hw hf hz.
+      ap (λ b. bitOf b z) (kept (place first p x m i) (h * 16 + f) (beside-rows m i inside first p x q lt hq) (omega arith)) ∙ done x p lt hp hq hend h f z hh hw hf hz)
       x hx
 
   pub kept-more : (old : List ℕ) → Kept m i old cells → Kept m i old cells′
@@ -117,17 +125,17 @@ size n w end wide few most =
     (mul-le-mul few bytes, mul-le-mul rows bytes)
 
 -- the panels of a set that begin before n end before the least of two bounds
-pub set-ends : (first n end : ℕ) → end ≤ first + 4 → (end < first + 4 → end ≡ (n + 15) / 16) → (p : ℕ) → p < 4 → (first + p) * 16 < n → first + p < end
-set-ends first n end most least p hp h = go (decLt end (first + 4))
-  where
-    go : Dec (end < first + 4) → first + p < end
-    go (yes lt) = omega (arith, least lt)
-    go (no ge) = omega arith
+pub set-ends : (first n end : ℕ) → (end < first + 4 → end ≡ (n + 15) / 16) → (p : ℕ) → p < 4 → (first + p) * 16 < n → first + p < end
+set-ends first n end least p hp h = below-least (first + 4) ((n + 15) / 16) end (first + p) least (omega arith) (omega arith)
+
+-- a column below n stands in a byte of the row
+column-byte : (n w c : ℕ) → w ≡ bytesFor n → c < n → c / 8 < w
+unfolding bytesFor
+column-byte n w c wide h = omega arith
 
 -- strings that agree on a matrix have its entries
 entry-same : (n w ρ c : ℕ) (S M : List ℕ) → w ≡ bytesFor n → ((k : ℕ) → k < n * w → byteAt S k ≡ byteAt M k) → ρ < n → c < n → entry w S ρ c ≡ entry w M ρ c
-unfolding bytesFor
-entry-same n w ρ c S M wide same hρ hc = ap (λ b. bitOf b (c % 8)) (same (ρ * w + c / 8) (omega (arith, row-end ρ n w hρ)))
+entry-same n w ρ c S M wide same hρ hc = ap (λ b. bitOf b (c % 8)) (same (ρ * w + c / 8) (omega (arith, row-end ρ n w hρ, column-byte n w c wide hc)))
 
 folded-same : (n w ρ c : ℕ) (S M : List ℕ) → w ≡ bytesFor n → ((k : ℕ) → k < n * w → byteAt S k ≡ byteAt M k) → ρ < n → c < n → foldedBit w S ρ c ≡ foldedBit w M ρ c
 unfolding foldedBit
@@ -138,7 +146,8 @@ pub matrix-folded : (n w first end m i : ℕ) (S M cells : List ℕ) → w ≡ b
     → ((p : ℕ) → p < 4 → (first + p) * 16 < n → first + p < end) → SetFolded w S first end m i end cells → MatrixFolded n w M first m i cells
 matrix-folded n w first end m i S M cells wide same ends done p q h f z hp hq hh hf hz hr hc =
     let inside : first + p < end = ends p hp (omega arith) in
-    done q p (omega arith) hp hq inside h f z hh hf hz ∙ folded-same n w (q * 16 + f) ((first + p) * 16 + (h * 8 + z)) S M wide same hr hc
+    let byte : 2 * (first + p) + h < w = omega (arith, column-byte n w ((first + p) * 16 + (h * 8 + z)) wide hc) in
+    done q p (omega arith) hp hq inside h f z hh byte hf hz ∙ folded-same n w (q * 16 + f) ((first + p) * 16 + (h * 8 + z)) S M wide same hr hc
 
 pub matrix-more : (n w first m k : ℕ) (a cells cells′ : List ℕ) → k < m → MatrixFolded n w (blockAt a (n * w) k) first m k cells′ → Kept m k cells cells′
     → ((i : ℕ) → i < k → MatrixFolded n w (blockAt a (n * w) i) first m i cells) → (i : ℕ) → i < k + 1 → MatrixFolded n w (blockAt a (n * w) i) first m i cells′

@@ -4,6 +4,7 @@ ghost use Prim.Native.Nat.{ℕ, _+_, _*_, _/_, _%_, _<_, _≤_};
 ghost use lib.ListN.{length, drop};
 ghost use Rattle.strings.specs.Sums.{byteAt, bitOf};
 ghost use Rattle.folds.specs.Sets.{Mirrored, Reflected, Mirrors, RowsKept};
+use chunks::cells::least;
 use chunks::masks::fill_part;
 use turns::EIGHT_ROWS;
 use turns::SIXTEEN;
@@ -59,7 +60,7 @@ fn reflect(turned: &mut [u8], k: usize, src: &[u8], from: usize, width: usize, c
     fill_part(turned, k * SIXTEENS + col / 2, SIXTEEN, 0);
 }
 
-// The byte columns of the panels first, .., end - 1 of the matrix that stands in src from `from` on.
+// The byte columns of the panels first, .., end - 1 of the matrix that stands in src from `from` on. From `width` on a row has no bytes: nothing is turned there.
 pub fn reflect_all(
     turned: &mut [u8],
     src: &[u8],
@@ -71,8 +72,9 @@ pub fn reflect_all(
     requires { ⌜ (first < end) × (end ≤ first + 4) × (end ≤ 10) × (length (now turned) ≡ 1280) × (from + end * 16 * width + 32 ≤ length (now src)) ⌝ }
     ensures { λ _. ⌜ Mirrors width (drop from (now (src .entry))) first end (now (turned .exit)) ⌝ }
 {
+    let last = least(2 * end, width);
     let mut k = 0;
-    while 2 * first + k < 2 * end {
+    while 2 * first + k < last {
         reflect(turned, k, src, from, width, 2 * first + k);
         k += 1;
     }

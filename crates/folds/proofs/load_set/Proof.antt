@@ -39,7 +39,7 @@ load-matrix-requires c κs =
     let pre = c .before .before .before .before .before .before .before .pre in
     let l = c .before .before .before .loop in
     let least = c .before .before .before .before .least in
-    let ends = set-ends (a .first) (a .n) (least .result) (least .ensures .0) (least .ensures .2) in
+    let ends = set-ends (a .first) (a .n) (least .result) (least .ensures .2) in
     (pre .0, pre .1, pre .3, omega (arith, ends 0 (omega arith) (omega (arith, pre .4))), least .ensures .0, omega (arith, least .ensures .1, pre .1), ends, c .before .before .loop-test .taken, pre .2, pre .5, omega (arith, pre .6, l .inv .1), l .inv .2)
 
 add-i : tie.Need-add-i Inv-loop μ-loop

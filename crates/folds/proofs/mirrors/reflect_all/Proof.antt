@@ -9,16 +9,22 @@ use denote.Ref.{now}
 use lib.ListN.{length, drop}
 use Rattle.folds.specs.Sets.{Reflected}
 use Rattle.folds.proofs.MirrorLaws.{reflected-stays}
-use Rattle.folds.proofs.SetLaws.{below-next}
+use Rattle.folds.proofs.SetLaws.{below-next, below-least}
 use Rattle.folds.proofs.mirrors.reflect_all.Statement.{statement}
 use Rattle.folds.proofs.mirrors.reflect_all.Tie as tie
 
 abbrev Inv-loop : tie.InvT-loop
-Inv-loop turned₀ src from width first end k₀ turned k =
+Inv-loop turned₀ src from width first end last k₀ turned k =
     (k ≤ 8) × (length turned ≡ 1280) × ((x : ℕ) → x < k → 2 * first + x < 2 * end → Reflected width (drop from src) (2 * first + x) turned x)
 
 abbrev μ-loop : tie.MeasureT-loop
-μ-loop turned₀ src from width first end k₀ turned k = 8 - k
+μ-loop turned₀ src from width first end last k₀ turned k = 8 - k
+
+mul-least : tie.Need-mul-least Inv-loop μ-loop
+mul-least c = search needs
+
+least-requires : tie.Need-least-requires Inv-loop μ-loop
+least-requires c κs = search needs
 
 loop-holds : tie.Need-loop-holds Inv-loop μ-loop
 loop-holds c = (search needs, search needs, λ x h. absurd (omega arith))
@@ -29,9 +35,6 @@ mul-loop c = search needs
 add-loop : tie.Need-add-loop Inv-loop μ-loop
 add-loop c = search needs
 
-mul-loop-2 : tie.Need-mul-loop-2 Inv-loop μ-loop
-mul-loop-2 c = search needs
-
 mul-reflect : tie.Need-mul-reflect Inv-loop μ-loop
 mul-reflect c = search needs
 
@@ -40,7 +43,7 @@ add-reflect c = search needs
 
 reflect-requires : tie.Need-reflect-requires Inv-loop μ-loop
 reflect-requires c κs =
-    let a = c .before .before .before .before .before .args in
+    let a = c .before .before .before .before .before .before .args in
     let k = c .before .before .loop .k in
     let rows : (2 * a .first + k) * 8 + 8 ≤ a .end * 16 = omega arith in
     (omega arith, omega arith, omega arith, omega (arith, mul-le-mul-right (a .width) rows))
@@ -53,10 +56,10 @@ loop-less c = search needs
 
 loop-again : tie.Need-loop-again Inv-loop μ-loop
 loop-again c =
-    let a = c .before .before .before .before .before .before .before .before .args in
+    let a = c .before .before .before .before .before .before .before .before .before .args in
     let l = c .before .before .before .before .before .loop in
     let done = c .before .before .reflect in
-    let few = c .before .before .before .before .before .before .before .before .pre .2 in
+    let few = c .before .before .before .before .before .before .before .before .before .pre .2 in
     let M = drop (a .from) (now (a .src)) in (
       omega arith,
       done .kept .0 ∙ l .inv .1,
@@ -68,7 +71,10 @@ same-length : tie.Need-same-length Inv-loop μ-loop
 same-length c = search needs
 
 returns : tie.Need-returns Inv-loop μ-loop
-returns c = λ k h. c .before .loop .inv .2 k (omega arith) h
+returns c =
+    let a = c .before .before .before .before .before .args in
+    let least = c .before .before .least in
+    λ k h w. c .before .loop .inv .2 k (omega (arith, below-least (2 * a .end) (a .width) (least .result) (2 * a .first + k) (least .ensures .2) h w)) h
 
 pub reflect-all-spec : {M : Type 1} → statement M
 reflect-all-spec =
@@ -76,10 +82,11 @@ reflect-all-spec =
     (tie.spec
     Inv-loop
     μ-loop
+    mul-least
+    least-requires
     loop-holds
     mul-loop
     add-loop
-    mul-loop-2
     mul-reflect
     add-reflect
     reflect-requires
