@@ -12,6 +12,7 @@ ghost use Rattle.columns.specs.Stacks.{alpha, product, planes, foldOf};
 use chunks::CHUNK;
 use field::Gf256;
 use lanes::LANES;
+use strings::word_at;
 
 // The planes of a stack: as many as a product of two elements has coefficients before it is reduced.
 const PLANES: usize = 15;
@@ -22,18 +23,15 @@ pub const STACK: usize = PLANES * CHUNK;
 // The bytes of a plane of all repetitions for each plane of a stack.
 const ROWS: usize = PLANES * LANES;
 
-// The sum of sixteen bytes from `at` on.
+// The sum of sixteen bytes from `at` on, in words: halves are added until one byte is left.
 pub fn sum_at(s: &[u8], at: usize) -> u8
     requires { ⌜ at + 16 ≤ length (now s) ⌝ }
     ensures { λ r. ⌜ r ≡ xorSum 16 (λ f. byteAt (now (s .entry)) (at + f)) ⌝ }
 {
-    let mut sum: u8 = 0;
-    let mut f = 0;
-    while f < 16 {
-        sum ^= s[at + f];
-        f += 1;
-    }
-    sum
+    let all = word_at(s, at) ^ word_at(s, at + 8);
+    let half = all ^ (all >> 32);
+    let quarter = half ^ (half >> 16);
+    ((quarter ^ (quarter >> 8)) % 256) as u8
 }
 
 // out[e] = the sum of sixteen bytes from `at` on in stack e.

@@ -3,28 +3,8 @@ ghost use mathlib.Core.Path.{_≡_};
 ghost use Prim.Native.Nat.{_+_, _*_, _<_, _≤_};
 ghost use lib.ListN.{length};
 ghost use Rattle.strings.specs.Products.{product};
-ghost use Rattle.parity.specs.Shared.{shared, wordOf};
-
-fn wide(x: u8) -> u64
-    ensures { λ r. ⌜ r ≡ x ⌝ }
-{
-    x as u64
-}
-
-// Eight bytes as one number, lowest first: one load.
-fn word_at(s: &[u8], at: usize) -> u64
-    requires { ⌜ at + 8 ≤ length (now s) ⌝ }
-    ensures { λ r. ⌜ r ≡ wordOf (now (s .entry)) at 8 ⌝ }
-{
-    wide(s[at])
-        | wide(s[at + 1]) << 8
-        | wide(s[at + 2]) << 16
-        | wide(s[at + 3]) << 24
-        | wide(s[at + 4]) << 32
-        | wide(s[at + 5]) << 40
-        | wide(s[at + 6]) << 48
-        | wide(s[at + 7]) << 56
-}
+ghost use Rattle.parity.specs.Shared.{shared};
+use strings::word_at;
 
 // The ones that two rows share in their first words of eight bytes.
 fn shared_words(row: &[u8], x: &[u8], words: usize) -> u32

@@ -7,3 +7,4 @@ pub mod Packed
 pub mod BitLaws
 pub mod TopLaws
 pub mod ProductLaws
+pub mod WordLaws

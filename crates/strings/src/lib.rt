@@ -1,4 +1,4 @@
-// Byte strings as the code walks them: sums in place, rows of a table, and single bits.
+// Byte strings as the code walks them: sums in place, rows of a table, single bits, and words of eight bytes.
 ghost use mathlib.Core.Path.{_≡_};
 ghost use Prim.Native.Nat.{ℕ, _+_, _*_, _<_, _≤_};
 ghost use lib.ListN.{length};
@@ -6,6 +6,7 @@ ghost use lib.Bits.{bitXor};
 ghost use Rattle.protocol.specs.Lists.{blockAt};
 ghost use Rattle.protocol.specs.Strings.{bit};
 ghost use Rattle.strings.specs.Sums.{byteAt};
+ghost use Rattle.strings.specs.Words.{wordOf};
 
 // dst[i] ^= src[i], for each i.
 pub fn xor_into(dst: &mut [u8], src: &[u8])
@@ -77,4 +78,25 @@ pub fn xor_bit(s: &mut [u8], c: usize, q: u8)
     ensures { λ _. ⌜ ((d : ℕ) → (d ≡ c → ⊥) → bit (now (s .exit)) d ≡ bit (now (s .entry)) d) ⌝ }
 {
     s[c / 8] ^= q << (c % 8);
+}
+
+fn wide(x: u8) -> u64
+    ensures { λ r. ⌜ r ≡ x ⌝ }
+{
+    x as u64
+}
+
+// Eight bytes as one number, lowest first: one load.
+pub fn word_at(s: &[u8], at: usize) -> u64
+    requires { ⌜ at + 8 ≤ length (now s) ⌝ }
+    ensures { λ r. ⌜ r ≡ wordOf (now (s .entry)) at 8 ⌝ }
+{
+    wide(s[at])
+        | wide(s[at + 1]) << 8
+        | wide(s[at + 2]) << 16
+        | wide(s[at + 3]) << 24
+        | wide(s[at + 4]) << 32
+        | wide(s[at + 5]) << 40
+        | wide(s[at + 6]) << 48
+        | wide(s[at + 7]) << 56
 }

@@ -1,61 +1,31 @@
--- `columns::sum_at` meets its contract. The invariant: the bytes below f are added.
+-- `columns::sum_at` meets its contract: the bytes of two words, added by halves.
 -- Assumes nothing.
 use borrow.Author.Needs.{needs}
-use Prim.Native.Nat.{ℕ, _+_, _-_, _≤_}
-use mathlib.Core.Path.{_≡_, refl, sym, ap, _∙_}
-use native.Mathlib.Omega.{arith}
+use Prim.Native.Nat.{ℕ, _%_}
+use mathlib.Core.Path.{_≡_, ap₂, _∙_}
 use denote.Ref.{now}
 use lib.Bits.{bitXor}
-use Rattle.strings.specs.Sums.{byteAt, xorSum}
-use Rattle.strings.proofs.SumLaws.{sum-more}
+use Rattle.strings.proofs.WordLaws.{halved, sum-words}
 use Rattle.columns.proofs.sum_at.Statement.{statement}
 use Rattle.columns.proofs.sum_at.Tie as tie
 
-abbrev Inv-loop : tie.InvT-loop
-Inv-loop s at sum₀ f₀ sum f = (f ≤ 16) × (sum ≡ xorSum f (λ i. byteAt s (at + i)))
+word-at-requires : tie.Need-word-at-requires
+word-at-requires c κs = search needs
 
-abbrev μ-loop : tie.MeasureT-loop
-μ-loop s at sum₀ f₀ sum f = 16 - f
+add-word-at : tie.Need-add-word-at
+add-word-at c = search needs
 
-loop-holds : tie.Need-loop-holds Inv-loop μ-loop
-unfolding xorSum
-loop-holds c =
-    (search needs, refl)
+word-at-requires-2 : tie.Need-word-at-requires-2
+word-at-requires-2 c κs = search needs
 
-add-sum : tie.Need-add-sum Inv-loop μ-loop
-add-sum c = search needs
+cast-result : tie.Need-cast-result
+cast-result c = search needs
 
-shared-slice-read-sum : tie.Need-shared-slice-read-sum Inv-loop μ-loop
-shared-slice-read-sum c = search needs
-
-add-f : tie.Need-add-f Inv-loop μ-loop
-add-f c = search needs
-
-loop-less : tie.Need-loop-less Inv-loop μ-loop
-loop-less c = search needs
-
-loop-again : tie.Need-loop-again Inv-loop μ-loop
-loop-again c =
-    let a = c .before .before .before .args in
-    let l = c .before .before .loop in
-    (omega arith, ap (λ (x : ℕ). bitXor x (byteAt (now (a .s)) (a .at + l .f))) (l .inv .1) ∙ sym (sum-more (l .f) (λ i. byteAt (now (a .s)) (a .at + i))))
-
-returns : tie.Need-returns Inv-loop μ-loop
+returns : tie.Need-returns
 returns c =
-    let l = c .before .loop in
-    let end : l .f ≡ 16 = omega arith in
-    rw end at (l .inv .1)
+    let a = c .before .before .before .args in
+    ap₂ (λ (x y : ℕ). halved 1 (halved 2 (halved 4 (bitXor x y))) % 256) (c .before .word-at .ensures) (c .word-at2 .ensures)
+    ∙ sum-words (now (a .s)) (a .at) (λ i. c .before .before .shared-slice-known .given i .fits)
 
 pub sum-at-spec : {M : Type 1} → statement M
-sum-at-spec =
-    tie.close
-    (tie.spec
-    Inv-loop
-    μ-loop
-    loop-holds
-    add-sum
-    shared-slice-read-sum
-    add-f
-    loop-less
-    loop-again
-    returns)
+sum-at-spec = tie.close (tie.spec word-at-requires add-word-at word-at-requires-2 cast-result returns)

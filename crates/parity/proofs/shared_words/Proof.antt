@@ -8,7 +8,8 @@ use denote.Ref.{now}
 use lib.Bits.{bitAnd}
 use lib.Count.{ones}
 use Rattle.strings.specs.Sums.{byteAt}
-use Rattle.parity.specs.Shared.{shared, wordOf}
+use Rattle.strings.specs.Words.{wordOf}
+use Rattle.parity.specs.Shared.{shared}
 use Rattle.parity.proofs.ParityLaws.{shared-le}
 use Rattle.parity.proofs.WordLaws.{shared-word}
 use Rattle.parity.proofs.shared_words.Statement.{statement}

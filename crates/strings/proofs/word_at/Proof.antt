@@ -1,16 +1,16 @@
--- `parity::word_at` meets its contract. Each byte is put above those before it.
+-- `strings::word_at` meets its contract. Each byte is put above those before it.
 -- Assumes nothing.
 use Prim.Native.Nat.{ℕ, suc, _+_, _*_, _%_, _^_, _<_}
 use mathlib.Core.Path.{_≡_, ap₂, _∙_}
 use native.Mathlib.Omega.{arith}
 use denote.Ref.{now}
 use lib.Bits.{bitOr}
 use Rattle.strings.specs.Sums.{byteAt}
-use Rattle.parity.specs.Shared.{wordOf}
-use Rattle.parity.proofs.WordLaws.{word-first, word-next}
+use Rattle.strings.specs.Words.{wordOf}
+use Rattle.strings.proofs.WordLaws.{word-first, word-next}
 use borrow.Author.Needs.{needs}
-use Rattle.parity.proofs.word_at.Statement.{statement}
-use Rattle.parity.proofs.word_at.Tie as tie
+use Rattle.strings.proofs.word_at.Statement.{statement}
+use Rattle.strings.proofs.word_at.Tie as tie
 
 shared-slice-read-wide : tie.Need-shared-slice-read-wide
 shared-slice-read-wide c = search needs
