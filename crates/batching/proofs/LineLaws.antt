@@ -25,7 +25,7 @@ use Rattle.choices.proofs.ChoiceLaws.{chosen-sum}
 use Rattle.columns.specs.Stacks.{alpha, product}
 use Rattle.columns.proofs.ProductLaws.{product-comm, byte-bits}
 use Rattle.batching.specs.Batched.{most}
-use Rattle.batching.specs.Lines.{lineBit, leftBit, lineSum}
+use Rattle.batching.specs.Lines.{lineBit, leftByte, leftBit, lineSum}
 use Rattle.batching.proofs.FormLaws.{product-one}
 use Rattle.batching.proofs.StackLaws.{scaled-lt, planes-added}
 
@@ -53,12 +53,11 @@ halves-more v old l f y z hf long is is′ done k hk = go (ℕ-discrete k f) (�
         ((λ h. same ∙ done k hk .0 (omega (arith, h, n, n′, hk))), λ h. same ∙ done k hk .1 (omega arith))
 
 -- what a half of a chunk of sums comes to
-pub half-left-bit : (cells bits acc : List ℕ) (x : ℕ → ℕ) (m i J h z : ℕ) → ((k : ℕ) → byteAt cells k < 256) → ((c : ℕ) → x c < 2) → ((c : ℕ) → c < most → byteAt bits c ≡ x c * 255) → J < 10 → h < 2
-    → ((k : ℕ) → k < chunk → byteAt acc k ≡ xorSum (J + 1) (λ q. bitAnd (byteAt cells ((q * m + i) * chunk + k)) (byteAt bits (q * 16 + k % 16))))
-    → bitOf (xorSum 16 (λ f. byteAt acc (h * 16 + f))) z ≡ leftBit cells m x i J h z
+pub half-left-bit : (cells bits : List ℕ) (s x : ℕ → ℕ) (m i J h z : ℕ) → ((k : ℕ) → byteAt cells k < 256) → ((c : ℕ) → x c < 2) → ((c : ℕ) → c < most → byteAt bits c ≡ x c * 255) → J < 10 → h < 2
+    → ((k : ℕ) → k < chunk → s k ≡ leftByte cells m bits i J k) → bitOf (xorSum 16 (λ f. s (h * 16 + f))) z ≡ leftBit cells m x i J h z
 unfolding leftBit
-half-left-bit cells bits acc x m i J h z small bit masks hJ hh are =
-    bitOf-sum 16 (λ f. byteAt acc (h * 16 + f)) z
+half-left-bit cells bits s x m i J h z small bit masks hJ hh are =
+    bitOf-sum 16 (λ f. s (h * 16 + f)) z
     ∙ sum-same 16 _ (λ f. xorSum (J + 1) (λ q. row (q * 16 + f)))
     (λ f l.
     ap (λ y. bitOf y z) (are (h * 16 + f) (omega arith))

@@ -112,7 +112,7 @@ pub fn add_forms(
     while panel * 16 < n {
         load(&mut cells, a, n, width, m, panel);
         let held = folds::panel_of(&cells, m, panel);
-        super::lines::add_left(lines, held, m, panel, &bits, polar);
+        super::lines::add_left(lines, &mut sums, held, m, panel, &bits, polar);
         add_panel(
             quad,
             mid,

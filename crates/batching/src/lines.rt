@@ -13,7 +13,7 @@ ghost use Rattle.chunks.specs.Chunks.{chunk, cellAt};
 ghost use Rattle.choices.specs.Entries.{eightByte, Chosen, Weighed};
 ghost use Rattle.columns.specs.Stacks.{product};
 ghost use Rattle.batching.specs.Batched.{most};
-ghost use Rattle.batching.specs.Lines.{lineBit, leftBit, lineSum};
+ghost use Rattle.batching.specs.Lines.{lineBit, leftByte, leftBit, lineSum};
 use super::stacks::MOST;
 use chunks::CHUNK;
 use field::Gf256;
@@ -40,11 +40,11 @@ fn add_masked(acc: &mut [u8; CHUNK], cells: &[u8], at: usize, bits: &[u8], from:
     }
 }
 
-// Adds to line i the panel's columns of its matrix, summed over the rows whose bits are set.
-fn add_line(lines: &mut [u8], i: usize, cells: &[u8], m: usize, panel: usize, bits: &[u8])
-    requires { ⌜ (i < m) × (m * chunk ≤ length (now lines)) × ((panel + 1) * (m * chunk) ≤ length (now cells)) × (panel < 10) × (m ≤ 160) × (length (now bits) ≡ most) ⌝ }
-    ensures { λ _. ⌜ ((x : ℕ → ℕ) (h z : ℕ) → ((c : ℕ) → x c < 2) → ((c : ℕ) → c < most → byteAt (now (bits .entry)) c ≡ x c * 255) → h < 2 → z < 8 → bitOf (cellAt (now (lines .exit)) i (panel * 2 + h)) z ≡ bitXor (bitOf (cellAt (now (lines .entry)) i (panel * 2 + h)) z) (leftBit (now (cells .entry)) m x i panel h z)) ⌝ }
-    ensures { λ _. ⌜ ((k : ℕ) → (k / 2 ≡ i * 16 + panel → ⊥) → byteAt (now (lines .exit)) k ≡ byteAt (now (lines .entry)) k) ⌝ }
+// Chunk i of the sums becomes the sum of the rows of matrix i whose bits are set, sixteen by sixteen.
+fn sum_left(sums: &mut [u8], i: usize, cells: &[u8], m: usize, panel: usize, bits: &[u8])
+    requires { ⌜ (i < m) × (m * chunk ≤ length (now sums)) × ((panel + 1) * (m * chunk) ≤ length (now cells)) × (panel < 10) × (m ≤ 160) × (length (now bits) ≡ most) ⌝ }
+    ensures { λ _. ⌜ ((k : ℕ) → k < chunk → cellAt (now (sums .exit)) i k ≡ leftByte (now (cells .entry)) m (now (bits .entry)) i panel k) ⌝ }
+    ensures { λ _. ⌜ ((j k : ℕ) → (j ≡ i → ⊥) → k < chunk → cellAt (now (sums .exit)) j k ≡ cellAt (now (sums .entry)) j k) ⌝ }
 {
     let mut acc = [0u8; CHUNK];
     let mut q = 0;
@@ -52,33 +52,56 @@ fn add_line(lines: &mut [u8], i: usize, cells: &[u8], m: usize, panel: usize, bi
         add_masked(&mut acc, cells, (q * m + i) * CHUNK, bits, q * 16);
         q += 1;
     }
-    let at = i * CHUNK + panel * 2;
-    lines[at] ^= columns::sum_at(&acc, 0);
-    lines[at + 1] ^= columns::sum_at(&acc, 16);
+    choices::sums::store(sums, i, &acc);
 }
 
-// The same for each of the m lines.
-fn add_each(lines: &mut [u8], cells: &[u8], m: usize, panel: usize, bits: &[u8])
-    requires { ⌜ (m * chunk ≤ length (now lines)) × ((panel + 1) * (m * chunk) ≤ length (now cells)) × (panel < 10) × (m ≤ 160) × (length (now bits) ≡ most) ⌝ }
-    ensures { λ _. ⌜ ((x : ℕ → ℕ) (i h z : ℕ) → ((c : ℕ) → x c < 2) → ((c : ℕ) → c < most → byteAt (now (bits .entry)) c ≡ x c * 255) → i < m → h < 2 → z < 8 → bitOf (cellAt (now (lines .exit)) i (panel * 2 + h)) z ≡ bitXor (bitOf (cellAt (now (lines .entry)) i (panel * 2 + h)) z) (leftBit (now (cells .entry)) m x i panel h z)) ⌝ }
-    ensures { λ _. ⌜ ((i k : ℕ) → k < chunk → (k / 2 ≡ panel → ⊥) → cellAt (now (lines .exit)) i k ≡ cellAt (now (lines .entry)) i k) ⌝ }
+// The same for each of the m matrices.
+fn sum_each(sums: &mut [u8], cells: &[u8], m: usize, panel: usize, bits: &[u8])
+    requires { ⌜ (m * chunk ≤ length (now sums)) × ((panel + 1) * (m * chunk) ≤ length (now cells)) × (panel < 10) × (m ≤ 160) × (length (now bits) ≡ most) ⌝ }
+    ensures { λ _. ⌜ ((i k : ℕ) → i < m → k < chunk → cellAt (now (sums .exit)) i k ≡ leftByte (now (cells .entry)) m (now (bits .entry)) i panel k) ⌝ }
 {
     let mut i = 0;
     while i < m {
-        add_line(lines, i, cells, m, panel, bits);
+        sum_left(sums, i, cells, m, panel, bits);
         i += 1;
     }
 }
 
-// Adds to each line a panel of its folded matrix, times the bits from the left, where the polar form is asked for. The bits are lent as masks.
-pub fn add_left(lines: &mut [u8], cells: &[u8], m: usize, panel: usize, bits: &[u8], polar: bool)
-    requires { ⌜ (m * chunk ≤ length (now lines)) × ((panel + 1) * (m * chunk) ≤ length (now cells)) × (panel < 10) × (m ≤ 160) × (length (now bits) ≡ most) ⌝ }
+// Adds to each line its two sums of sixteen bytes, at the panel's columns. Summed from memory: of a chunk in registers the compiler would make a chain
+// of bytes.
+fn add_each(lines: &mut [u8], sums: &[u8], m: usize, panel: usize)
+    requires { ⌜ (m * chunk ≤ length (now lines)) × (m * chunk ≤ length (now sums)) × (panel < 10) × (m ≤ 160) ⌝ }
+    ensures { λ _. ⌜ ((i h : ℕ) → i < m → h < 2 → cellAt (now (lines .exit)) i (panel * 2 + h) ≡ bitXor (cellAt (now (lines .entry)) i (panel * 2 + h)) (xorSum 16 (λ f. cellAt (now (sums .entry)) i (h * 16 + f)))) ⌝ }
+    ensures { λ _. ⌜ ((i k : ℕ) → k < chunk → (k / 2 ≡ panel → ⊥) → cellAt (now (lines .exit)) i k ≡ cellAt (now (lines .entry)) i k) ⌝ }
+{
+    let mut i = 0;
+    while i < m {
+        let at = i * CHUNK + panel * 2;
+        lines[at] ^= columns::sum_at(sums, i * CHUNK);
+        lines[at + 1] ^= columns::sum_at(sums, i * CHUNK + 16);
+        i += 1;
+    }
+}
+
+// Adds to each line a panel of its folded matrix, times the bits from the left, where the polar form is asked for. The bits are lent as masks. `sums` is
+// space.
+pub fn add_left(
+    lines: &mut [u8],
+    sums: &mut [u8],
+    cells: &[u8],
+    m: usize,
+    panel: usize,
+    bits: &[u8],
+    polar: bool,
+)
+    requires { ⌜ (m * chunk ≤ length (now lines)) × ((panel + 1) * (m * chunk) ≤ length (now cells)) × (panel < 10) × (m ≤ 160) × (length (now bits) ≡ most) × (m * chunk ≤ length (now sums)) ⌝ }
     ensures { λ _. ⌜ (polar ≡ true → (x : ℕ → ℕ) (i h z : ℕ) → ((c : ℕ) → x c < 2) → ((c : ℕ) → c < most → byteAt (now (bits .entry)) c ≡ x c * 255) → i < m → h < 2 → z < 8 → bitOf (cellAt (now (lines .exit)) i (panel * 2 + h)) z ≡ bitXor (bitOf (cellAt (now (lines .entry)) i (panel * 2 + h)) z) (leftBit (now (cells .entry)) m x i panel h z)) ⌝ }
     ensures { λ _. ⌜ ((i k : ℕ) → k < chunk → (k / 2 ≡ panel → ⊥) → cellAt (now (lines .exit)) i k ≡ cellAt (now (lines .entry)) i k) ⌝ }
     ensures { λ _. ⌜ (polar ≡ false → now (lines .exit) ≡ now (lines .entry)) ⌝ }
 {
     if polar {
-        add_each(lines, cells, m, panel, bits);
+        sum_each(sums, cells, m, panel, bits);
+        add_each(lines, sums, m, panel);
     }
 }
 

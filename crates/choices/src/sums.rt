@@ -36,7 +36,8 @@ fn add_row(dst: &mut [u8; CHUNK], c: usize, n: usize, table: &[u8])
     }
 }
 
-fn store(sums: &mut [u8], k: usize, src: &[u8; CHUNK])
+// Chunk k becomes src.
+pub fn store(sums: &mut [u8], k: usize, src: &[u8; CHUNK])
     requires { ⌜ (k * chunk + chunk ≤ length (now sums)) × (length (now src) ≡ chunk) ⌝ }
     ensures { λ _. ⌜ ((f : ℕ) → f < chunk → cellAt (now (sums .exit)) k f ≡ byteAt (now (src .entry)) f) ⌝ }
     ensures { λ _. ⌜ ((q f : ℕ) → (q ≡ k → ⊥) → f < chunk → cellAt (now (sums .exit)) q f ≡ cellAt (now (sums .entry)) q f) ⌝ }

@@ -2,7 +2,7 @@
 -- Assumes nothing.
 use borrow.Author.Needs.{needs}
 use Prim.Native.Nat.{ℕ, _%_}
-use mathlib.Core.Path.{_≡_, ap₂, _∙_}
+use mathlib.Core.Path.{ap₂, _∙_}
 use denote.Ref.{now}
 use lib.Bits.{bitXor}
 use Rattle.strings.proofs.WordLaws.{halved, sum-words}

@@ -99,15 +99,16 @@ panel-of-requires c κs =
 slice-aggregate-add-left : tie.Need-slice-aggregate-add-left Inv-loop μ-loop
 slice-aggregate-add-left c = search needs
 
+slice-aggregate-add-left-2 : tie.Need-slice-aggregate-add-left-2 Inv-loop μ-loop
+slice-aggregate-add-left-2 c = search needs
+
 add-left-requires : tie.Need-add-left-requires Inv-loop μ-loop
 add-left-requires c κs =
-    let a = c .before .before .before .before .before .before .before .before .before .before .before .before .before .before .before .before .before .before .before .before .before .before .args in
-    let pre = c .before .before .before .before .before .before .before .before .before .before .before .before .before .before .before .before .before .before .before .before .before .before .pre in
-    let l = c .before .before .before .before .before .before .before .before .loop in
-    let done = c .before .before .before .before .before .load in
-    let there = c .before .before .panel-of in
-    let few : l .panel < 10 = omega (arith, pre .4, c .before .before .before .before .before .before .before .loop-test .taken) in
-    (omega (arith, pre .16, l .inv .13), omega (arith, there .ensures .0), few, pre .6, l .inv .10)
+    let pre = c .before .before .before .before .before .before .before .before .before .before .before .before .before .before .before .before .before .before .before .before .before .before .before .pre in
+    let l = c .before .before .before .before .before .before .before .before .before .loop in
+    let there = c .before .before .before .panel-of in
+    let few : l .panel < 10 = omega (arith, pre .4, c .before .before .before .before .before .before .before .before .loop-test .taken) in
+    (omega (arith, pre .16, l .inv .13), omega (arith, there .ensures .0), few, pre .6, l .inv .10, omega (arith, pre .6, l .inv .4))
 
 slice-aggregate-add-panel : tie.Need-slice-aggregate-add-panel Inv-loop μ-loop
 slice-aggregate-add-panel c = search needs
@@ -120,36 +121,36 @@ slice-aggregate-add-panel-3 c = search needs
 
 add-panel-requires : tie.Need-add-panel-requires Inv-loop μ-loop
 add-panel-requires c κs =
-    let pre = c .before .before .before .before .before .before .before .before .before .before .before .before .before .before .before .before .before .before .before .before .before .before .before .before .before .before .before .before .before .before .pre in
-    let l = c .before .before .before .before .before .before .before .before .before .before .before .before .before .before .before .before .loop in
-    let done = c .before .before .before .before .before .before .before .before .before .before .before .before .before .load in
-    let there = c .before .before .before .before .before .before .before .before .before .before .panel-of in
-    ((l .inv .1, l .inv .2, l .inv .4, omega (arith, there .ensures .0), pre .4, pre .5, pre .6, pre .7, pre .8, pre .9, pre .10, pre .11, c .before .before .before .before .before .before .before .before .before .before .before .before .before .before .before .loop-test .taken, omega (arith, pre .8, l .inv .12)), (omega (arith, pre .8, l .inv .9), pre .12, pre .13, pre .14, l .inv .5, pre .15))
+    let pre = c .before .before .before .before .before .before .before .before .before .before .before .before .before .before .before .before .before .before .before .before .before .before .before .before .before .before .before .before .before .before .before .before .pre in
+    let l = c .before .before .before .before .before .before .before .before .before .before .before .before .before .before .before .before .before .before .loop in
+    let left = c .before .before .before .before .before .before .before .before .add-left in
+    let there = c .before .before .before .before .before .before .before .before .before .before .before .before .panel-of in
+    ((l .inv .1, l .inv .2, left .kept .1 .0 ∙ l .inv .4, omega (arith, there .ensures .0), pre .4, pre .5, pre .6, pre .7, pre .8, pre .9, pre .10, pre .11, c .before .before .before .before .before .before .before .before .before .before .before .before .before .before .before .before .before .loop-test .taken, omega (arith, pre .8, l .inv .12)), (omega (arith, pre .8, l .inv .9), pre .12, pre .13, pre .14, l .inv .5, pre .15))
 
 add-panel : tie.Need-add-panel Inv-loop μ-loop
 add-panel c =
-    let few : c .before .before .before .before .before .before .before .before .before .before .before .before .before .before .before .before .before .before .before .before .before .before .before .loop .panel ≤ 160 = omega (arith, c .before .before .before .before .before .before .before .before .before .before .before .before .before .before .before .before .before .before .before .before .before .before .before .before .before .before .before .before .before .before .before .before .before .before .before .before .before .pre .4, c .before .before .before .before .before .before .before .before .before .before .before .before .before .before .before .before .before .before .before .before .before .before .loop-test .taken) in
+    let few : c .before .before .before .before .before .before .before .before .before .before .before .before .before .before .before .before .before .before .before .before .before .before .before .before .before .loop .panel ≤ 160 = omega (arith, c .before .before .before .before .before .before .before .before .before .before .before .before .before .before .before .before .before .before .before .before .before .before .before .before .before .before .before .before .before .before .before .before .before .before .before .before .before .before .before .pre .4, c .before .before .before .before .before .before .before .before .before .before .before .before .before .before .before .before .before .before .before .before .before .before .before .before .loop-test .taken) in
     search (needs, few)
 
 loop-less : tie.Need-loop-less Inv-loop μ-loop
-loop-less c = omega (arith, c .before .before .before .before .before .before .before .before .before .before .before .before .before .before .before .before .before .before .before .before .before .before .loop-test .taken)
+loop-less c = omega (arith, c .before .before .before .before .before .before .before .before .before .before .before .before .before .before .before .before .before .before .before .before .before .before .before .before .loop-test .taken)
 
 loop-again : tie.Need-loop-again Inv-loop μ-loop
 loop-again c =
-    let a = c .before .before .before .before .before .before .before .before .before .before .before .before .before .before .before .before .before .before .before .before .before .before .before .before .before .before .before .before .before .before .before .before .before .before .before .before .before .args in
-    let pre = c .before .before .before .before .before .before .before .before .before .before .before .before .before .before .before .before .before .before .before .before .before .before .before .before .before .before .before .before .before .before .before .before .before .before .before .before .before .pre in
-    let l = c .before .before .before .before .before .before .before .before .before .before .before .before .before .before .before .before .before .before .before .before .before .before .before .loop in
-    let load = c .before .before .before .before .before .before .before .before .before .before .before .before .before .before .before .before .before .before .before .before .load in
-    let there = c .before .before .before .before .before .before .before .before .before .before .before .before .before .before .before .before .before .panel-of in
-    let left = c .before .before .before .before .before .before .before .before .before .before .before .before .before .before .add-left in
+    let a = c .before .before .before .before .before .before .before .before .before .before .before .before .before .before .before .before .before .before .before .before .before .before .before .before .before .before .before .before .before .before .before .before .before .before .before .before .before .before .before .args in
+    let pre = c .before .before .before .before .before .before .before .before .before .before .before .before .before .before .before .before .before .before .before .before .before .before .before .before .before .before .before .before .before .before .before .before .before .before .before .before .before .before .before .pre in
+    let l = c .before .before .before .before .before .before .before .before .before .before .before .before .before .before .before .before .before .before .before .before .before .before .before .before .before .loop in
+    let load = c .before .before .before .before .before .before .before .before .before .before .before .before .before .before .before .before .before .before .before .before .before .before .load in
+    let there = c .before .before .before .before .before .before .before .before .before .before .before .before .before .before .before .before .before .before .before .panel-of in
+    let left = c .before .before .before .before .before .before .before .before .before .before .before .before .before .before .before .add-left in
     let done = c .before .before .before .before .before .before .add-panel in
     let x = byteAt (now (a .xs)) in
     let folded : Folded (a .n) (a .width) (a .m) (now (a .a)) (l .panel) (now (there .result)) = there .ensures .1 (a .n) (a .width) (now (a .a)) (load .ensures) in (
-      omega (arith, c .before .before .before .before .before .before .before .before .before .before .before .before .before .before .before .before .before .before .before .before .before .before .loop-test .taken),
+      omega (arith, c .before .before .before .before .before .before .before .before .before .before .before .before .before .before .before .before .before .before .before .before .before .before .before .before .loop-test .taken),
       done .kept .0 ∙ l .inv .1,
       done .kept .1 .0 ∙ l .inv .2,
       load .kept .0 ∙ l .inv .3,
-      done .kept .1 .1 .1 .0 ∙ l .inv .4,
+      done .kept .1 .1 .1 .0 ∙ left .kept .1 .0 ∙ l .inv .4,
       l .inv .5,
       l .inv .6,
       (λ χ e small chosen he. done .ensures .0 (now (a .a)) χ (a .width) e folded small chosen he ∙ sum-step (byteAt (now (a .quad)) e) (byteAt (l .quad) e) (l .panel) (term (a .n) (a .width) (a .m) (now (a .a)) (now (a .table)) χ e) (l .inv .7 χ e small chosen he)),
@@ -235,6 +236,7 @@ add-forms-spec =
     slice-aggregate-panel-of
     panel-of-requires
     slice-aggregate-add-left
+    slice-aggregate-add-left-2
     add-left-requires
     slice-aggregate-add-panel
     slice-aggregate-add-panel-2

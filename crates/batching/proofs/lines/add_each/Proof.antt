@@ -1,33 +1,82 @@
--- `batching::lines::add_each` meets its contract. The invariant: the lines below i are added to, and the others are as they were.
+-- `batching::lines::add_each` meets its contract. The invariant: the lines below i are added to at the panel's columns, and all else is as it was.
 -- Assumes nothing.
 use borrow.Author.Needs.{needs}
 use Prim.Native.Nat.{ℕ, _+_, _*_, _-_, _/_, _≤_, _<_}
+use mathlib.Core.List.{List}
 use mathlib.Core.Logic.{⊎-elim}
-use mathlib.Core.Path.{_≡_, refl, ap, _∙_}
+use mathlib.Core.Path.{_≡_, refl, sym, ap, _∙_}
 use native.Mathlib.Nat.{eq-or-lt-of-le, le-of-suc-le-suc}
 use native.Mathlib.Numerals.{add-one}
 use native.Mathlib.Omega.{arith}
 use denote.Ref.{now}
-use lib.ListN.{length}
+use lib.ListN.{length, set, length-set}
+use lib.Seq.{getD-set-other}
 use lib.Bits.{bitXor}
-use Rattle.strings.specs.Sums.{byteAt, bitOf}
+use Rattle.strings.specs.Sums.{byteAt, xorSum}
+use Rattle.strings.proofs.SumLaws.{sum-same}
 use Rattle.chunks.specs.Chunks.{chunk, cellAt}
-use Rattle.batching.specs.Batched.{most}
-use Rattle.batching.specs.Lines.{leftBit}
+use Rattle.batching.proofs.LineLaws.{two-added}
 use Rattle.batching.proofs.lines.add_each.Statement.{statement}
 use Rattle.batching.proofs.lines.add_each.Tie as tie
 
+-- the sum of half h of chunk i
+abbrev half : List ℕ → ℕ → ℕ → ℕ
+half S i h = xorSum 16 (λ f. cellAt S i (h * 16 + f))
+
+half-from : (S : List ℕ) (i h at : ℕ) → at ≡ i * chunk + h * 16 → xorSum 16 (λ f. byteAt S (at + f)) ≡ half S i h
+half-from S i h at e = sum-same 16 _ _ (λ f l. let place : at + f ≡ i * chunk + (h * 16 + f) = omega arith in ap (byteAt S) place)
+
 abbrev Inv-loop : tie.InvT-loop
-Inv-loop lines₀ cells m panel bits i₀ lines i = (i ≤ m) × (length lines ≡ length lines₀) × ((x : ℕ → ℕ) (j h z : ℕ) → ((c : ℕ) → x c < 2) → ((c : ℕ) → c < most → byteAt bits c ≡ x c * 255) → j < i → h < 2 → z < 8 → bitOf (cellAt lines j (panel * 2 + h)) z ≡ bitXor (bitOf (cellAt lines₀ j (panel * 2 + h)) z) (leftBit cells m x j panel h z)) × ((j k : ℕ) → i ≤ j → k < chunk → cellAt lines j k ≡ cellAt lines₀ j k) × ((j k : ℕ) → k < chunk → (k / 2 ≡ panel → ⊥) → cellAt lines j k ≡ cellAt lines₀ j k)
+Inv-loop lines₀ sums m panel i₀ lines i = (i ≤ m) × (length lines ≡ length lines₀) × ((j h : ℕ) → j < i → h < 2 → cellAt lines j (panel * 2 + h) ≡ bitXor (cellAt lines₀ j (panel * 2 + h)) (half sums j h)) × ((j k : ℕ) → k < chunk → (j < i → k / 2 ≡ panel → ⊥) → cellAt lines j k ≡ cellAt lines₀ j k)
 
 abbrev μ-loop : tie.MeasureT-loop
-μ-loop lines₀ cells m panel bits i₀ lines i = m - i
+μ-loop lines₀ sums m panel i₀ lines i = m - i
 
 loop-holds : tie.Need-loop-holds Inv-loop μ-loop
-loop-holds c = (search needs, refl, (λ x j h z b k l. absurd (omega arith)), (λ j k h l. refl), λ j k h o. refl)
+loop-holds c = (search needs, refl, (λ j h l. absurd (omega arith)), λ j k h o. refl)
 
-add-line-requires : tie.Need-add-line-requires Inv-loop μ-loop
-add-line-requires c κs = search needs
+mul-at : tie.Need-mul-at Inv-loop μ-loop
+mul-at c = search needs
+
+mul-at-2 : tie.Need-mul-at-2 Inv-loop μ-loop
+mul-at-2 c = search needs
+
+add-at : tie.Need-add-at Inv-loop μ-loop
+add-at c = search needs
+
+mul-sum-at : tie.Need-mul-sum-at Inv-loop μ-loop
+mul-sum-at c = search needs
+
+sum-at-requires : tie.Need-sum-at-requires Inv-loop μ-loop
+sum-at-requires c κs = search needs
+
+slice-read-lines : tie.Need-slice-read-lines Inv-loop μ-loop
+slice-read-lines c = search needs
+
+slice-write-lines : tie.Need-slice-write-lines Inv-loop μ-loop
+slice-write-lines c = search needs
+
+mul-sum-at-2 : tie.Need-mul-sum-at-2 Inv-loop μ-loop
+mul-sum-at-2 c = search needs
+
+add-sum-at : tie.Need-add-sum-at Inv-loop μ-loop
+add-sum-at c = search needs
+
+sum-at-requires-2 : tie.Need-sum-at-requires-2 Inv-loop μ-loop
+sum-at-requires-2 c κs = search needs
+
+add-lines : tie.Need-add-lines Inv-loop μ-loop
+add-lines c = search needs
+
+slice-read-lines-2 : tie.Need-slice-read-lines-2 Inv-loop μ-loop
+slice-read-lines-2 c =
+    let pre = c .before .before .before .before .before .before .before .before .pre in
+    simp length-set (omega (arith, pre .0, pre .2, c .before .before .before .before .before .loop .inv .1))
+
+slice-write-lines-2 : tie.Need-slice-write-lines-2 Inv-loop μ-loop
+slice-write-lines-2 c =
+    let pre = c .before .before .before .before .before .before .before .before .pre in
+    simp length-set (omega (arith, pre .0, pre .2, c .before .before .before .before .before .loop .inv .1))
 
 add-i : tie.Need-add-i Inv-loop μ-loop
 add-i c = search needs
@@ -37,19 +86,31 @@ loop-less c = search needs
 
 loop-again : tie.Need-loop-again Inv-loop μ-loop
 loop-again c =
-    let a = c .before .before .before .before .before .before .before .before .before .args in
-    let pre = c .before .before .before .before .before .before .before .before .before .pre in
+    let a = c .before .before .before .before .before .before .before .before .args in
+    let pre = c .before .before .before .before .before .before .before .before .pre in
     let l = c .before .before .before .before .before .loop in
-    let done = c .before .before .add-line in (
+    let first = c .before .before .before .sum-at in
+    let second = c .before .sum-at2 in
+    let L = l .lines in
+    let S = now (a .sums) in
+    let at = l .i * chunk + a .panel * 2 in
+    let y = bitXor (byteAt L at) (first .result) in
+    let w = bitXor (byteAt (set L at y) (at + 1)) (second .result) in
+    let fits : at + 1 < length L = omega (arith, pre .0, pre .2, l .inv .1) in
+    let same : (k : ℕ) → (k / 2 ≡ l .i * 16 + a .panel → ⊥) → byteAt (set (set L at y) (at + 1) w) k ≡ byteAt L k =
+    λ k other. getD-set-other (set L at y) (at + 1) k w 0 (λ e. other (omega (arith, e))) ∙ getD-set-other L at k y 0 (λ e. other (omega (arith, e))) in (
       omega arith,
-      done .kept .0 ∙ l .inv .1,
-      (λ x j h z bit masks hj hh hz.
+      simp length-set (l .inv .1),
+      (λ j h hj hh.
           ⊎-elim
-          (λ (e : j ≡ l .i). rw e (done .ensures .0 x h z bit masks hh hz ∙ ap (λ (y : ℕ). bitXor (bitOf y z) (leftBit (now (a .cells)) (a .m) x (l .i) (a .panel) h z)) (l .inv .3 (l .i) (a .panel * 2 + h) (omega arith) (omega (arith, pre .2)))))
-          (λ (lt : j < l .i). ap (λ (y : ℕ). bitOf y z) (done .ensures .1 (j * chunk + (a .panel * 2 + h)) (λ e. omega (arith, lt, e, hh))) ∙ l .inv .2 x j h z bit masks lt hh hz)
+          (λ (e : j ≡ l .i).
+          let place : l .i * chunk + (a .panel * 2 + h) ≡ at + h = omega arith in
+          rw e (ap (byteAt (set (set L at y) (at + 1) w)) place
+          ∙ two-added L at y w (half S (l .i)) fits (ap (bitXor (byteAt L at)) (first .ensures ∙ half-from S (l .i) 0 _ (omega arith))) (ap (bitXor (byteAt (set L at y) (at + 1))) (second .ensures ∙ half-from S (l .i) 1 _ (omega arith))) h hh
+          ∙ ap (λ (b : ℕ). bitXor b (half S (l .i) h)) (ap (byteAt L) (sym place) ∙ l .inv .3 (l .i) (a .panel * 2 + h) (omega (arith, pre .2)) (λ lt. absurd (omega (arith, lt))))))
+          (λ (lt : j < l .i). same (j * chunk + (a .panel * 2 + h)) (λ e. omega (arith, lt, e, hh)) ∙ l .inv .2 j h lt hh)
           (eq-or-lt-of-le (le-of-suc-le-suc (rw add-one at hj)))),
-      (λ j k h hk. done .ensures .1 (j * chunk + k) (λ e. omega (arith, h, e, pre .2)) ∙ l .inv .3 j k (omega arith) hk),
-      (λ j k hk other. done .ensures .1 (j * chunk + k) (λ e. other (omega (arith, e, hk, pre .2))) ∙ l .inv .4 j k hk other),
+      (λ j k hk other. same (j * chunk + k) (λ e. other (omega (arith, e, hk, pre .2)) (omega (arith, e, hk, pre .2))) ∙ l .inv .3 j k hk (λ lt. other (omega (arith, lt)))),
     )
 
 same-length : tie.Need-same-length Inv-loop μ-loop
@@ -58,8 +119,8 @@ same-length c = search needs
 returns : tie.Need-returns Inv-loop μ-loop
 returns c =
     let l = c .before .loop in
-    let end : l .i ≡ c .before .before .before .before .before .args .m = omega arith in
-    (rw end at (l .inv .2), l .inv .4)
+    let end : l .i ≡ c .before .before .before .before .args .m = omega arith in
+    (rw end at (l .inv .2), λ i k hk other. l .inv .3 i k hk (λ lt. other))
 
 pub add-each-spec : {M : Type 1} → statement M
 add-each-spec =
@@ -68,7 +129,19 @@ add-each-spec =
     Inv-loop
     μ-loop
     loop-holds
-    add-line-requires
+    mul-at
+    mul-at-2
+    add-at
+    mul-sum-at
+    sum-at-requires
+    slice-read-lines
+    slice-write-lines
+    mul-sum-at-2
+    add-sum-at
+    sum-at-requires-2
+    add-lines
+    slice-read-lines-2
+    slice-write-lines-2
     add-i
     loop-less
     loop-again
