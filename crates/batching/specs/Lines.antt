@@ -1,6 +1,6 @@
 -- The lines of the equations, and their batch. A line is the coefficients of a linear form, a bit for each coordinate: those of line i stand in chunk i.
 --   lineBit L i c == coefficient c of line i: bit c mod 8 of byte ⌊c/8⌋ of chunk i
---   leftByte cells m bits i J k == byte k of the sum of chunk i of each sixteen up to the J-th, whose rows are masked by their bytes of bits
+--   leftByte cells m bits i J k == byte k of the sum of chunk i of each sixteen up to the J-th, each row under its mask, a byte of bits
 --   leftBit cells m x i J h z == Σ_ρ x(ρ)·b_ρ over the rows ρ up to the J-th sixteen, b_ρ bit z of row ρ of byte column h of chunk i of its sixteen
 --   lineSum L m χ e c == Σ_i χ(e, i)·lineBit L i c
 --   leftOf w size A x i c == Σ_ρ x(ρ)·F_i(ρ, c) over the rows ρ up to the sixteen of c, where F_i is string i of A, of size bytes, in rows of w bytes, folded

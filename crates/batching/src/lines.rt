@@ -40,7 +40,7 @@ fn add_masked(acc: &mut [u8; CHUNK], cells: &[u8], at: usize, bits: &[u8], from:
     }
 }
 
-// Chunk i of the sums becomes the sum of the rows of matrix i whose bits are set, sixteen by sixteen.
+// Chunk i of the sums becomes the sum of the panel's chunks of matrix i, in the rows whose bits are set.
 fn sum_left(sums: &mut [u8], i: usize, cells: &[u8], m: usize, panel: usize, bits: &[u8])
     requires { ⌜ (i < m) × (m * chunk ≤ length (now sums)) × ((panel + 1) * (m * chunk) ≤ length (now cells)) × (panel < 10) × (m ≤ 160) × (length (now bits) ≡ most) ⌝ }
     ensures { λ _. ⌜ ((k : ℕ) → k < chunk → cellAt (now (sums .exit)) i k ≡ leftByte (now (cells .entry)) m (now (bits .entry)) i panel k) ⌝ }
@@ -67,8 +67,8 @@ fn sum_each(sums: &mut [u8], cells: &[u8], m: usize, panel: usize, bits: &[u8])
     }
 }
 
-// Adds to each line its two sums of sixteen bytes, at the panel's columns. Summed from memory: of a chunk in registers the compiler would make a chain
-// of bytes.
+// Adds to each line its two sums of sixteen bytes, at the panel's columns. They are taken from memory: of a chunk in registers the compiler would make a
+// chain of bytes.
 fn add_each(lines: &mut [u8], sums: &[u8], m: usize, panel: usize)
     requires { ⌜ (m * chunk ≤ length (now lines)) × (m * chunk ≤ length (now sums)) × (panel < 10) × (m ≤ 160) ⌝ }
     ensures { λ _. ⌜ ((i h : ℕ) → i < m → h < 2 → cellAt (now (lines .exit)) i (panel * 2 + h) ≡ bitXor (cellAt (now (lines .entry)) i (panel * 2 + h)) (xorSum 16 (λ f. cellAt (now (sums .entry)) i (h * 16 + f)))) ⌝ }
