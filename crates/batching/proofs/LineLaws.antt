@@ -2,8 +2,10 @@
 -- Assumes nothing.
 use mathlib.Core.Path.{_≡_, sym, ap, ap₂, _∙_}
 use mathlib.Core.List.{List}
+use mathlib.Core.Logic.{⊎-elim}
 use Prim.Native.Nat.{ℕ, zero, suc, _+_, _*_, _/_, _%_, _≤_, _<_}
-use native.Mathlib.Nat.{add-zero, mul-comm}
+use native.Mathlib.Nat.{add-zero, mul-comm, eq-or-lt-of-le, le-of-suc-le-suc}
+use native.Mathlib.Numerals.{add-one}
 use native.Mathlib.Decide.{ℕ-discrete}
 use native.Mathlib.Omega.{arith}
 use lib.Arith.{digits-div, digits-mod}
@@ -76,14 +78,40 @@ half-left-bit cells bits s x m i J h z small bit masks hJ hh are =
         ∙ times-bit (x (q * 16 + f)) cell z (bit (q * 16 + f)) ∙ mul-comm (bitOf cell z) (x (q * 16 + f))
         ∙ sym (ap₂ (λ y w. x (q * 16 + f) * bitOf (cellAt cells (y * m + i) (h * 16 + w)) z) (digits-div q hf) (digits-mod q hf))
 
--- two bytes, one after the other, to each of which something is added
-pub two-added : (L : List ℕ) (at y z : ℕ) (s : ℕ → ℕ) → at + 1 < length L → y ≡ bitXor (byteAt L at) (s 0) → z ≡ bitXor (byteAt (set L at y) (at + 1)) (s 1)
+-- ---- two bytes of each line, to which something is added
+
+-- s is added to the first n lines at the columns of panel J, and all else is as it was
+abbrev pub PanelAdded : (ℕ → ℕ → ℕ) → ℕ → List ℕ → List ℕ → ℕ → Type 0
+PanelAdded s J old new n = ((i h : ℕ) → i < n → h < 2 → cellAt new i (J * 2 + h) ≡ bitXor (cellAt old i (J * 2 + h)) (s i h)) × ((i k : ℕ) → k < chunk → (i < n → k / 2 ≡ J → ⊥) → cellAt new i k ≡ cellAt old i k)
+
+two-added : (L : List ℕ) (at y z : ℕ) (s : ℕ → ℕ) → at + 1 < length L → y ≡ bitXor (byteAt L at) (s 0) → z ≡ bitXor (byteAt (set L at y) (at + 1)) (s 1)
     → (h : ℕ) → h < 2 → byteAt (set (set L at y) (at + 1) z) (at + h) ≡ bitXor (byteAt L (at + h)) (s h)
 two-added L at y z s fits is is′ zero l =
     rw (add-zero at) (getD-set-other (set L at y) (at + 1) at z 0 (λ x. omega arith) ∙ getD-set-same L at y 0 (omega arith) ∙ is)
 two-added L at y z s fits is is′ (suc zero) l =
     getD-set-same (set L at y) (at + 1) z 0 (omega (arith, length-set L at y)) ∙ is′ ∙ ap (λ b. bitXor b (s 1)) (getD-set-other L at (at + 1) y 0 (λ x. omega arith))
 two-added L at y z s fits is is′ (suc (suc h)) l = absurd (omega arith)
+
+-- one line more
+pub panel-more : (s : ℕ → ℕ → ℕ) (J : ℕ) (old L : List ℕ) (n at y z : ℕ) → at ≡ n * chunk + J * 2 → J < 16 → n * chunk + chunk ≤ length L
+    → y ≡ bitXor (byteAt L at) (s n 0) → z ≡ bitXor (byteAt (set L at y) (at + 1)) (s n 1) → PanelAdded s J old L n → PanelAdded s J old (set (set L at y) (at + 1) z) (n + 1)
+panel-more s J old L n at y z place hJ fits is is′ (done, rest) = (
+  (λ i h hi hh.
+      ⊎-elim
+      (λ (e : i ≡ n).
+      let here : n * chunk + (J * 2 + h) ≡ at + h = omega arith in
+      rw e (ap (byteAt new) here ∙ two-added L at y z (s n) (omega arith) is is′ h hh
+      ∙ ap (λ b. bitXor b (s n h)) (ap (byteAt L) (sym here) ∙ rest n (J * 2 + h) (omega arith) (λ lt. absurd (omega arith)))))
+      (λ (lt : i < n). same i (J * 2 + h) (λ e. omega arith) (λ e. omega arith) ∙ done i h lt hh)
+      (eq-or-lt-of-le (le-of-suc-le-suc (rw add-one at hi)))),
+  (λ i k hk other. same i k (λ e. other (omega arith) (omega arith)) (λ e. other (omega arith) (omega arith)) ∙ rest i k hk (λ lt. other (omega arith))),
+)
+  where
+    new : List ℕ
+    new = set (set L at y) (at + 1) z
+
+    same : (i k : ℕ) → (i * chunk + k ≡ at + 1 → ⊥) → (i * chunk + k ≡ at → ⊥) → cellAt new i k ≡ cellAt L i k
+    same i k other other′ = getD-set-other (set L at y) (at + 1) (i * chunk + k) z 0 other ∙ getD-set-other L at (i * chunk + k) y 0 other′
 
 -- ---- the elements of a batched line
 

@@ -1,21 +1,17 @@
 -- `batching::lines::add_each` meets its contract. The invariant: the lines below i are added to at the panel's columns, and all else is as it was.
 -- Assumes nothing.
 use borrow.Author.Needs.{needs}
-use Prim.Native.Nat.{ℕ, _+_, _*_, _-_, _/_, _≤_, _<_}
+use Prim.Native.Nat.{ℕ, _+_, _*_, _-_, _≤_}
 use mathlib.Core.List.{List}
-use mathlib.Core.Logic.{⊎-elim}
-use mathlib.Core.Path.{_≡_, refl, sym, ap, _∙_}
-use native.Mathlib.Nat.{eq-or-lt-of-le, le-of-suc-le-suc}
-use native.Mathlib.Numerals.{add-one}
+use mathlib.Core.Path.{_≡_, refl, ap, _∙_}
 use native.Mathlib.Omega.{arith}
 use denote.Ref.{now}
 use lib.ListN.{length, set, length-set}
-use lib.Seq.{getD-set-other}
 use lib.Bits.{bitXor}
 use Rattle.strings.specs.Sums.{byteAt, xorSum}
 use Rattle.strings.proofs.SumLaws.{sum-same}
 use Rattle.chunks.specs.Chunks.{chunk, cellAt}
-use Rattle.batching.proofs.LineLaws.{two-added}
+use Rattle.batching.proofs.LineLaws.{PanelAdded, panel-more}
 use Rattle.batching.proofs.lines.add_each.Statement.{statement}
 use Rattle.batching.proofs.lines.add_each.Tie as tie
 
@@ -27,13 +23,13 @@ half-from : (S : List ℕ) (i h at : ℕ) → at ≡ i * chunk + h * 16 → xorS
 half-from S i h at e = sum-same 16 _ _ (λ f l. let place : at + f ≡ i * chunk + (h * 16 + f) = omega arith in ap (byteAt S) place)
 
 abbrev Inv-loop : tie.InvT-loop
-Inv-loop lines₀ sums m panel i₀ lines i = (i ≤ m) × (length lines ≡ length lines₀) × ((j h : ℕ) → j < i → h < 2 → cellAt lines j (panel * 2 + h) ≡ bitXor (cellAt lines₀ j (panel * 2 + h)) (half sums j h)) × ((j k : ℕ) → k < chunk → (j < i → k / 2 ≡ panel → ⊥) → cellAt lines j k ≡ cellAt lines₀ j k)
+Inv-loop lines₀ sums m panel i₀ lines i = (i ≤ m) × (length lines ≡ length lines₀) × PanelAdded (half sums) panel lines₀ lines i
 
 abbrev μ-loop : tie.MeasureT-loop
 μ-loop lines₀ sums m panel i₀ lines i = m - i
 
 loop-holds : tie.Need-loop-holds Inv-loop μ-loop
-loop-holds c = (search needs, refl, (λ j h l. absurd (omega arith)), λ j k h o. refl)
+loop-holds c = (search needs, refl, ((λ j h l. absurd (omega arith)), λ j k h o. refl))
 
 mul-at : tie.Need-mul-at Inv-loop μ-loop
 mul-at c = search needs
@@ -91,26 +87,15 @@ loop-again c =
     let l = c .before .before .before .before .before .loop in
     let first = c .before .before .before .sum-at in
     let second = c .before .sum-at2 in
-    let L = l .lines in
     let S = now (a .sums) in
     let at = l .i * chunk + a .panel * 2 in
-    let y = bitXor (byteAt L at) (first .result) in
-    let w = bitXor (byteAt (set L at y) (at + 1)) (second .result) in
-    let fits : at + 1 < length L = omega (arith, pre .0, pre .2, l .inv .1) in
-    let same : (k : ℕ) → (k / 2 ≡ l .i * 16 + a .panel → ⊥) → byteAt (set (set L at y) (at + 1) w) k ≡ byteAt L k =
-    λ k other. getD-set-other (set L at y) (at + 1) k w 0 (λ e. other (omega (arith, e))) ∙ getD-set-other L at k y 0 (λ e. other (omega (arith, e))) in (
+    let y = bitXor (byteAt (l .lines) at) (first .result) in (
       omega arith,
       simp length-set (l .inv .1),
-      (λ j h hj hh.
-          ⊎-elim
-          (λ (e : j ≡ l .i).
-          let place : l .i * chunk + (a .panel * 2 + h) ≡ at + h = omega arith in
-          rw e (ap (byteAt (set (set L at y) (at + 1) w)) place
-          ∙ two-added L at y w (half S (l .i)) fits (ap (bitXor (byteAt L at)) (first .ensures ∙ half-from S (l .i) 0 _ (omega arith))) (ap (bitXor (byteAt (set L at y) (at + 1))) (second .ensures ∙ half-from S (l .i) 1 _ (omega arith))) h hh
-          ∙ ap (λ (b : ℕ). bitXor b (half S (l .i) h)) (ap (byteAt L) (sym place) ∙ l .inv .3 (l .i) (a .panel * 2 + h) (omega (arith, pre .2)) (λ lt. absurd (omega (arith, lt))))))
-          (λ (lt : j < l .i). same (j * chunk + (a .panel * 2 + h)) (λ e. omega (arith, lt, e, hh)) ∙ l .inv .2 j h lt hh)
-          (eq-or-lt-of-le (le-of-suc-le-suc (rw add-one at hj)))),
-      (λ j k hk other. same (j * chunk + k) (λ e. other (omega (arith, e, hk, pre .2)) (omega (arith, e, hk, pre .2))) ∙ l .inv .3 j k hk (λ lt. other (omega (arith, lt)))),
+      panel-more (half S) (a .panel) (now (a .lines)) (l .lines) (l .i) at y _ refl (omega (arith, pre .2)) (omega (arith, pre .0, l .inv .1))
+          (ap (bitXor (byteAt (l .lines) at)) (first .ensures ∙ half-from S (l .i) 0 _ (omega arith)))
+          (ap (bitXor (byteAt (set (l .lines) at y) (at + 1))) (second .ensures ∙ half-from S (l .i) 1 _ (omega arith)))
+          (l .inv .2),
     )
 
 same-length : tie.Need-same-length Inv-loop μ-loop
@@ -120,7 +105,7 @@ returns : tie.Need-returns Inv-loop μ-loop
 returns c =
     let l = c .before .loop in
     let end : l .i ≡ c .before .before .before .before .args .m = omega arith in
-    (rw end at (l .inv .2), λ i k hk other. l .inv .3 i k hk (λ lt. other))
+    (rw end at (l .inv .2 .0), λ i k hk other. l .inv .2 .1 i k hk (λ lt. other))
 
 pub add-each-spec : {M : Type 1} → statement M
 add-each-spec =
