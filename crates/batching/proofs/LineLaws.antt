@@ -6,7 +6,6 @@ use mathlib.Core.Logic.{⊎-elim}
 use Prim.Native.Nat.{ℕ, zero, suc, _+_, _*_, _/_, _%_, _≤_, _<_}
 use native.Mathlib.Nat.{add-zero, mul-comm, eq-or-lt-of-le, le-of-suc-le-suc}
 use native.Mathlib.Numerals.{add-one}
-use native.Mathlib.Decide.{ℕ-discrete}
 use native.Mathlib.Omega.{arith}
 use lib.Arith.{digits-div, digits-mod}
 use lib.Bits.{bitXor, bitAnd}
@@ -32,27 +31,6 @@ use Rattle.batching.proofs.FormLaws.{product-one}
 use Rattle.batching.proofs.StackLaws.{scaled-lt, planes-added}
 
 -- ---- a chunk, added under masks
-
--- v is added to the first f bytes of each half
-abbrev pub Halves : (ℕ → ℕ) → List ℕ → List ℕ → ℕ → Type 0
-Halves v old new f = (k : ℕ) → k < chunk → (k % 16 < f → byteAt new k ≡ bitXor (byteAt old k) (v k)) × (f ≤ k % 16 → byteAt new k ≡ byteAt old k)
-
-pub halves-more : (v : ℕ → ℕ) (old l : List ℕ) (f y z : ℕ) → f < 16 → length l ≡ chunk → y ≡ bitXor (byteAt l f) (v f) → z ≡ bitXor (byteAt (set l f y) (16 + f)) (v (16 + f))
-    → Halves v old l f → Halves v old (set (set l f y) (16 + f) z) (f + 1)
-halves-more v old l f y z hf long is is′ done k hk = go (ℕ-discrete k f) (ℕ-discrete k (16 + f))
-  where
-    go : Dec (k ≡ f) → Dec (k ≡ 16 + f) → (k % 16 < f + 1 → byteAt (set (set l f y) (16 + f) z) k ≡ bitXor (byteAt old k) (v k)) × (f + 1 ≤ k % 16 → byteAt (set (set l f y) (16 + f) z) k ≡ byteAt old k)
-    go (yes e) d = (
-      (λ h. rw e (getD-set-other (set l f y) (16 + f) f z 0 (λ x. omega arith) ∙ getD-set-same l f y 0 (omega arith) ∙ is ∙ ap (λ b. bitXor b (v f)) (done f (omega arith) .1 (omega arith)))),
-      (λ h. absurd (omega (arith, h, e))),
-    )
-    go (no n) (yes e) = (
-      (λ h. rw e (getD-set-same (set l f y) (16 + f) z 0 (omega (arith, length-set l f y)) ∙ is′ ∙ ap (λ b. bitXor b (v (16 + f))) (getD-set-other l f (16 + f) y 0 (λ x. omega arith) ∙ done (16 + f) (omega arith) .1 (omega arith)))),
-      (λ h. absurd (omega (arith, h, e))),
-    )
-    go (no n) (no n′) =
-        let same : byteAt (set (set l f y) (16 + f) z) k ≡ byteAt l k = getD-set-other (set l f y) (16 + f) k z 0 n′ ∙ getD-set-other l f k y 0 n in
-        ((λ h. same ∙ done k hk .0 (omega (arith, h, n, n′, hk))), λ h. same ∙ done k hk .1 (omega arith))
 
 -- what a half of a chunk of sums comes to
 pub half-left-bit : (cells bits : List ℕ) (s x : ℕ → ℕ) (m i J h z : ℕ) → ((k : ℕ) → byteAt cells k < 256) → ((c : ℕ) → x c < 2) → ((c : ℕ) → c < most → byteAt bits c ≡ x c * 255) → J < 10 → h < 2

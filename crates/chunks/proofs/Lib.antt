@@ -1,2 +1,3 @@
 pub mod BitSumLaws
 pub mod BlockLaws
+pub mod HalfLaws

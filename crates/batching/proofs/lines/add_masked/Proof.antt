@@ -11,7 +11,7 @@ use lib.ListN.{length, set, length-set}
 use lib.Bits.{bitXor, bitAnd}
 use Rattle.strings.specs.Sums.{byteAt}
 use Rattle.chunks.specs.Chunks.{chunk}
-use Rattle.batching.proofs.LineLaws.{Halves, halves-more}
+use Rattle.chunks.proofs.HalfLaws.{Halves, halves-more}
 use Rattle.batching.proofs.lines.add_masked.Statement.{statement}
 use Rattle.batching.proofs.lines.add_masked.Tie as tie
 

@@ -10,7 +10,7 @@ use lib.ListN.{length, set, length-set}
 use lib.Bits.{bitXor}
 use Rattle.strings.specs.Sums.{byteAt}
 use Rattle.chunks.specs.Chunks.{chunk}
-use Rattle.folds.proofs.HalfLaws.{Halves, halves-more}
+use Rattle.chunks.proofs.HalfLaws.{Halves, halves-more}
 use Rattle.folds.proofs.rows.add_turned.Statement.{statement}
 use Rattle.folds.proofs.rows.add_turned.Tie as tie
 
