@@ -532,15 +532,17 @@ INLINE void turn_panel(const uint8_t *matrix, size_t row, size_t J, reg turned[P
 {
     const uint8_t *at = matrix + 16 * J * row;
     reg r[8];
-    if (J > 4)
-        for (size_t h = 0; h < 2; h++) {
+    if (J > 4) {
+        for (size_t q = 0; q < 8; q++)
+            turned[q][1] = _mm_setzero_si128();
+        for (size_t h = 0; h < 2 && 2 * J + h < row; h++) { /* from `row` on there is no column */
             for (size_t i = 0; i < 8; i++)
                 r[i] = load(at + (8 * h + i) * row);
             turn(r);
             for (size_t q = 0; q < 8; q++)
                 turned[q][h] = r[q];
         }
-    else if (J > 0) {
+    } else if (J > 0) {
         for (size_t i = 0; i < 8; i++)
             r[i] = load_two(at + i * row, at + (8 + i) * row);
         turn(r);
