@@ -22,7 +22,7 @@ use lanes::LANES;
 // The chunks of a set of panels: of 26 times sixteen rows, one for each equation.
 const CELLS: usize = 26 * 160 * CHUNK;
 
-// The table of sums of as many equations: 32 entries for each five.
+// The table of sums of as many equations: 32 entries for each five. Before it is filled, space for a chunk of each line.
 const SUMS: usize = 32 * 32 * CHUNK;
 
 // The bits of a witness, each as a mask.

@@ -1,6 +1,6 @@
 // The lines of the equations, in which the prover's bits are added from the left, and their batch times the vectors of the repetitions. A line is a chunk
 // of bits, one for each coordinate: the coefficients of a linear form. The cells, and the words of what the batching bytes choose, are public; lines,
-// bits and vectors are secret: no branch and no index goes by them.
+// bits, vectors, and the sums of any of them are secret: no branch and no index goes by them.
 ghost use mathlib.Core.Path.{_≡_};
 ghost use mathlib.Core.Bool.{true, false};
 ghost use mathlib.Core.List.{List};
@@ -16,6 +16,7 @@ ghost use Rattle.batching.specs.Batched.{most};
 ghost use Rattle.batching.specs.Lines.{lineBit, leftByte, leftBit, lineSum};
 use super::stacks::MOST;
 use chunks::CHUNK;
+use chunks::cells::copy_part;
 use field::Gf256;
 use turns::EIGHT_ROWS;
 use turns::turn_rows;
@@ -52,7 +53,7 @@ fn sum_left(sums: &mut [u8], i: usize, cells: &[u8], m: usize, panel: usize, bit
         add_masked(&mut acc, cells, (q * m + i) * CHUNK, bits, q * 16);
         q += 1;
     }
-    choices::sums::store(sums, i, &acc);
+    copy_part(sums, i, CHUNK, &acc, 0);
 }
 
 // The same for each of the m matrices.

@@ -1,7 +1,6 @@
 // Sums of the rows that public bits select. Five rows at a time, the 32 sums of them are in a table, so that one addition serves five rows.
 ghost use mathlib.Core.Path.{_≡_};
-ghost use mathlib.Core.List.{List};
-ghost use Prim.Native.Nat.{ℕ, _+_, _*_, _/_, _^_, _<_, _≤_};
+ghost use Prim.Native.Nat.{ℕ, _+_, _*_, _^_, _<_, _≤_};
 ghost use lib.ListN.{length};
 ghost use lib.Bits.{bitXor};
 ghost use Rattle.strings.specs.Sums.{byteAt, xorSum};
@@ -36,8 +35,7 @@ fn add_row(dst: &mut [u8; CHUNK], c: usize, n: usize, table: &[u8])
     }
 }
 
-// Chunk k becomes src.
-pub fn store(sums: &mut [u8], k: usize, src: &[u8; CHUNK])
+fn store(sums: &mut [u8], k: usize, src: &[u8; CHUNK])
     requires { ⌜ (k * chunk + chunk ≤ length (now sums)) × (length (now src) ≡ chunk) ⌝ }
     ensures { λ _. ⌜ ((f : ℕ) → f < chunk → cellAt (now (sums .exit)) k f ≡ byteAt (now (src .entry)) f) ⌝ }
     ensures { λ _. ⌜ ((q f : ℕ) → (q ≡ k → ⊥) → f < chunk → cellAt (now (sums .exit)) q f ≡ cellAt (now (sums .entry)) q f) ⌝ }

@@ -1,4 +1,4 @@
-pub mod HalfLaws
+pub mod ArrayLaws
 pub mod MirrorLaws
 pub mod PlaceLaws
 pub mod SetLaws

@@ -22,7 +22,7 @@ use Rattle.strings.proofs.Rows.{row-end}
 use Rattle.chunks.specs.Chunks.{chunk, cellAt}
 use Rattle.folds.specs.Folds.{entry, foldedBit, before, Folded, FoldedSet}
 use Rattle.folds.specs.Sets.{Mirrors, Parted, summed, place, Put, ChunksKept, Kept, ChunkFolded, SetFolded, MatrixFolded}
-use Rattle.folds.proofs.HalfLaws.{in-first, in-last}
+use Rattle.folds.proofs.ArrayLaws.{in-first, in-last}
 use Rattle.folds.proofs.PlaceLaws.{beside-rows, beside-panel, beside-matrix}
 
 -- what holds below n, and of n, holds below n + 1

@@ -3,8 +3,8 @@
 --   Reflected w M C t k == the same, and 0 in the column's own sixteen: what is added to the column's entries
 --   Mirrors w M first end t == the rows of t are the reflected columns of the panels first, .., end - 1, as far as a row of M has bytes
 --   RowsKept k old new == the rows of 160 bytes other than the k-th are as they were
---   Parted w M first q made == made has, for the sixteen rows q, the bytes of each of the eight byte columns
---   summed made t q p e == byte e of the chunk of the sixteen rows q of panel first + p: that of made, with that of t added
+--   Parted w M first q made == made has, for the sixteen rows q, the bytes of each of the eight byte columns, column after column
+--   summed made t q p e == byte e of the chunk of the sixteen rows q of the set's panel p: that of made, with that of t added
 --   place first p q m i == the chunk of matrix i of m, for the sixteen rows q of panel first + p
 --   Put first end q m i k made t cells == the chunks of the sixteen rows q are so summed, for the first k panels of the set that lie before `end` and reach down to q
 --   Beside first q m i k at == chunk `at` is none of these;  ChunksKept first q m i k old new == the cells beside them are as they were

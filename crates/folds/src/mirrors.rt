@@ -60,7 +60,8 @@ fn reflect(turned: &mut [u8], k: usize, src: &[u8], from: usize, width: usize, c
     fill_part(turned, k * SIXTEENS + col / 2, SIXTEEN, 0);
 }
 
-// The byte columns of the panels first, .., end - 1 of the matrix that stands in src from `from` on. From `width` on a row has no bytes: nothing is turned there.
+// The byte columns of the panels first, .., end - 1 of the matrix that stands in src from `from` on.
+// From `width` on a row has no bytes: nothing is turned there.
 pub fn reflect_all(
     turned: &mut [u8],
     src: &[u8],

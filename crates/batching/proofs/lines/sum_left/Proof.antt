@@ -4,7 +4,7 @@ use borrow.Author.Needs.{needs}
 use Prim.Native.Nat.{ℕ, _+_, _*_, _-_, _%_, _≤_, _<_}
 use mathlib.Core.List.{List}
 use mathlib.Core.Path.{_≡_, refl, sym, ap, _∙_}
-use native.Mathlib.Nat.{mul-assoc}
+use native.Mathlib.Nat.{mul-assoc, zero-add}
 use native.Mathlib.Omega.{arith}
 use denote.Ref.{now}
 use lib.ListN.{length, getD-replicate}
@@ -85,9 +85,12 @@ loop-again c =
       (λ k h. done .ensures .1 k h ∙ ap (λ (x : ℕ). bitXor x (masked (now (a .cells)) (now (a .bits)) (a .m) (a .i) k (l .q))) (l .inv .2 k h) ∙ sym (sum-more (l .q) (masked (now (a .cells)) (now (a .bits)) (a .m) (a .i) k))),
     )
 
-store-requires : tie.Need-store-requires Inv-loop μ-loop
-store-requires c κs =
-    (omega (arith, c .before .before .before .before .before .before .before .pre .0, c .before .before .before .before .before .before .before .pre .1), c .before .before .before .loop .inv .1)
+slice-aggregate-copy-part : tie.Need-slice-aggregate-copy-part Inv-loop μ-loop
+slice-aggregate-copy-part c = search needs
+
+copy-part-requires : tie.Need-copy-part-requires Inv-loop μ-loop
+copy-part-requires c κs =
+    (omega (arith, c .before .before .before .before .before .before .before .pre .0, c .before .before .before .before .before .before .before .pre .1), omega (arith, c .before .before .before .loop .inv .1))
 
 same-length : tie.Need-same-length Inv-loop μ-loop
 same-length c = search needs
@@ -95,9 +98,9 @@ same-length c = search needs
 returns : tie.Need-returns Inv-loop μ-loop
 returns c =
     let l = c .before .before .before .before .before .before .loop in
-    let done = c .before .before .store in
+    let done = c .before .before .copy-part in
     let end : l .q ≡ c .before .before .before .before .before .before .before .before .before .before .args .panel + 1 = omega arith in
-    ((λ k h. done .ensures .0 k h ∙ rw end at (l .inv .2 k h)), done .ensures .1)
+    ((λ k h. rw zero-add at (done .ensures .0 k h) ∙ rw end at (l .inv .2 k h)), done .ensures .1)
 
 pub sum-left-spec : {M : Type 1} → statement M
 sum-left-spec =
@@ -114,6 +117,7 @@ sum-left-spec =
     add-q
     loop-less
     loop-again
-    store-requires
+    slice-aggregate-copy-part
+    copy-part-requires
     same-length
     returns)

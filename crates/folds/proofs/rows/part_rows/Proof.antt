@@ -5,7 +5,7 @@ use mathlib.Core.Path.{refl, sym}
 use native.Mathlib.Omega.{arith}
 use denote.Ref.{now}
 use lib.ListN.{length-append}
-use Rattle.folds.proofs.HalfLaws.{halves-long}
+use Rattle.folds.proofs.ArrayLaws.{halves-long}
 use Rattle.folds.proofs.SetLaws.{parted}
 use Rattle.folds.proofs.rows.part_rows.Statement.{statement}
 use Rattle.folds.proofs.rows.part_rows.Tie as tie
