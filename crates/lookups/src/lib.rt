@@ -21,13 +21,27 @@ fn wide(x: u8) -> usize
     x as usize
 }
 
-// Adds coordinate c of the table to out. Coordinates from n on are 0.
-fn add_coordinate(out: &mut [u8], c: usize, n: usize, table: &[u8])
-    requires { ⌜ (length (now out) ≡ lanes) × (length (now table) ≡ n * lanes) ⌝ }
-    ensures { λ _. ⌜ ((e : ℕ) → e < lanes → byteAt (now (out .exit)) e ≡ bitXor (byteAt (now (out .entry)) e) (laneAt (now (table .entry)) c e)) ⌝ }
+// dst[e] ^= T[c][e], for each lane. The count is a constant, so that a caller's local array stays in registers.
+pub fn add_lanes(dst: &mut [u8; LANES], table: &[u8], c: usize)
+    requires { ⌜ (length (now dst) ≡ lanes) × (c * lanes + lanes ≤ length (now table)) ⌝ }
+    ensures { λ _. ⌜ length (now (dst .exit)) ≡ lanes ⌝ }
+    ensures { λ _. ⌜ ((e : ℕ) → e < lanes → byteAt (now (dst .exit)) e ≡ bitXor (byteAt (now (dst .entry)) e) (laneAt (now (table .entry)) c e)) ⌝ }
+{
+    let mut e = 0;
+    while e < LANES {
+        dst[e] ^= table[c * LANES + e];
+        e += 1;
+    }
+}
+
+// The same, where coordinates from n on are 0.
+fn add_coordinate(dst: &mut [u8; LANES], c: usize, n: usize, table: &[u8])
+    requires { ⌜ (length (now dst) ≡ lanes) × (length (now table) ≡ n * lanes) ⌝ }
+    ensures { λ _. ⌜ length (now (dst .exit)) ≡ lanes ⌝ }
+    ensures { λ _. ⌜ ((e : ℕ) → e < lanes → byteAt (now (dst .exit)) e ≡ bitXor (byteAt (now (dst .entry)) e) (laneAt (now (table .entry)) c e)) ⌝ }
 {
     if c < n {
-        strings::xor_into(out, strings::row_at(table, LANES, c));
+        add_lanes(dst, table, c);
     }
 }
 
@@ -96,19 +110,6 @@ pub fn fill_sums(sums: &mut [u8], count: usize, n: usize, table: &[u8])
     }
 }
 
-// dst[e] ^= sums[low + e] ^ sums[high + e], for each lane. The count is a constant, so that a caller's local array stays in registers.
-fn xor_entries(dst: &mut [u8; LANES], sums: &[u8], low: usize, high: usize)
-    requires { ⌜ (low + lanes ≤ length (now sums)) × (high + lanes ≤ length (now sums)) × (length (now dst) ≡ lanes) ⌝ }
-    ensures { λ _. ⌜ length (now (dst .exit)) ≡ lanes ⌝ }
-    ensures { λ _. ⌜ ((e : ℕ) → e < lanes → byteAt (now (dst .exit)) e ≡ bitXor (byteAt (now (dst .entry)) e) (bitXor (byteAt (now (sums .entry)) (low + e)) (byteAt (now (sums .entry)) (high + e)))) ⌝ }
-{
-    let mut e = 0;
-    while e < LANES {
-        dst[e] ^= sums[low + e] ^ sums[high + e];
-        e += 1;
-    }
-}
-
 // Adds the two entries that byte b of a row, x, chooses. The row is public, so the table may be indexed by it.
 fn add_chosen(dst: &mut [u8; LANES], b: usize, x: u8, sums: &[u8])
     requires { ⌜ ((b * 32 + 32) * lanes ≤ length (now sums)) × (length (now dst) ≡ lanes) ⌝ }
@@ -116,14 +117,8 @@ fn add_chosen(dst: &mut [u8; LANES], b: usize, x: u8, sums: &[u8])
     ensures { λ _. ⌜ ((e : ℕ) → e < lanes → byteAt (now (dst .exit)) e ≡ bitXor (byteAt (now (dst .entry)) e) (bitXor (laneAt (now (sums .entry)) (b * 32 + x % 16) e) (laneAt (now (sums .entry)) (b * 32 + 16 + x / 16) e))) ⌝ }
 {
     let first = b * PER_BYTE;
-    let low = wide(x % 16);
-    let high = wide(x / 16);
-    xor_entries(
-        dst,
-        sums,
-        (first + low) * LANES,
-        (first + HALF + high) * LANES,
-    );
+    add_lanes(dst, sums, first + wide(x % 16));
+    add_lanes(dst, sums, first + HALF + wide(x / 16));
 }
 
 // out[e] = Σ row(c)·T[c][e] over the n coordinates of the table T that was summed: two additions for eight coordinates.

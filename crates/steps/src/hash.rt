@@ -23,8 +23,10 @@ fn hash_row(out: &mut [u8], row: &[u8], identity: usize, table: &[u8], sums: &[u
     requires { ⌜ Tabled (take (length (now row) * 8 * lanes) (now table)) (now sums) (length (now row) * 32) ⌝ }
     ensures { λ _. ⌜ ((e : ℕ) → e < lanes → byteAt (now (out .exit)) e ≡ bitXor (selected (length (now (row .entry)) * 8) (now (row .entry)) (now (table .entry)) lanes e) (laneAt (now (table .entry)) identity e)) ⌝ }
 {
-    lookups::look_up_row(out, row, sums);
-    strings::xor_into(out, strings::row_at(table, LANES, identity));
+    let mut sum = [0u8; LANES];
+    lookups::look_up_row(&mut sum, row, sums);
+    lookups::add_lanes(&mut sum, table, identity);
+    copies::copy_into(out, &sum);
 }
 
 // Puts the lanes below tau into column rho of a table of rows of t bytes, one row for each repetition.

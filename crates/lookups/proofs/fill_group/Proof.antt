@@ -71,9 +71,6 @@ loop-holds c =
       (λ q e h k. refl),
     )
 
-slice-aggregate-add-coordinate : tie.Need-slice-aggregate-add-coordinate Inv-loop μ-loop
-slice-aggregate-add-coordinate c = search needs
-
 mul-add-coordinate : tie.Need-mul-add-coordinate Inv-loop μ-loop
 mul-add-coordinate c = search needs
 
@@ -88,13 +85,13 @@ mul-fill-next c = search needs
 
 fill-next-requires : tie.Need-fill-next-requires Inv-loop μ-loop
 fill-next-requires c κs =
-    let l = c .before .before .before .before .before .before .loop in
-    (omega (arith, l .inv .2, c .before .before .before .before .before .before .before .before .before .store .kept .0, doubled (l .s) (l .count) (c .before .before .before .before .before .loop-test .taken) (l .inv .1) .0), c .before .before .before .add-coordinate .kept .0)
+    let l = c .before .before .before .before .before .loop in
+    (omega (arith, l .inv .2, c .before .before .before .before .before .before .before .before .store .kept .0, doubled (l .s) (l .count) (c .before .before .before .before .loop-test .taken) (l .inv .1) .0), c .before .before .add-coordinate .ensures .0)
 
 mul-count : tie.Need-mul-count Inv-loop μ-loop
 mul-count c =
-    let l = c .before .before .before .before .before .before .before .before .before .loop in
-    omega (arith, doubled (l .s) (l .count) (c .before .before .before .before .before .before .before .before .loop-test .taken) (l .inv .1) .0)
+    let l = c .before .before .before .before .before .before .before .before .loop in
+    omega (arith, doubled (l .s) (l .count) (c .before .before .before .before .before .before .before .loop-test .taken) (l .inv .1) .0)
 
 add-s : tie.Need-add-s Inv-loop μ-loop
 add-s c = search needs
@@ -104,16 +101,16 @@ loop-less c = search needs
 
 loop-again : tie.Need-loop-again Inv-loop μ-loop
 loop-again c =
-    let a = c .before .before .before .before .before .before .before .before .before .before .before .before .before .before .before .before .before .args in
-    let l = c .before .before .before .before .before .before .before .before .before .loop in
-    let hs = c .before .before .before .before .before .before .before .before .loop-test .taken in
-    let added = c .before .before .before .before .before .before .add-coordinate in
+    let a = c .before .before .before .before .before .before .before .before .before .before .before .before .before .before .before .before .args in
+    let l = c .before .before .before .before .before .before .before .before .loop in
+    let hs = c .before .before .before .before .before .before .before .loop-test .taken in
+    let added = c .before .before .before .before .before .add-coordinate in
     let done = c .before .before .fill-next in (
       omega arith,
       doubled (l .s) (l .count) hs (l .inv .1) .1,
       done .kept .0 ∙ l .inv .2,
       more (now (a .table)) (l .sums) (done .last .0) (added .last .0) (a .g) (l .s) (l .count) hs (l .inv .1) (l .inv .3)
-          (λ e h. added .ensures e h ∙ ap (λ (x : ℕ). bitXor x (laneAt (now (a .table)) (a .g * 4 + l .s) e)) (getD-replicate lanes e 0 0 h) ∙ xor-zero-l _)
+          (λ e h. added .ensures .1 e h ∙ ap (λ (x : ℕ). bitXor x (laneAt (now (a .table)) (a .g * 4 + l .s) e)) (getD-replicate lanes e 0 0 h) ∙ xor-zero-l _)
           (done .ensures .0) (done .ensures .1),
       (λ q e h k. done .ensures .1 q e (omega arith) k ∙ l .inv .4 q e h k),
     )
@@ -137,7 +134,6 @@ fill-group-spec =
     mul-store
     store-requires
     loop-holds
-    slice-aggregate-add-coordinate
     mul-add-coordinate
     add-add-coordinate
     add-coordinate-requires

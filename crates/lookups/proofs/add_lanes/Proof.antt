@@ -1,4 +1,4 @@
--- `lookups::xor_entries` meets its contract. Each element is changed once (`Elementwise`).
+-- `lookups::add_lanes` meets its contract. Each element is changed once (`Elementwise`).
 -- Assumes nothing.
 use borrow.Author.Needs.{needs}
 use Prim.Native.Nat.{ℕ, _+_, _≤_, _<_, _-_}
@@ -10,34 +10,31 @@ use lib.Bits.{bitXor}
 use native.Mathlib.Omega.{arith}
 use Rattle.strings.specs.Sums.{byteAt}
 use Rattle.strings.proofs.Elementwise.{changed, changed-more, changed-all}
-use Rattle.lanes.specs.Lanes.{lanes}
-use Rattle.lookups.proofs.xor_entries.Statement.{statement}
-use Rattle.lookups.proofs.xor_entries.Tie as tie
+use Rattle.lanes.specs.Lanes.{lanes, laneAt}
+use Rattle.lookups.proofs.add_lanes.Statement.{statement}
+use Rattle.lookups.proofs.add_lanes.Tie as tie
 
-abbrev change : List ℕ → ℕ → ℕ → ℕ → ℕ → ℕ
-change sums low high k x = bitXor x (bitXor (byteAt sums (low + k)) (byteAt sums (high + k)))
+abbrev change : List ℕ → ℕ → ℕ → ℕ → ℕ
+change table c k x = bitXor x (laneAt table c k)
 
 abbrev Inv-loop : tie.InvT-loop
-Inv-loop dst₀ sums low high e₀ dst e = (e ≤ lanes) × (dst ≡ changed (change sums low high) dst₀ e) × (length dst ≡ lanes)
+Inv-loop dst₀ table c e₀ dst e = (e ≤ lanes) × (dst ≡ changed (change table c) dst₀ e) × (length dst ≡ lanes)
 
 abbrev μ-loop : tie.MeasureT-loop
-μ-loop dst₀ sums low high e₀ dst e = lanes - e
+μ-loop dst₀ table c e₀ dst e = lanes - e
 
 loop-holds : tie.Need-loop-holds Inv-loop μ-loop
 unfolding changed
-loop-holds c = (search needs, refl, c .pre .2)
+loop-holds c = (search needs, refl, c .pre .0)
+
+mul-dst : tie.Need-mul-dst Inv-loop μ-loop
+mul-dst c = search needs
 
 add-dst : tie.Need-add-dst Inv-loop μ-loop
 add-dst c = search needs
 
 shared-slice-read-dst : tie.Need-shared-slice-read-dst Inv-loop μ-loop
 shared-slice-read-dst c = search needs
-
-add-dst-2 : tie.Need-add-dst-2 Inv-loop μ-loop
-add-dst-2 c = search needs
-
-shared-slice-read-dst-2 : tie.Need-shared-slice-read-dst-2 Inv-loop μ-loop
-shared-slice-read-dst-2 c = search needs
 
 element-copy-out-dst : tie.Need-element-copy-out-dst Inv-loop μ-loop
 element-copy-out-dst c = search needs
@@ -53,10 +50,10 @@ loop-less c = search needs
 
 loop-again : tie.Need-loop-again Inv-loop μ-loop
 loop-again c =
-    let a = c .before .before .before .before .before .args in
-    let l = c .before .before .before .before .loop in (
+    let a = c .before .before .before .before .args in
+    let l = c .before .before .before .loop in (
       omega arith,
-      changed-more (change (now (a .sums)) (a .low) (a .high)) (now (a .dst)) (l .dst) (l .e) _ (l .inv .1) refl,
+      changed-more (change (now (a .table)) (a .c)) (now (a .dst)) (l .dst) (l .e) _ (l .inv .1) refl,
       simp length-set (l .inv .2),
     )
 
@@ -64,19 +61,18 @@ returns : tie.Need-returns Inv-loop μ-loop
 returns c =
     let a = c .before .before .args in
     let l = c .before .loop in
-    (l .inv .2, λ i h. changed-all (change (now (a .sums)) (a .low) (a .high)) (now (a .dst)) (l .dst) (l .e) (l .inv .1) (omega arith) (omega arith) i (omega arith))
+    (l .inv .2, λ i h. changed-all (change (now (a .table)) (a .c)) (now (a .dst)) (l .dst) (l .e) (l .inv .1) (omega arith) (omega arith) i (omega arith))
 
-pub xor-entries-spec : {M : Type 1} → statement M
-xor-entries-spec =
+pub add-lanes-spec : {M : Type 1} → statement M
+add-lanes-spec =
     tie.close
     (tie.spec
     Inv-loop
     μ-loop
     loop-holds
+    mul-dst
     add-dst
     shared-slice-read-dst
-    add-dst-2
-    shared-slice-read-dst-2
     element-copy-out-dst
     element-write-dst
     add-e
