@@ -21,7 +21,7 @@ use Rattle.field.specs.Gf256.{gf256}
 use Rattle.field.proofs.ProductLaws.{mask-times}
 use Rattle.chunks.specs.Chunks.{chunk, cellAt}
 use Rattle.chunks.proofs.BitSumLaws.{sum-swap, sum-blocks}
-use Rattle.choices.specs.Entries.{Tabled, choice, eightByte, Chosen, Weighed}
+use Rattle.choices.specs.Entries.{Tabled, choice, Chosen, lookedUp, Weighed}
 use Rattle.choices.proofs.ChoiceLaws.{chosen-sum}
 use Rattle.columns.specs.Stacks.{alpha, product}
 use Rattle.columns.proofs.ProductLaws.{product-comm, byte-bits}
@@ -93,13 +93,6 @@ panel-more s J old L n at y z place hJ fits is is′ (done, rest) = (
 
 -- ---- the elements of a batched line
 
--- what a row of words looks up
-pub looked-row : (words row sums : List ℕ) (count r f : ℕ) → row ≡ blockAt words count r → length row ≡ count
-    → xorSum (length row) (λ k. eightByte sums k (byteAt row k) f) ≡ xorSum count (λ k. eightByte sums k (byteAt words (r * count + k)) f)
-looked-row words row sums count r f is long =
-    ap (λ l. xorSum l (λ k. eightByte sums k (byteAt row k) f)) long
-    ∙ sum-same count _ _ (λ k l. ap (λ w. eightByte sums k w f) (ap (λ s. byteAt s k) is ∙ row-byte words count r k l))
-
 alpha-lt : (p : ℕ) → alpha p < 256
 unfolding alpha
 alpha-lt p = gf256 .byte-lt _
@@ -116,7 +109,7 @@ planes-sum S χ m f z small =
 
 -- an element whose bits are those of the planes at its coordinate
 pub element-is : (S : List ℕ) (χ : ℕ → ℕ) (m : ℕ) (sums W : List ℕ) (G r : ℕ) (planes : List ℕ) (v c : ℕ) → Weighed S χ m sums W G r → v < 256 → c < 256
-    → ((p f : ℕ) → p < 8 → f < chunk → cellAt planes p f ≡ xorSum G (λ k. eightByte sums k (byteAt W ((r + p) * G + k)) f))
+    → ((p f : ℕ) → p < 8 → f < chunk → cellAt planes p f ≡ lookedUp sums W (r + p) G f)
     → ((p : ℕ) → p < 8 → bitOf v p ≡ bitOf (cellAt planes p (c / 8)) (c % 8)) → v ≡ xorSum m (λ i. lineBit S i c * χ i)
 element-is S χ m sums W G r planes v c weighed small hc are bits =
     let inside : c / 8 < chunk = omega arith in
@@ -126,10 +119,10 @@ element-is S χ m sums W G r planes v c weighed small hc are bits =
     ∙ planes-sum S χ m (c / 8) (c % 8) (weighed .3)
 
 -- the words of a repetition, among those of all
-pub weighed-rows : (S sums W χ : List ℕ) (m G tau : ℕ) → Tabled S sums (G * 8 * 32) → length S ≡ m * chunk → m ≤ G * 8 * 5 → ((k : ℕ) → byteAt χ k < 256)
-    → ((r : ℕ) → r < tau * 8 → Chosen χ m G W r) → (q : ℕ) → q < tau → Weighed S (byteAt (blockAt χ m q)) m sums W G (q * 8)
-weighed-rows S sums W χ m G tau tabled long enough small chosen q h =
-    (tabled, long, enough, (λ i l. row-lt χ m q 256 (lit< tt) small i), λ p k j hp hk hj. chosen (q * 8 + p) (omega arith) k j hk hj ∙ ap₂ (λ x y. choice (byteAt (blockAt χ m x)) y (k * 8 + j)) (digits-div q hp) (digits-mod q hp))
+pub weighed-rows : (S sums W χ : List ℕ) (m G tau : ℕ) → Tabled S sums (G * 32) → length S ≡ m * chunk → m ≤ G * 5 → G ≤ 32 → ((k : ℕ) → byteAt χ k < 256)
+    → ((r : ℕ) → r < tau * 8 → Chosen χ m W r) → (q : ℕ) → q < tau → Weighed S (byteAt (blockAt χ m q)) m sums W G (q * 8)
+weighed-rows S sums W χ m G tau tabled long enough few small chosen q h =
+    (tabled, long, enough, (λ i l. row-lt χ m q 256 (lit< tt) small i), λ p g hp hg. chosen (q * 8 + p) (omega arith) g (omega arith) ∙ ap₂ (λ x y. choice (byteAt (blockAt χ m x)) y g) (digits-div q hp) (digits-mod q hp))
 
 -- the lines, as the front of what is lent
 pub line-sum : (L χ : List ℕ) (m e c : ℕ) → c < 256 → xorSum m (λ i. lineBit (take (m * chunk) L) i c * byteAt (blockAt χ m e) i) ≡ lineSum L m χ e c

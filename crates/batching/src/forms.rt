@@ -9,7 +9,7 @@ ghost use Rattle.protocol.specs.Strings.{bytesFor};
 ghost use Rattle.strings.specs.Sums.{byteAt, xorSum};
 ghost use Rattle.lanes.specs.Lanes.{lanes, laneAt};
 ghost use Rattle.chunks.specs.Chunks.{chunk};
-ghost use Rattle.choices.specs.Entries.{Chosen};
+ghost use Rattle.choices.specs.Entries.{Chosen, InWords};
 ghost use Rattle.columns.specs.Stacks.{product, planes};
 ghost use Rattle.folds.specs.Folds.{Folded, FoldedSet};
 ghost use Rattle.batching.specs.Batched.{most, leftSum, formSum};
@@ -60,20 +60,20 @@ fn add_panel(
     m: usize,
     tau: usize,
     words: &[u64],
-    count: usize,
+    groups: usize,
     vectors: &[u8],
     table: &[u8],
     xs: &[u8],
     polar: bool,
     panel: usize,
 )
-    requires { ⌜ (length (now quad) ≡ lanes) × (length (now mid) ≡ lanes) × (length (now sums) ≡ 32768) × ((panel + 1) * (m * chunk) ≤ length (now cells)) × (n ≤ 160) × (0 < m) × (m ≤ 160) × (0 < tau) × (tau ≤ lanes) × (count ≡ (m + 39) / 40) × (tau * 8 * count ≤ length (now words)) × (length (now table) ≡ n * lanes) × (panel * 16 < n) × (tau * (planes * chunk) ≤ length (now stacks)) ⌝ }
+    requires { ⌜ (length (now quad) ≡ lanes) × (length (now mid) ≡ lanes) × (length (now sums) ≡ 32768) × ((panel + 1) * (m * chunk) ≤ length (now cells)) × (n ≤ 160) × (0 < m) × (m ≤ 160) × (0 < tau) × (tau ≤ lanes) × (InWords groups × (m ≤ groups * 5)) × (tau * 8 * 4 ≤ length (now words)) × (length (now table) ≡ n * lanes) × (panel * 16 < n) × (tau * (planes * chunk) ≤ length (now stacks)) ⌝ }
     requires { ⌜ (tau * most ≤ length (now vectors)) × (length (now xs) ≡ most) × ((c : ℕ) → byteAt (now xs) c < 2) × ((c : ℕ) → n ≤ c → byteAt (now xs) c ≡ 0) × ((e c : ℕ) → e < tau → c < most → byteAt (now vectors) (e * most + c) ≡ laneAt (now table) c e) × (polar ≡ false → (c : ℕ) → byteAt (now xs) c ≡ 0) ⌝ }
-    ensures { λ _. ⌜ ((A χ : List ℕ) (w e : ℕ) → Folded n w m A panel (now (cells .entry)) → ((k : ℕ) → byteAt χ k < 256) → ((r : ℕ) → r < tau * 8 → Chosen χ m count (now (words .entry)) r) → e < tau → byteAt (now (quad .exit)) e ≡ bitXor (byteAt (now (quad .entry)) e) (xorSum 16 (λ s. product (laneAt (now (table .entry)) (panel * 16 + s) e) (leftSum w (n * w) m A χ e (λ ρ. laneAt (now (table .entry)) ρ e) panel (panel * 16 + s))))) ⌝ }
-    ensures { λ _. ⌜ ((A χ : List ℕ) (w e : ℕ) → Folded n w m A panel (now (cells .entry)) → ((k : ℕ) → byteAt χ k < 256) → ((r : ℕ) → r < tau * 8 → Chosen χ m count (now (words .entry)) r) → e < tau → byteAt (now (mid .exit)) e ≡ bitXor (byteAt (now (mid .entry)) e) (xorSum 16 (λ s. product (byteAt (now (xs .entry)) (panel * 16 + s)) (leftSum w (n * w) m A χ e (λ ρ. laneAt (now (table .entry)) ρ e) panel (panel * 16 + s))))) ⌝ }
+    ensures { λ _. ⌜ ((A χ : List ℕ) (w e : ℕ) → Folded n w m A panel (now (cells .entry)) → ((k : ℕ) → byteAt χ k < 256) → ((r : ℕ) → r < tau * 8 → Chosen χ m (now (words .entry)) r) → e < tau → byteAt (now (quad .exit)) e ≡ bitXor (byteAt (now (quad .entry)) e) (xorSum 16 (λ s. product (laneAt (now (table .entry)) (panel * 16 + s) e) (leftSum w (n * w) m A χ e (λ ρ. laneAt (now (table .entry)) ρ e) panel (panel * 16 + s))))) ⌝ }
+    ensures { λ _. ⌜ ((A χ : List ℕ) (w e : ℕ) → Folded n w m A panel (now (cells .entry)) → ((k : ℕ) → byteAt χ k < 256) → ((r : ℕ) → r < tau * 8 → Chosen χ m (now (words .entry)) r) → e < tau → byteAt (now (mid .exit)) e ≡ bitXor (byteAt (now (mid .entry)) e) (xorSum 16 (λ s. product (byteAt (now (xs .entry)) (panel * 16 + s)) (leftSum w (n * w) m A χ e (λ ρ. laneAt (now (table .entry)) ρ e) panel (panel * 16 + s))))) ⌝ }
 {
     strings::clear(&mut stacks[..tau * STACK]);
-    super::stacks::collect(stacks, sums, cells, panel, m, tau, words, count, vectors);
+    super::stacks::collect(stacks, sums, cells, panel, m, tau, words, groups, vectors);
     columns::finish(quad, mid, stacks, panel, tau, n, table, xs, polar);
 }
 
@@ -90,14 +90,14 @@ pub fn add_forms(
     m: usize,
     tau: usize,
     words: &[u64],
-    count: usize,
+    groups: usize,
     table: &[u8],
     xs: &[u8],
     polar: bool,
 )
-    requires { ⌜ (length (now quad) ≡ lanes) × (length (now mid) ≡ lanes) × (length (now a) ≡ m * (n * width)) × (width ≡ bytesFor n) × (n ≤ 160) × (0 < m) × (m ≤ 160) × (0 < tau) × (tau ≤ lanes) × (count ≡ (m + 39) / 40) × (tau * 8 * count ≤ length (now words)) × (length (now table) ≡ n * lanes) × (length (now xs) ≡ most) × ((c : ℕ) → byteAt (now xs) c < 2) × ((c : ℕ) → n ≤ c → byteAt (now xs) c ≡ 0) × (polar ≡ false → (c : ℕ) → byteAt (now xs) c ≡ 0) × (m * chunk ≤ length (now lines)) ⌝ }
-    ensures { λ _. ⌜ ((χ : List ℕ) (e : ℕ) → ((k : ℕ) → byteAt χ k < 256) → ((r : ℕ) → r < tau * 8 → Chosen χ m count (now (words .entry)) r) → e < tau → byteAt (now (quad .exit)) e ≡ bitXor (byteAt (now (quad .entry)) e) (formSum n width m (now (a .entry)) χ e (λ c. laneAt (now (table .entry)) c e) (λ c. laneAt (now (table .entry)) c e))) ⌝ }
-    ensures { λ _. ⌜ ((χ : List ℕ) (e : ℕ) → ((k : ℕ) → byteAt χ k < 256) → ((r : ℕ) → r < tau * 8 → Chosen χ m count (now (words .entry)) r) → e < tau → byteAt (now (mid .exit)) e ≡ bitXor (bitXor (byteAt (now (mid .entry)) e) (bitXor (formSum n width m (now (a .entry)) χ e (λ c. laneAt (now (table .entry)) c e) (byteAt (now (xs .entry)))) (formSum n width m (now (a .entry)) χ e (byteAt (now (xs .entry))) (λ c. laneAt (now (table .entry)) c e)))) (xorSum n (λ c. product (laneAt (now (table .entry)) c e) (lineSum (now (lines .entry)) m χ e c)))) ⌝ }
+    requires { ⌜ (length (now quad) ≡ lanes) × (length (now mid) ≡ lanes) × (length (now a) ≡ m * (n * width)) × (width ≡ bytesFor n) × (n ≤ 160) × (0 < m) × (m ≤ 160) × (0 < tau) × (tau ≤ lanes) × (InWords groups × (m ≤ groups * 5)) × (tau * 8 * 4 ≤ length (now words)) × (length (now table) ≡ n * lanes) × (length (now xs) ≡ most) × ((c : ℕ) → byteAt (now xs) c < 2) × ((c : ℕ) → n ≤ c → byteAt (now xs) c ≡ 0) × (polar ≡ false → (c : ℕ) → byteAt (now xs) c ≡ 0) × (m * chunk ≤ length (now lines)) ⌝ }
+    ensures { λ _. ⌜ ((χ : List ℕ) (e : ℕ) → ((k : ℕ) → byteAt χ k < 256) → ((r : ℕ) → r < tau * 8 → Chosen χ m (now (words .entry)) r) → e < tau → byteAt (now (quad .exit)) e ≡ bitXor (byteAt (now (quad .entry)) e) (formSum n width m (now (a .entry)) χ e (λ c. laneAt (now (table .entry)) c e) (λ c. laneAt (now (table .entry)) c e))) ⌝ }
+    ensures { λ _. ⌜ ((χ : List ℕ) (e : ℕ) → ((k : ℕ) → byteAt χ k < 256) → ((r : ℕ) → r < tau * 8 → Chosen χ m (now (words .entry)) r) → e < tau → byteAt (now (mid .exit)) e ≡ bitXor (bitXor (byteAt (now (mid .entry)) e) (bitXor (formSum n width m (now (a .entry)) χ e (λ c. laneAt (now (table .entry)) c e) (byteAt (now (xs .entry)))) (formSum n width m (now (a .entry)) χ e (byteAt (now (xs .entry))) (λ c. laneAt (now (table .entry)) c e)))) (xorSum n (λ c. product (laneAt (now (table .entry)) c e) (lineSum (now (lines .entry)) m χ e c)))) ⌝ }
     ensures { λ _. ⌜ (polar ≡ true → (i c : ℕ) → i < m → c < n → lineBit (now (lines .exit)) i c ≡ bitXor (lineBit (now (lines .entry)) i c) (leftOf width (n * width) (now (a .entry)) (byteAt (now (xs .entry))) i c)) ⌝ }
     ensures { λ _. ⌜ (polar ≡ false → now (lines .exit) ≡ now (lines .entry)) ⌝ }
 {
@@ -123,7 +123,7 @@ pub fn add_forms(
             m,
             tau,
             words,
-            count,
+            groups,
             &vectors,
             table,
             xs,
@@ -132,5 +132,5 @@ pub fn add_forms(
         );
         panel += 1;
     }
-    super::lines::add_lines(mid, &mut sums, lines, m, tau, words, count, &vectors);
+    super::lines::add_lines(mid, &mut sums, lines, m, tau, words, groups, &vectors);
 }

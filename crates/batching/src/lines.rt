@@ -10,7 +10,7 @@ ghost use lib.Bits.{bitXor, bitAnd};
 ghost use Rattle.strings.specs.Sums.{byteAt, bitOf, xorSum};
 ghost use Rattle.lanes.specs.Lanes.{lanes};
 ghost use Rattle.chunks.specs.Chunks.{chunk, cellAt};
-ghost use Rattle.choices.specs.Entries.{eightByte, Chosen, Weighed};
+ghost use Rattle.choices.specs.Entries.{Chosen, lookedUp, InWords, Weighed};
 ghost use Rattle.columns.specs.Stacks.{product};
 ghost use Rattle.batching.specs.Batched.{most};
 ghost use Rattle.batching.specs.Lines.{lineBit, leftByte, leftBit, lineSum};
@@ -121,27 +121,23 @@ fn dot(f: &[u8], t: &[u8]) -> u8
 }
 
 // Plane p becomes the sum of the entries that row r of the words chooses.
-fn look_up_plane(planes: &mut [u8], p: usize, words: &[u64], r: usize, count: usize, sums: &[u8])
-    requires { ⌜ (p * chunk + chunk ≤ length (now planes)) × (r * count + count ≤ length (now words)) × (count ≤ 4) × (count * 256 * chunk ≤ length (now sums)) ⌝ }
-    ensures { λ _. ⌜ ((f : ℕ) → f < chunk → cellAt (now (planes .exit)) p f ≡ xorSum count (λ k. eightByte (now (sums .entry)) k (byteAt (now (words .entry)) (r * count + k)) f)) ⌝ }
+fn look_up_plane(planes: &mut [u8], p: usize, words: &[u64], r: usize, groups: usize, sums: &[u8])
+    requires { ⌜ (p * chunk + chunk ≤ length (now planes)) × (r * 4 + 4 ≤ length (now words)) × InWords groups × (32768 ≤ length (now sums)) ⌝ }
+    ensures { λ _. ⌜ ((f : ℕ) → f < chunk → cellAt (now (planes .exit)) p f ≡ lookedUp (now (sums .entry)) (now (words .entry)) r groups f) ⌝ }
     ensures { λ _. ⌜ ((q f : ℕ) → (q ≡ p → ⊥) → f < chunk → cellAt (now (planes .exit)) q f ≡ cellAt (now (planes .entry)) q f) ⌝ }
 {
     let at = p * CHUNK;
-    choices::sums::look_up(
-        &mut planes[at..at + CHUNK],
-        choices::fives::row_at(words, count, r),
-        sums,
-    );
+    choices::sums::look_up(&mut planes[at..at + CHUNK], words, r, groups, sums);
 }
 
 // The eight planes of the batched line whose rows of words begin with row `base`.
-fn look_up_planes(planes: &mut [u8], words: &[u64], base: usize, count: usize, sums: &[u8])
-    requires { ⌜ (length (now planes) ≡ 8 * chunk) × ((base + 8) * count ≤ length (now words)) × (base ≤ 1000) × (count ≤ 4) × (count * 256 * chunk ≤ length (now sums)) ⌝ }
-    ensures { λ _. ⌜ ((p f : ℕ) → p < 8 → f < chunk → cellAt (now (planes .exit)) p f ≡ xorSum count (λ k. eightByte (now (sums .entry)) k (byteAt (now (words .entry)) ((base + p) * count + k)) f)) ⌝ }
+fn look_up_planes(planes: &mut [u8], words: &[u64], base: usize, groups: usize, sums: &[u8])
+    requires { ⌜ (length (now planes) ≡ 8 * chunk) × ((base + 8) * 4 ≤ length (now words)) × InWords groups × (32768 ≤ length (now sums)) ⌝ }
+    ensures { λ _. ⌜ ((p f : ℕ) → p < 8 → f < chunk → cellAt (now (planes .exit)) p f ≡ lookedUp (now (sums .entry)) (now (words .entry)) (base + p) groups f) ⌝ }
 {
     let mut p = 0;
     while p < 8 {
-        look_up_plane(planes, p, words, base + p, count, sums);
+        look_up_plane(planes, p, words, base + p, groups, sums);
         p += 1;
     }
 }
@@ -158,13 +154,13 @@ fn turn_half(elements: &mut [u8], h: usize, planes: &[u8])
 }
 
 // The batched line of repetition e times its vector.
-fn line_product(words: &[u64], e: usize, count: usize, sums: &[u8], vectors: &[u8]) -> u8
-    requires { ⌜ ((e * 8 + 8) * count ≤ length (now words)) × (e < lanes) × (count ≤ 4) × (count * 256 * chunk ≤ length (now sums)) × (e * most + most ≤ length (now vectors)) ⌝ }
-    ensures { λ r. ⌜ ((S : List ℕ) (χ : ℕ → ℕ) (m : ℕ) → Weighed S χ m (now (sums .entry)) (now (words .entry)) count (e * 8) → r ≡ xorSum most (λ c. product (byteAt (now (vectors .entry)) (e * most + c)) (xorSum m (λ i. lineBit S i c * χ i)))) ⌝ }
+fn line_product(words: &[u64], e: usize, groups: usize, sums: &[u8], vectors: &[u8]) -> u8
+    requires { ⌜ ((e * 8 + 8) * 4 ≤ length (now words)) × (e < lanes) × InWords groups × (32768 ≤ length (now sums)) × (e * most + most ≤ length (now vectors)) ⌝ }
+    ensures { λ r. ⌜ ((S : List ℕ) (χ : ℕ → ℕ) (m : ℕ) → Weighed S χ m (now (sums .entry)) (now (words .entry)) groups (e * 8) → r ≡ xorSum most (λ c. product (byteAt (now (vectors .entry)) (e * most + c)) (xorSum m (λ i. lineBit S i c * χ i)))) ⌝ }
 {
     let mut planes = [0u8; EIGHT_PLANES];
     let mut elements = [0u8; ELEMENTS];
-    look_up_planes(&mut planes, words, e * 8, count, sums);
+    look_up_planes(&mut planes, words, e * 8, groups, sums);
     turn_half(&mut elements, 0, &planes);
     turn_half(&mut elements, 1, &planes);
     dot(strings::row_at(vectors, MOST, e), &elements)
@@ -175,16 +171,16 @@ fn add_products(
     mid: &mut [u8],
     tau: usize,
     words: &[u64],
-    count: usize,
+    groups: usize,
     sums: &[u8],
     vectors: &[u8],
 )
-    requires { ⌜ (length (now mid) ≡ lanes) × (tau ≤ lanes) × (tau * 8 * count ≤ length (now words)) × (count ≤ 4) × (count * 256 * chunk ≤ length (now sums)) × (tau * most ≤ length (now vectors)) ⌝ }
-    ensures { λ _. ⌜ ((S : List ℕ) (χ : ℕ → ℕ → ℕ) (m e : ℕ) → ((q : ℕ) → q < tau → Weighed S (χ q) m (now (sums .entry)) (now (words .entry)) count (q * 8)) → e < tau → byteAt (now (mid .exit)) e ≡ bitXor (byteAt (now (mid .entry)) e) (xorSum most (λ c. product (byteAt (now (vectors .entry)) (e * most + c)) (xorSum m (λ i. lineBit S i c * χ e i))))) ⌝ }
+    requires { ⌜ (length (now mid) ≡ lanes) × (tau ≤ lanes) × (tau * 8 * 4 ≤ length (now words)) × InWords groups × (32768 ≤ length (now sums)) × (tau * most ≤ length (now vectors)) ⌝ }
+    ensures { λ _. ⌜ ((S : List ℕ) (χ : ℕ → ℕ → ℕ) (m e : ℕ) → ((q : ℕ) → q < tau → Weighed S (χ q) m (now (sums .entry)) (now (words .entry)) groups (q * 8)) → e < tau → byteAt (now (mid .exit)) e ≡ bitXor (byteAt (now (mid .entry)) e) (xorSum most (λ c. product (byteAt (now (vectors .entry)) (e * most + c)) (xorSum m (λ i. lineBit S i c * χ e i))))) ⌝ }
 {
     let mut e = 0;
     while e < tau {
-        mid[e] ^= line_product(words, e, count, sums, vectors);
+        mid[e] ^= line_product(words, e, groups, sums, vectors);
         e += 1;
     }
 }
@@ -197,12 +193,12 @@ pub fn add_lines(
     m: usize,
     tau: usize,
     words: &[u64],
-    count: usize,
+    groups: usize,
     vectors: &[u8],
 )
-    requires { ⌜ (length (now mid) ≡ lanes) × (length (now sums) ≡ 32768) × (m * chunk ≤ length (now lines)) × (0 < m) × (m ≤ 160) × (tau ≤ lanes) × (count ≡ (m + 39) / 40) × (tau * 8 * count ≤ length (now words)) × (tau * most ≤ length (now vectors)) ⌝ }
-    ensures { λ _. ⌜ ((χ : List ℕ) (e : ℕ) → ((k : ℕ) → byteAt χ k < 256) → ((r : ℕ) → r < tau * 8 → Chosen χ m count (now (words .entry)) r) → e < tau → byteAt (now (mid .exit)) e ≡ bitXor (byteAt (now (mid .entry)) e) (xorSum most (λ c. product (byteAt (now (vectors .entry)) (e * most + c)) (lineSum (now (lines .entry)) m χ e c)))) ⌝ }
+    requires { ⌜ (length (now mid) ≡ lanes) × (length (now sums) ≡ 32768) × (m * chunk ≤ length (now lines)) × (0 < m) × (m ≤ 160) × (tau ≤ lanes) × (InWords groups × (m ≤ groups * 5)) × (tau * 8 * 4 ≤ length (now words)) × (tau * most ≤ length (now vectors)) ⌝ }
+    ensures { λ _. ⌜ ((χ : List ℕ) (e : ℕ) → ((k : ℕ) → byteAt χ k < 256) → ((r : ℕ) → r < tau * 8 → Chosen χ m (now (words .entry)) r) → e < tau → byteAt (now (mid .exit)) e ≡ bitXor (byteAt (now (mid .entry)) e) (xorSum most (λ c. product (byteAt (now (vectors .entry)) (e * most + c)) (lineSum (now (lines .entry)) m χ e c)))) ⌝ }
 {
-    choices::sums::fill_sums(sums, count * 8, m, &lines[..m * CHUNK]);
-    add_products(mid, tau, words, count, sums, vectors);
+    choices::sums::fill_sums(sums, groups, m, &lines[..m * CHUNK]);
+    add_products(mid, tau, words, groups, sums, vectors);
 }

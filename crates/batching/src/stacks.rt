@@ -8,7 +8,7 @@ ghost use lib.Bits.{bitXor};
 ghost use Rattle.strings.specs.Sums.{byteAt, bitOf, xorSum};
 ghost use Rattle.lanes.specs.Lanes.{lanes, laneAt};
 ghost use Rattle.chunks.specs.Chunks.{chunk, cellAt, Masks};
-ghost use Rattle.choices.specs.Entries.{Chosen, Weighed};
+ghost use Rattle.choices.specs.Entries.{Chosen, InWords, Weighed};
 ghost use Rattle.columns.specs.Stacks.{product, planes, stackAt, stackOf};
 ghost use Rattle.batching.specs.Batched.{most, cellSum};
 use chunks::CHUNK;
@@ -76,19 +76,14 @@ fn spread(v: &mut [u8], src: &[u8], from: usize)
 }
 
 // Adds a chunk of the batched matrix to a stack, times v: it is the sum of the rows S, each times its byte χ, whose bits the words hold.
-fn absorb(t: &mut [u8], words: &[u64], base: usize, count: usize, sums: &[u8], masks: &[u8])
-    requires { ⌜ (length (now t) ≡ planes * chunk) × ((base + 8) * count ≤ length (now words)) × (count ≤ 4) × (count * 256 * chunk ≤ length (now sums)) × (length (now masks) ≡ 8 * chunk) × (base ≤ 1000) ⌝ }
-    ensures { λ _. ⌜ ((S v : List ℕ) (χ : ℕ → ℕ) (m f z : ℕ) → Weighed S χ m (now (sums .entry)) (now (words .entry)) count base → Masks v (now (masks .entry)) → byteAt v f < 256 → f < chunk → stackAt (now (t .exit)) f z ≡ bitXor (stackAt (now (t .entry)) f z) (product (byteAt v f) (xorSum m (λ i. bitOf (cellAt S i f) z * χ i)))) ⌝ }
+fn absorb(t: &mut [u8], words: &[u64], base: usize, groups: usize, sums: &[u8], masks: &[u8])
+    requires { ⌜ (length (now t) ≡ planes * chunk) × ((base + 8) * 4 ≤ length (now words)) × InWords groups × (32768 ≤ length (now sums)) × (length (now masks) ≡ 8 * chunk) ⌝ }
+    ensures { λ _. ⌜ ((S v : List ℕ) (χ : ℕ → ℕ) (m f z : ℕ) → Weighed S χ m (now (sums .entry)) (now (words .entry)) groups base → Masks v (now (masks .entry)) → byteAt v f < 256 → f < chunk → stackAt (now (t .exit)) f z ≡ bitXor (stackAt (now (t .entry)) f z) (product (byteAt v f) (xorSum m (λ i. bitOf (cellAt S i f) z * χ i)))) ⌝ }
 {
     let mut k = 0;
     while k < 4 {
         let mut both = [0u8; PAIR];
-        choices::sums::look_up_two(
-            &mut both,
-            choices::fives::row_at(words, count, base + 2 * k),
-            choices::fives::row_at(words, count, base + 2 * k + 1),
-            sums,
-        );
+        choices::sums::look_up_two(&mut both, words, base + 2 * k, groups, sums);
         planes::absorb_planes(t, 2 * k, &both, masks);
         k += 1;
     }
@@ -99,13 +94,13 @@ fn absorb_lane(
     stacks: &mut [u8],
     e: usize,
     words: &[u64],
-    count: usize,
+    groups: usize,
     sums: &[u8],
     vectors: &[u8],
     first: usize,
 )
-    requires { ⌜ (e * (planes * chunk) + planes * chunk ≤ length (now stacks)) × ((e * 8 + 8) * count ≤ length (now words)) × (count ≤ 4) × (count * 256 * chunk ≤ length (now sums)) × (e * most + most ≤ length (now vectors)) × (first + 16 ≤ most) × (e < lanes) ⌝ }
-    ensures { λ _. ⌜ ((S : List ℕ) (χ : ℕ → ℕ) (m h f z : ℕ) → Weighed S χ m (now (sums .entry)) (now (words .entry)) count (e * 8) → h < 2 → f < 16 → stackOf (now (stacks .exit)) e (h * 16 + f) z ≡ bitXor (stackOf (now (stacks .entry)) e (h * 16 + f) z) (product (byteAt (now (vectors .entry)) (e * most + (first + f))) (xorSum m (λ i. bitOf (cellAt S i (h * 16 + f)) z * χ i)))) ⌝ }
+    requires { ⌜ (e * (planes * chunk) + planes * chunk ≤ length (now stacks)) × ((e * 8 + 8) * 4 ≤ length (now words)) × InWords groups × (32768 ≤ length (now sums)) × (e * most + most ≤ length (now vectors)) × (first + 16 ≤ most) × (e < lanes) ⌝ }
+    ensures { λ _. ⌜ ((S : List ℕ) (χ : ℕ → ℕ) (m h f z : ℕ) → Weighed S χ m (now (sums .entry)) (now (words .entry)) groups (e * 8) → h < 2 → f < 16 → stackOf (now (stacks .exit)) e (h * 16 + f) z ≡ bitXor (stackOf (now (stacks .entry)) e (h * 16 + f) z) (product (byteAt (now (vectors .entry)) (e * most + (first + f))) (xorSum m (λ i. bitOf (cellAt S i (h * 16 + f)) z * χ i)))) ⌝ }
     ensures { λ _. ⌜ ((q b : ℕ) → (q ≡ e → ⊥) → b < planes * chunk → byteAt (now (stacks .exit)) (q * (planes * chunk) + b) ≡ byteAt (now (stacks .entry)) (q * (planes * chunk) + b)) ⌝ }
 {
     let mut v = [0u8; CHUNK];
@@ -117,7 +112,7 @@ fn absorb_lane(
         &mut stacks[at..at + STACK],
         words,
         e * 8,
-        count,
+        groups,
         sums,
         &masks,
     );
@@ -128,17 +123,17 @@ fn absorb_lanes(
     stacks: &mut [u8],
     tau: usize,
     words: &[u64],
-    count: usize,
+    groups: usize,
     sums: &[u8],
     vectors: &[u8],
     first: usize,
 )
-    requires { ⌜ (tau * (planes * chunk) ≤ length (now stacks)) × (tau * 8 * count ≤ length (now words)) × (count ≤ 4) × (count * 256 * chunk ≤ length (now sums)) × (tau * most ≤ length (now vectors)) × (first + 16 ≤ most) × (tau ≤ lanes) ⌝ }
-    ensures { λ _. ⌜ ((S : List ℕ) (χ : ℕ → ℕ → ℕ) (m e h f z : ℕ) → ((q : ℕ) → q < tau → Weighed S (χ q) m (now (sums .entry)) (now (words .entry)) count (q * 8)) → e < tau → h < 2 → f < 16 → stackOf (now (stacks .exit)) e (h * 16 + f) z ≡ bitXor (stackOf (now (stacks .entry)) e (h * 16 + f) z) (product (byteAt (now (vectors .entry)) (e * most + (first + f))) (xorSum m (λ i. bitOf (cellAt S i (h * 16 + f)) z * χ e i)))) ⌝ }
+    requires { ⌜ (tau * (planes * chunk) ≤ length (now stacks)) × (tau * 8 * 4 ≤ length (now words)) × InWords groups × (32768 ≤ length (now sums)) × (tau * most ≤ length (now vectors)) × (first + 16 ≤ most) × (tau ≤ lanes) ⌝ }
+    ensures { λ _. ⌜ ((S : List ℕ) (χ : ℕ → ℕ → ℕ) (m e h f z : ℕ) → ((q : ℕ) → q < tau → Weighed S (χ q) m (now (sums .entry)) (now (words .entry)) groups (q * 8)) → e < tau → h < 2 → f < 16 → stackOf (now (stacks .exit)) e (h * 16 + f) z ≡ bitXor (stackOf (now (stacks .entry)) e (h * 16 + f) z) (product (byteAt (now (vectors .entry)) (e * most + (first + f))) (xorSum m (λ i. bitOf (cellAt S i (h * 16 + f)) z * χ e i)))) ⌝ }
 {
     let mut e = 0;
     while e < tau {
-        absorb_lane(stacks, e, words, count, sums, vectors, first);
+        absorb_lane(stacks, e, words, groups, sums, vectors, first);
         e += 1;
     }
 }
@@ -153,17 +148,17 @@ pub fn collect(
     m: usize,
     tau: usize,
     words: &[u64],
-    count: usize,
+    groups: usize,
     vectors: &[u8],
 )
-    requires { ⌜ (tau * (planes * chunk) ≤ length (now stacks)) × (length (now sums) ≡ 32768) × ((panel + 1) * (m * chunk) ≤ length (now cells)) × (panel * 16 + 16 ≤ most) × (0 < m) × (m ≤ 160) × (0 < tau) × (tau ≤ lanes) × (count ≡ (m + 39) / 40) × (tau * 8 * count ≤ length (now words)) × (tau * most ≤ length (now vectors)) ⌝ }
-    ensures { λ _. ⌜ ((χ : List ℕ) (e h f z : ℕ) → ((k : ℕ) → byteAt χ k < 256) → ((r : ℕ) → r < tau * 8 → Chosen χ m count (now (words .entry)) r) → e < tau → h < 2 → f < 16 → stackOf (now (stacks .exit)) e (h * 16 + f) z ≡ bitXor (stackOf (now (stacks .entry)) e (h * 16 + f) z) (xorSum (panel + 1) (λ q. product (byteAt (now (vectors .entry)) (e * most + (q * 16 + f))) (cellSum (now (cells .entry)) m χ e q (h * 16 + f) z)))) ⌝ }
+    requires { ⌜ (tau * (planes * chunk) ≤ length (now stacks)) × (length (now sums) ≡ 32768) × ((panel + 1) * (m * chunk) ≤ length (now cells)) × (panel * 16 + 16 ≤ most) × (0 < m) × (m ≤ 160) × (0 < tau) × (tau ≤ lanes) × (InWords groups × (m ≤ groups * 5)) × (tau * 8 * 4 ≤ length (now words)) × (tau * most ≤ length (now vectors)) ⌝ }
+    ensures { λ _. ⌜ ((χ : List ℕ) (e h f z : ℕ) → ((k : ℕ) → byteAt χ k < 256) → ((r : ℕ) → r < tau * 8 → Chosen χ m (now (words .entry)) r) → e < tau → h < 2 → f < 16 → stackOf (now (stacks .exit)) e (h * 16 + f) z ≡ bitXor (stackOf (now (stacks .entry)) e (h * 16 + f) z) (xorSum (panel + 1) (λ q. product (byteAt (now (vectors .entry)) (e * most + (q * 16 + f))) (cellSum (now (cells .entry)) m χ e q (h * 16 + f) z)))) ⌝ }
 {
     let mut q = 0;
     while q <= panel {
-        choices::sums::fill_sums(sums, count * 8, m, strings::row_at(cells, m * CHUNK, q));
+        choices::sums::fill_sums(sums, groups, m, strings::row_at(cells, m * CHUNK, q));
         choices::sums::add_first(stacks, sums);
-        absorb_lanes(stacks, tau, words, count, sums, vectors, q * ROWS);
+        absorb_lanes(stacks, tau, words, groups, sums, vectors, q * ROWS);
         q += 1;
     }
 }

@@ -1,17 +1,20 @@
 // Which entries of the tables of sums the batching bytes choose, which are public: row 8·e + p is for bit p of the bytes of repetition e, a number
-// below 32 for each five equations. A word holds eight of them, so that one load serves eight look-ups.
+// below 32 for each five equations. A word holds ten of them, so that one load serves ten look-ups; of 32 the last two have a word of their own.
 ghost use mathlib.Core.Path.{_≡_};
 ghost use Prim.Native.Nat.{ℕ, _+_, _*_, _/_, _<_, _≤_};
 ghost use lib.ListN.{length};
-ghost use Rattle.protocol.specs.Lists.{blockAt};
 ghost use Rattle.strings.specs.Sums.{byteAt};
-ghost use Rattle.choices.specs.Entries.{wordOf, Chosen};
+ghost use Rattle.choices.specs.Entries.{wordOf, Chosen, InWords};
 use super::picks::FIVES;
 use super::picks::PICKS;
 use super::picks::ROWS;
 use super::picks::choose_all;
 use super::picks::fill_rows;
 use chunks::cells::copy_front;
+use chunks::cells::least;
+
+// The words of a row.
+pub const ROW: usize = 4;
 
 // Room for the bytes of the most equations, and for eight where the last five begin.
 const MOST: usize = 168;
@@ -34,47 +37,57 @@ fn four_at(picks: &[u8], at: usize) -> u64
         + wide(picks[at + 3]) * 32768
 }
 
+// Two numbers.
+fn two_at(picks: &[u8], at: usize) -> u64
+    requires { ⌜ at + 2 ≤ length (now picks) ⌝ }
+    ensures { λ r. ⌜ r ≡ byteAt (now (picks .entry)) at + byteAt (now (picks .entry)) (at + 1) * 32 ⌝ }
+    ensures { λ r. ⌜ r < 16384 ⌝ }
+{
+    wide(picks[at]) + wide(picks[at + 1]) * 32
+}
+
 fn put(row: &mut [u64], picks: &[u8], at: usize)
-    requires { ⌜ (length (now row) ≤ 4) × (at + 32 ≤ length (now picks)) ⌝ }
-    ensures { λ _. ⌜ ((k : ℕ) → k < length (now (row .entry)) → byteAt (now (row .exit)) k ≡ wordOf (now (picks .entry)) (at + k * 8)) ⌝ }
+    requires { ⌜ (length (now row) ≡ 4) × (at + 40 ≤ length (now picks)) ⌝ }
+    ensures { λ _. ⌜ ((k : ℕ) → k < 4 → byteAt (now (row .exit)) k ≡ wordOf (now (picks .entry)) (at + k * 10)) ⌝ }
 {
     let mut k = 0;
-    while k < row.len() {
-        let from = at + k * 8;
+    while k < ROW {
+        let from = at + k * 10;
         let low = four_at(picks, from);
         let high = four_at(picks, from + 4);
-        row[k] = low + high * 1048576;
+        let top = two_at(picks, from + 8);
+        row[k] = low + high * 1048576 + top * 1099511627776;
         k += 1;
     }
 }
 
 // Row r, which is for bit p.
-fn put_row(words: &mut [u64], r: usize, p: usize, picks: &[u8], count: usize)
-    requires { ⌜ (count ≤ 4) × (r * count + count ≤ length (now words)) × (p < 8) × (length (now picks) ≡ 256) ⌝ }
-    ensures { λ _. ⌜ ((k : ℕ) → k < count → byteAt (now (words .exit)) (r * count + k) ≡ wordOf (now (picks .entry)) (p * 32 + k * 8)) ⌝ }
-    ensures { λ _. ⌜ ((q k : ℕ) → (q ≡ r → ⊥) → k < count → byteAt (now (words .exit)) (q * count + k) ≡ byteAt (now (words .entry)) (q * count + k)) ⌝ }
+fn put_row(words: &mut [u64], r: usize, p: usize, picks: &[u8])
+    requires { ⌜ (r * 4 + 4 ≤ length (now words)) × (p < 8) × (length (now picks) ≡ 264) ⌝ }
+    ensures { λ _. ⌜ ((k : ℕ) → k < 4 → byteAt (now (words .exit)) (r * 4 + k) ≡ wordOf (now (picks .entry)) (p * 32 + k * 10)) ⌝ }
+    ensures { λ _. ⌜ ((q k : ℕ) → (q ≡ r → ⊥) → k < 4 → byteAt (now (words .exit)) (q * 4 + k) ≡ byteAt (now (words .entry)) (q * 4 + k)) ⌝ }
 {
-    let at = r * count;
-    put(&mut words[at..at + count], picks, p * FIVES);
+    let at = r * ROW;
+    put(&mut words[at..at + ROW], picks, p * FIVES);
 }
 
 // The eight rows of repetition e.
-fn put_rows(words: &mut [u64], e: usize, picks: &[u8], count: usize)
-    requires { ⌜ (count ≤ 4) × ((e * 8 + 8) * count ≤ length (now words)) × (e ≤ 1000) × (length (now picks) ≡ 256) ⌝ }
-    ensures { λ _. ⌜ ((p k : ℕ) → p < 8 → k < count → byteAt (now (words .exit)) ((e * 8 + p) * count + k) ≡ wordOf (now (picks .entry)) (p * 32 + k * 8)) ⌝ }
-    ensures { λ _. ⌜ ((q k : ℕ) → q < e * 8 → k < count → byteAt (now (words .exit)) (q * count + k) ≡ byteAt (now (words .entry)) (q * count + k)) ⌝ }
+fn put_rows(words: &mut [u64], e: usize, picks: &[u8])
+    requires { ⌜ ((e * 8 + 8) * 4 ≤ length (now words)) × (length (now picks) ≡ 264) ⌝ }
+    ensures { λ _. ⌜ ((p k : ℕ) → p < 8 → k < 4 → byteAt (now (words .exit)) ((e * 8 + p) * 4 + k) ≡ wordOf (now (picks .entry)) (p * 32 + k * 10)) ⌝ }
+    ensures { λ _. ⌜ ((q k : ℕ) → q < e * 8 → k < 4 → byteAt (now (words .exit)) (q * 4 + k) ≡ byteAt (now (words .entry)) (q * 4 + k)) ⌝ }
 {
     let mut p = 0;
     while p < 8 {
-        put_row(words, e * 8 + p, p, picks, count);
+        put_row(words, e * 8 + p, p, picks);
         p += 1;
     }
 }
 
-fn fill_repetition(words: &mut [u64], e: usize, chi: &[u8], m: usize, count: usize)
-    requires { ⌜ (count ≡ (m + 39) / 40) × (m ≤ 160) × ((e * 8 + 8) * count ≤ length (now words)) × (e * m + m ≤ length (now chi)) × (e ≤ 1000) ⌝ }
-    ensures { λ _. ⌜ ((p : ℕ) → p < 8 → Chosen (now (chi .entry)) m count (now (words .exit)) (e * 8 + p)) ⌝ }
-    ensures { λ _. ⌜ ((q k : ℕ) → q < e * 8 → k < count → byteAt (now (words .exit)) (q * count + k) ≡ byteAt (now (words .entry)) (q * count + k)) ⌝ }
+fn fill_repetition(words: &mut [u64], e: usize, chi: &[u8], m: usize)
+    requires { ⌜ (m ≤ 160) × ((e * 8 + 8) * 4 ≤ length (now words)) × (e * m + m ≤ length (now chi)) ⌝ }
+    ensures { λ _. ⌜ ((p : ℕ) → p < 8 → Chosen (now (chi .entry)) m (now (words .exit)) (e * 8 + p)) ⌝ }
+    ensures { λ _. ⌜ ((q k : ℕ) → q < e * 8 → k < 4 → byteAt (now (words .exit)) (q * 4 + k) ≡ byteAt (now (words .entry)) (q * 4 + k)) ⌝ }
 {
     let mut bytes = [0u8; MOST];
     copy_front(&mut bytes, chi, e * m, m);
@@ -83,26 +96,25 @@ fn fill_repetition(words: &mut [u64], e: usize, chi: &[u8], m: usize, count: usi
     fill_rows(&mut rows, 1, &bytes);
     let mut picks = [0u8; PICKS];
     choose_all(&mut picks, &rows);
-    put_rows(words, e, &picks, count);
+    put_rows(words, e, &picks);
+}
+
+// The fives that are looked up for m equations: those of whole words of ten, or all 32.
+pub fn groups_for(m: usize) -> usize
+    requires { ⌜ m ≤ 160 ⌝ }
+    ensures { λ r. ⌜ InWords r × (m ≤ r * 5) ⌝ }
+{
+    least((m + 49) / 50 * 10, FIVES)
 }
 
 // The words of what the m bytes of each of tau repetitions choose.
-pub fn fill_words(words: &mut [u64], chi: &[u8], m: usize, count: usize, tau: usize)
-    requires { ⌜ (count ≡ (m + 39) / 40) × (m ≤ 160) × (tau * 8 * count ≤ length (now words)) × (length (now chi) ≡ tau * m) × (tau ≤ 1000) ⌝ }
-    ensures { λ _. ⌜ ((r : ℕ) → r < tau * 8 → Chosen (now (chi .entry)) m count (now (words .exit)) r) ⌝ }
+pub fn fill_words(words: &mut [u64], chi: &[u8], m: usize, tau: usize)
+    requires { ⌜ (m ≤ 160) × (tau * 8 * 4 ≤ length (now words)) × (length (now chi) ≡ tau * m) ⌝ }
+    ensures { λ _. ⌜ ((r : ℕ) → r < tau * 8 → Chosen (now (chi .entry)) m (now (words .exit)) r) ⌝ }
 {
     let mut e = 0;
     while e < tau {
-        fill_repetition(words, e, chi, m, count);
+        fill_repetition(words, e, chi, m);
         e += 1;
     }
-}
-
-// Row r, as that part.
-pub fn row_at(words: &[u64], count: usize, r: usize) -> &[u64]
-    requires { ⌜ r * count + count ≤ length (now words) ⌝ }
-    ensures { λ s. ⌜ (now s ≡ blockAt (now (words .entry)) count r) × (length (now s) ≡ count) ⌝ }
-{
-    let from = r * count;
-    &words[from..from + count]
 }

@@ -10,10 +10,10 @@ use turns::EIGHT_ROWS;
 use turns::SIXTEEN;
 use turns::part;
 
-// The numbers of one bit, for the most fives, and those of eight.
+// The numbers of one bit, for the most fives, and those of eight, with room for ten where the last two begin.
 pub const FIVES: usize = 32;
 
-pub const PICKS: usize = 256;
+pub const PICKS: usize = 264;
 
 // Both sixteens of fives, eight rows each.
 pub const ROWS: usize = 256;
@@ -55,7 +55,7 @@ fn choose_both(plane: &mut [u8], rows: &[u8], p: usize)
 }
 
 fn choose_at(picks: &mut [u8], rows: &[u8], p: usize)
-    requires { ⌜ (length (now picks) ≡ 256) × (length (now rows) ≡ 256) × (p < 8) ⌝ }
+    requires { ⌜ (length (now picks) ≡ 264) × (length (now rows) ≡ 256) × (p < 8) ⌝ }
     ensures { λ _. ⌜ ((g : ℕ) → g < 32 → byteAt (now (picks .exit)) (p * 32 + g) ≡ choice (inRows (now (rows .entry))) p g) ⌝ }
     ensures { λ _. ⌜ ((q g : ℕ) → (q ≡ p → ⊥) → g < 32 → byteAt (now (picks .exit)) (q * 32 + g) ≡ byteAt (now (picks .entry)) (q * 32 + g)) ⌝ }
 {
@@ -65,7 +65,7 @@ fn choose_at(picks: &mut [u8], rows: &[u8], p: usize)
 
 // All eight bits, before any is written on, so that they stay in registers.
 pub fn choose_all(picks: &mut [u8], rows: &[u8])
-    requires { ⌜ (length (now picks) ≡ 256) × (length (now rows) ≡ 256) ⌝ }
+    requires { ⌜ (length (now picks) ≡ 264) × (length (now rows) ≡ 256) ⌝ }
     ensures { λ _. ⌜ ((p g : ℕ) → p < 8 → g < 32 → byteAt (now (picks .exit)) (p * 32 + g) ≡ choice (inRows (now (rows .entry))) p g) ⌝ }
 {
     let mut p = 0;

@@ -1,11 +1,12 @@
 // Sums of the rows that public bits select. Five rows at a time, the 32 sums of them are in a table, so that one addition serves five rows.
 ghost use mathlib.Core.Path.{_≡_};
-ghost use Prim.Native.Nat.{ℕ, _+_, _*_, _^_, _<_, _≤_};
+ghost use Prim.Native.Nat.{ℕ, _+_, _*_, _-_, _^_, _<_, _≤_};
 ghost use lib.ListN.{length};
 ghost use lib.Bits.{bitXor};
-ghost use Rattle.strings.specs.Sums.{byteAt, xorSum};
+ghost use Rattle.strings.specs.Sums.{byteAt};
 ghost use Rattle.chunks.specs.Chunks.{chunk, pair, cellAt};
-ghost use Rattle.choices.specs.Entries.{entryByte, Tabled, five, eightByte};
+ghost use Rattle.choices.specs.Entries.{entryByte, Tabled, five, wordByte, lookedUp, InWords};
+use super::fives::ROW;
 use chunks::CHUNK;
 
 // The entries of the table of sums for five rows, one for each value of five bits.
@@ -102,48 +103,92 @@ pub fn fill_sums(sums: &mut [u8], groups: usize, n: usize, table: &[u8])
 
 // Where the entry stands that five j of a word chooses among the 32 of group g.
 fn place_of(w: u64, g: usize, j: usize) -> usize
-    requires { ⌜ (j < 8) × (g < 32) ⌝ }
+    requires { ⌜ (j < 10) × (g < 32) ⌝ }
     ensures { λ r. ⌜ (r ≡ (g * 32 + five w j) * chunk) × (five w j < 32) ⌝ }
 {
     (g * ENTRIES + ((w >> (5 * j)) % 32) as usize) * CHUNK
 }
 
 // Adds the entries that word k chooses, w for the first and x for the second: side by side, so that neither waits for the other.
-fn add_eight(
-    first: &mut [u8; CHUNK],
-    second: &mut [u8; CHUNK],
-    w: u64,
-    x: u64,
-    sums: &[u8],
-    k: usize,
-)
-    requires { ⌜ (length (now first) ≡ chunk) × (length (now second) ≡ chunk) × (k < 4) × ((k + 1) * 256 * chunk ≤ length (now sums)) ⌝ }
+fn add_ten(first: &mut [u8; CHUNK], second: &mut [u8; CHUNK], w: u64, x: u64, sums: &[u8], k: usize)
+    requires { ⌜ (length (now first) ≡ chunk) × (length (now second) ≡ chunk) × (k < 3) × (32768 ≤ length (now sums)) ⌝ }
     ensures { λ _. ⌜ (length (now (first .exit)) ≡ chunk) × (length (now (second .exit)) ≡ chunk) ⌝ }
-    ensures { λ _. ⌜ ((f : ℕ) → f < chunk → byteAt (now (first .exit)) f ≡ bitXor (byteAt (now (first .entry)) f) (eightByte (now (sums .entry)) k w f)) ⌝ }
-    ensures { λ _. ⌜ ((f : ℕ) → f < chunk → byteAt (now (second .exit)) f ≡ bitXor (byteAt (now (second .entry)) f) (eightByte (now (sums .entry)) k x f)) ⌝ }
+    ensures { λ _. ⌜ ((f : ℕ) → f < chunk → byteAt (now (first .exit)) f ≡ bitXor (byteAt (now (first .entry)) f) (wordByte (now (sums .entry)) k 10 w f)) ⌝ }
+    ensures { λ _. ⌜ ((f : ℕ) → f < chunk → byteAt (now (second .exit)) f ≡ bitXor (byteAt (now (second .entry)) f) (wordByte (now (sums .entry)) k 10 x f)) ⌝ }
 {
     let mut j = 0;
-    while j < 8 {
-        let g = k * 8 + j;
+    while j < 10 {
+        let g = k * 10 + j;
         add_at(first, sums, place_of(w, g, j));
         add_at(second, sums, place_of(x, g, j));
         j += 1;
     }
 }
 
-// Chunk 0 of out is the sum of the entries that the words choose, and chunk 1 of those that the words `next` choose.
-pub fn look_up_two(out: &mut [u8], words: &[u64], next: &[u64], sums: &[u8])
-    requires { ⌜ (length (now out) ≡ pair) × (length (now next) ≡ length (now words)) × (length (now words) ≤ 4) × (length (now words) * 256 * chunk ≤ length (now sums)) ⌝ }
-    ensures { λ _. ⌜ ((f : ℕ) → f < chunk → cellAt (now (out .exit)) 0 f ≡ xorSum (length (now (words .entry))) (λ k. eightByte (now (sums .entry)) k (byteAt (now (words .entry)) k) f)) ⌝ }
-    ensures { λ _. ⌜ ((f : ℕ) → f < chunk → cellAt (now (out .exit)) 1 f ≡ xorSum (length (now (words .entry))) (λ k. eightByte (now (sums .entry)) k (byteAt (now (next .entry)) k) f)) ⌝ }
+// The same of the last word, which holds two fives.
+fn add_two(first: &mut [u8; CHUNK], second: &mut [u8; CHUNK], w: u64, x: u64, sums: &[u8])
+    requires { ⌜ (length (now first) ≡ chunk) × (length (now second) ≡ chunk) × (32768 ≤ length (now sums)) ⌝ }
+    ensures { λ _. ⌜ (length (now (first .exit)) ≡ chunk) × (length (now (second .exit)) ≡ chunk) ⌝ }
+    ensures { λ _. ⌜ ((f : ℕ) → f < chunk → byteAt (now (first .exit)) f ≡ bitXor (byteAt (now (first .entry)) f) (wordByte (now (sums .entry)) 3 2 w f)) ⌝ }
+    ensures { λ _. ⌜ ((f : ℕ) → f < chunk → byteAt (now (second .exit)) f ≡ bitXor (byteAt (now (second .entry)) f) (wordByte (now (sums .entry)) 3 2 x f)) ⌝ }
+{
+    let mut j = 0;
+    while j < 2 {
+        let g = 30 + j;
+        add_at(first, sums, place_of(w, g, j));
+        add_at(second, sums, place_of(x, g, j));
+        j += 1;
+    }
+}
+
+// Adds what the last word chooses, where there are more groups than the others have fives.
+fn add_last(
+    first: &mut [u8; CHUNK],
+    second: &mut [u8; CHUNK],
+    w: u64,
+    x: u64,
+    groups: usize,
+    sums: &[u8],
+)
+    requires { ⌜ (length (now first) ≡ chunk) × (length (now second) ≡ chunk) × InWords groups × (32768 ≤ length (now sums)) ⌝ }
+    ensures { λ _. ⌜ (length (now (first .exit)) ≡ chunk) × (length (now (second .exit)) ≡ chunk) ⌝ }
+    ensures { λ _. ⌜ ((f : ℕ) → f < chunk → byteAt (now (first .exit)) f ≡ bitXor (byteAt (now (first .entry)) f) (wordByte (now (sums .entry)) 3 (groups - 30) w f)) ⌝ }
+    ensures { λ _. ⌜ ((f : ℕ) → f < chunk → byteAt (now (second .exit)) f ≡ bitXor (byteAt (now (second .entry)) f) (wordByte (now (sums .entry)) 3 (groups - 30) x f)) ⌝ }
+{
+    if groups > 30 {
+        add_two(first, second, w, x, sums);
+    }
+}
+
+// Chunk 0 of out is the sum of the entries that row r of the words chooses for so many groups of five, and chunk 1 that of row r + 1.
+pub fn look_up_two(out: &mut [u8], words: &[u64], r: usize, groups: usize, sums: &[u8])
+    requires { ⌜ (length (now out) ≡ pair) × (r * 4 + 8 ≤ length (now words)) × InWords groups × (32768 ≤ length (now sums)) ⌝ }
+    ensures { λ _. ⌜ ((f : ℕ) → f < chunk → cellAt (now (out .exit)) 0 f ≡ lookedUp (now (sums .entry)) (now (words .entry)) r groups f) ⌝ }
+    ensures { λ _. ⌜ ((f : ℕ) → f < chunk → cellAt (now (out .exit)) 1 f ≡ lookedUp (now (sums .entry)) (now (words .entry)) (r + 1) groups f) ⌝ }
 {
     let mut first = [0u8; CHUNK];
     let mut second = [0u8; CHUNK];
+    let at = r * ROW;
     let mut k = 0;
-    while k < words.len() {
-        add_eight(&mut first, &mut second, words[k], next[k], sums, k);
+    while k < groups / 10 {
+        add_ten(
+            &mut first,
+            &mut second,
+            words[at + k],
+            words[at + ROW + k],
+            sums,
+            k,
+        );
         k += 1;
     }
+    add_last(
+        &mut first,
+        &mut second,
+        words[at + 3],
+        words[at + ROW + 3],
+        groups,
+        sums,
+    );
     store(out, 0, &first);
     store(out, 1, &second);
 }
@@ -162,29 +207,38 @@ pub fn add_first(dst: &mut [u8], sums: &[u8])
     }
 }
 
-// Adds the entries that word k chooses.
-fn add_word(sum: &mut [u8; CHUNK], w: u64, sums: &[u8], k: usize)
-    requires { ⌜ (length (now sum) ≡ chunk) × (k < 4) × ((k + 1) * 256 * chunk ≤ length (now sums)) ⌝ }
+// Adds the entries that the first n fives of word k choose.
+fn add_word(sum: &mut [u8; CHUNK], w: u64, n: usize, sums: &[u8], k: usize)
+    requires { ⌜ (length (now sum) ≡ chunk) × (n ≤ 10) × (k * 10 + n ≤ 32) × (32768 ≤ length (now sums)) ⌝ }
     ensures { λ _. ⌜ length (now (sum .exit)) ≡ chunk ⌝ }
-    ensures { λ _. ⌜ ((f : ℕ) → f < chunk → byteAt (now (sum .exit)) f ≡ bitXor (byteAt (now (sum .entry)) f) (eightByte (now (sums .entry)) k w f)) ⌝ }
+    ensures { λ _. ⌜ ((f : ℕ) → f < chunk → byteAt (now (sum .exit)) f ≡ bitXor (byteAt (now (sum .entry)) f) (wordByte (now (sums .entry)) k n w f)) ⌝ }
 {
     let mut j = 0;
-    while j < 8 {
-        add_at(sum, sums, place_of(w, k * 8 + j, j));
+    while j < n {
+        add_at(sum, sums, place_of(w, k * 10 + j, j));
         j += 1;
     }
 }
 
-// The sum of the entries that the words choose.
-pub fn look_up(out: &mut [u8], words: &[u64], sums: &[u8])
-    requires { ⌜ (length (now out) ≡ chunk) × (length (now words) ≤ 4) × (length (now words) * 256 * chunk ≤ length (now sums)) ⌝ }
-    ensures { λ _. ⌜ ((f : ℕ) → f < chunk → byteAt (now (out .exit)) f ≡ xorSum (length (now (words .entry))) (λ k. eightByte (now (sums .entry)) k (byteAt (now (words .entry)) k) f)) ⌝ }
+// The fives of the last word, where there are so many groups.
+fn last_fives(groups: usize) -> usize
+    ensures { λ n. ⌜ n ≡ groups - 30 ⌝ }
+{
+    if groups > 30 { groups - 30 } else { 0 }
+}
+
+// The sum of the entries that row r of the words chooses for so many groups of five.
+pub fn look_up(out: &mut [u8], words: &[u64], r: usize, groups: usize, sums: &[u8])
+    requires { ⌜ (length (now out) ≡ chunk) × (r * 4 + 4 ≤ length (now words)) × InWords groups × (32768 ≤ length (now sums)) ⌝ }
+    ensures { λ _. ⌜ ((f : ℕ) → f < chunk → byteAt (now (out .exit)) f ≡ lookedUp (now (sums .entry)) (now (words .entry)) r groups f) ⌝ }
 {
     let mut sum = [0u8; CHUNK];
+    let at = r * ROW;
     let mut k = 0;
-    while k < words.len() {
-        add_word(&mut sum, words[k], sums, k);
+    while k < groups / 10 {
+        add_word(&mut sum, words[at + k], 10, sums, k);
         k += 1;
     }
+    add_word(&mut sum, words[at + 3], last_fives(groups), sums, 3);
     chunks::cells::copy_chunk(out, &sum);
 }

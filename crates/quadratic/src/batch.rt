@@ -15,12 +15,13 @@ ghost use Rattle.equations.specs.Equations.{rowOf, matrixOf, errorOf};
 ghost use Rattle.quadratic.specs.Forms.{formByte, middleByte};
 ghost use Rattle.quadratic.specs.Batch.{batchByte, qs0Byte, qs1Byte};
 use super::EQUATIONS;
+use choices::fives::ROW;
 use chunks::CHUNK;
 use equations::VARIABLES;
 use lanes::LANES;
 
-// The words of the choices of as many batching bytes as a key may have, forty equations to a word.
-const WORDS: usize = 8 * LANES * (EQUATIONS / 40);
+// The words of what the batching bytes of as many repetitions as a key may have choose.
+const WORDS: usize = 8 * LANES * ROW;
 
 // The bytes of as many lines as a key may have equations.
 pub const LINES: usize = EQUATIONS * CHUNK;
@@ -69,10 +70,10 @@ pub fn batch_forms(
     ensures { λ _. ⌜ ((e : ℕ) → e < tau → byteAt (now (lin .exit)) e ≡ bitXor (byteAt (now (lin .entry)) e) (batchByte m (now (chi .entry)) e (λ i. middleByte n (matrixOf n (now (a .entry)) i) (rowOf n (now (b .entry)) i) (byteAt (now (xs .entry))) (now (table .entry)) e))) ⌝ }
     ensures { λ _. ⌜ (polar ≡ true → (i c : ℕ) → i < m → c < n → lineBit (now (lines .exit)) i c ≡ bitXor (bit (rowOf n (now (b .entry)) i) c) (leftOf (bytesFor n) (n * bytesFor n) (now (a .entry)) (byteAt (now (xs .entry))) i c)) ⌝ }
 {
-    let count = (m + 39) / 40;
+    let groups = choices::fives::groups_for(m);
     let width = (n + 7) / 8;
     let mut words = [0u64; WORDS];
-    choices::fives::fill_words(&mut words, chi, m, count, tau);
+    choices::fives::fill_words(&mut words, chi, m, tau);
     put_lines(lines, b, width, m);
     batching::forms::add_forms(
         quad,
@@ -84,7 +85,7 @@ pub fn batch_forms(
         m,
         tau,
         &words,
-        count,
+        groups,
         table,
         xs,
         polar,

@@ -48,10 +48,10 @@ all-added false w size A xs L₀ L i c on off none =
     ap (λ l. lineBit l i c) (off refl) ∙ sym (ap (bitXor (lineBit L₀ i c)) (left-none w size A (byteAt xs) i c (none refl)) ∙ xor-zero-r _)
 
 abbrev Inv-loop : tie.InvT-loop
-Inv-loop quad₀ mid₀ lines₀ a n width m tau words count table xs asked cells₀ sums₀ vectors bits stacks₀ panel₀ quad mid lines cells sums stacks panel = (panel * 16 < n + 16) × (length quad ≡ lanes) × (length mid ≡ lanes) × (length cells ≡ 133120) × (length sums ≡ 32768) × ((e c : ℕ) → e < tau → c < most → byteAt vectors (e * most + c) ≡ laneAt table c e) × ((c : ℕ) → c < most → byteAt bits c ≡ byteAt xs c * 255) × ((χ : List ℕ) (e : ℕ) → ((k : ℕ) → byteAt χ k < 256) → ((r : ℕ) → r < tau * 8 → Chosen χ m count words r) → e < tau → byteAt quad e ≡ bitXor (byteAt quad₀ e) (xorSum panel (term n width m a table χ e))) × ((χ : List ℕ) (e : ℕ) → ((k : ℕ) → byteAt χ k < 256) → ((r : ℕ) → r < tau * 8 → Chosen χ m count words r) → e < tau → byteAt mid e ≡ bitXor (byteAt mid₀ e) (xorSum panel (half n width m a table xs χ e))) × (length vectors ≡ 7680) × (length bits ≡ most) × ((panel % 4 ≡ 0 → ⊥) → FoldedSet n width m a (panel / 4 * 4) cells) × (length stacks ≡ 23040) × (length lines ≡ length lines₀) × (asked ≡ true → (i c : ℕ) → i < m → c < n → c < panel * 16 → Added width (n * width) a (byteAt xs) lines₀ lines i c) × ((i k : ℕ) → k < chunk → panel * 2 ≤ k → cellAt lines i k ≡ cellAt lines₀ i k) × (asked ≡ false → lines ≡ lines₀)
+Inv-loop quad₀ mid₀ lines₀ a n width m tau words groups table xs asked cells₀ sums₀ vectors bits stacks₀ panel₀ quad mid lines cells sums stacks panel = (panel * 16 < n + 16) × (length quad ≡ lanes) × (length mid ≡ lanes) × (length cells ≡ 133120) × (length sums ≡ 32768) × ((e c : ℕ) → e < tau → c < most → byteAt vectors (e * most + c) ≡ laneAt table c e) × ((c : ℕ) → c < most → byteAt bits c ≡ byteAt xs c * 255) × ((χ : List ℕ) (e : ℕ) → ((k : ℕ) → byteAt χ k < 256) → ((r : ℕ) → r < tau * 8 → Chosen χ m words r) → e < tau → byteAt quad e ≡ bitXor (byteAt quad₀ e) (xorSum panel (term n width m a table χ e))) × ((χ : List ℕ) (e : ℕ) → ((k : ℕ) → byteAt χ k < 256) → ((r : ℕ) → r < tau * 8 → Chosen χ m words r) → e < tau → byteAt mid e ≡ bitXor (byteAt mid₀ e) (xorSum panel (half n width m a table xs χ e))) × (length vectors ≡ 7680) × (length bits ≡ most) × ((panel % 4 ≡ 0 → ⊥) → FoldedSet n width m a (panel / 4 * 4) cells) × (length stacks ≡ 23040) × (length lines ≡ length lines₀) × (asked ≡ true → (i c : ℕ) → i < m → c < n → c < panel * 16 → Added width (n * width) a (byteAt xs) lines₀ lines i c) × ((i k : ℕ) → k < chunk → panel * 2 ≤ k → cellAt lines i k ≡ cellAt lines₀ i k) × (asked ≡ false → lines ≡ lines₀)
 
 abbrev μ-loop : tie.MeasureT-loop
-μ-loop quad₀ mid₀ lines₀ a n width m tau words count table xs asked cells₀ sums₀ vectors bits stacks₀ panel₀ quad mid lines cells sums stacks panel = n + 16 - panel * 16
+μ-loop quad₀ mid₀ lines₀ a n width m tau words groups table xs asked cells₀ sums₀ vectors bits stacks₀ panel₀ quad mid lines cells sums stacks panel = n + 16 - panel * 16
 
 slice-aggregate-fill-vectors : tie.Need-slice-aggregate-fill-vectors Inv-loop μ-loop
 slice-aggregate-fill-vectors c = search needs

@@ -97,7 +97,7 @@ returns c =
     let front : length r ≡ k = c .before .before .before .before .before .before .before .before .before .before .before .before .before .before .before .before .before .clear .kept .0 ∙ length-take-le k (now (a .stacks)) (pre .13) in
     let empty = cleared r (drop k (now (a .stacks))) k front (λ b h. c .before .before .before .before .before .before .before .before .before .before .before .before .before .before .before .before .before .clear .ensures b (omega (arith, h, c .before .before .before .before .before .before .before .before .before .before .before .before .before .before .before .before .before .clear .kept .0))) in
     let gone : (e ρ : ℕ) → a .n ≤ ρ → laneAt T ρ e ≡ 0 = λ e ρ h. lane-past T (a .n) ρ e (pre .11) h in
-    let column : (A χ : List ℕ) (w e s : ℕ) → Folded (a .n) w (a .m) A J cells → ((k : ℕ) → byteAt χ k < 256) → ((r : ℕ) → r < a .tau * 8 → Chosen χ (a .m) (a .count) (now (a .words)) r) → e < a .tau → s < 16 → J * 16 + s < a .n
+    let column : (A χ : List ℕ) (w e s : ℕ) → Folded (a .n) w (a .m) A J cells → ((k : ℕ) → byteAt χ k < 256) → ((r : ℕ) → r < a .tau * 8 → Chosen χ (a .m) (now (a .words)) r) → e < a .tau → s < 16 → J * 16 + s < a .n
     → foldOf (collected .last .0) e (s / 8) (s % 8) ≡ leftSum w (a .n * w) (a .m) A χ e (λ ρ. laneAt T ρ e) J (J * 16 + s) =
     λ A χ w e s folded small chosen he hs col.
     fold-is (a .n) w (a .m) A χ cells e J folded (λ ρ. laneAt T ρ e) (gone e) (collected .last .0) s hs col

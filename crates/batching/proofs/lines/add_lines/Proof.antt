@@ -22,9 +22,6 @@ use Rattle.batching.proofs.lines.add_lines.Tie as tie
 mul-fill-sums : tie.Need-mul-fill-sums
 mul-fill-sums c = search needs
 
-mul-fill-sums-2 : tie.Need-mul-fill-sums-2
-mul-fill-sums-2 c = search needs
-
 slice-aggregate-fill-sums : tie.Need-slice-aggregate-fill-sums
 slice-aggregate-fill-sums c =
     let start = c .before .before .before .before .before .before .before in
@@ -51,11 +48,11 @@ returns c =
     let filled = c .before .before .before .before .before .before .before .fill-sums in
     let done = c .before .before .add-products in
     let S = take (a .m * chunk) (now (a .lines)) in
-    let tabled : Tabled S (filled .last .0) (a .count * 8 * 32) = filled .ensures in
+    let tabled : Tabled S (filled .last .0) (a .groups * 32) = filled .ensures in
     let long : length S ≡ a .m * chunk = length-take-le (a .m * chunk) (now (a .lines)) (pre .2) in
-    let enough : a .m ≤ a .count * 8 * 5 = omega (arith, pre .6) in
+    let few : a .groups ≤ 32 = pre .6 .0 .0 in
     λ χ e small chosen he.
-    done .ensures S (λ q. byteAt (blockAt χ (a .m) q)) (a .m) e (weighed-rows S (filled .last .0) (now (a .words)) χ (a .m) (a .count) (a .tau) tabled long enough small chosen) he
+    done .ensures S (λ q. byteAt (blockAt χ (a .m) q)) (a .m) e (weighed-rows S (filled .last .0) (now (a .words)) χ (a .m) (a .groups) (a .tau) tabled long (pre .6 .1) few small chosen) he
     ∙ ap (bitXor (byteAt (now (a .mid)) e)) (sum-same most _ _ (λ j l. ap (product (byteAt (now (a .vectors)) (e * most + j))) (line-sum (now (a .lines)) χ (a .m) e j (omega arith))))
 
 pub add-lines-spec : {M : Type 1} → statement M
@@ -63,7 +60,6 @@ add-lines-spec =
     tie.close
     (tie.spec
     mul-fill-sums
-    mul-fill-sums-2
     slice-aggregate-fill-sums
     fill-sums-requires
     add-products-requires

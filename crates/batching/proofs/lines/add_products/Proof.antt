@@ -25,22 +25,19 @@ abbrev term : List ℕ → (ℕ → ℕ → ℕ) → ℕ → List ℕ → ℕ �
 term S χ m vectors e = xorSum most (λ c. product (byteAt vectors (e * most + c)) (xorSum m (λ i. lineBit S i c * χ e i)))
 
 abbrev Inv-loop : tie.InvT-loop
-Inv-loop mid₀ tau words count sums vectors e₀ mid e = (e ≤ tau) × (length mid ≡ lanes) × ((S : List ℕ) (χ : ℕ → ℕ → ℕ) (m d : ℕ) → ((q : ℕ) → q < tau → Weighed S (χ q) m sums words count (q * 8)) → d < e → byteAt mid d ≡ bitXor (byteAt mid₀ d) (term S χ m vectors d)) × ((d : ℕ) → e ≤ d → byteAt mid d ≡ byteAt mid₀ d)
+Inv-loop mid₀ tau words groups sums vectors e₀ mid e = (e ≤ tau) × (length mid ≡ lanes) × ((S : List ℕ) (χ : ℕ → ℕ → ℕ) (m d : ℕ) → ((q : ℕ) → q < tau → Weighed S (χ q) m sums words groups (q * 8)) → d < e → byteAt mid d ≡ bitXor (byteAt mid₀ d) (term S χ m vectors d)) × ((d : ℕ) → e ≤ d → byteAt mid d ≡ byteAt mid₀ d)
 
 abbrev μ-loop : tie.MeasureT-loop
-μ-loop mid₀ tau words count sums vectors e₀ mid e = tau - e
+μ-loop mid₀ tau words groups sums vectors e₀ mid e = tau - e
 
 loop-holds : tie.Need-loop-holds Inv-loop μ-loop
 loop-holds c = (search needs, c .before .before .before .before .pre .0, (λ S χ m d w h. absurd (omega arith)), λ d h. refl)
 
 line-product-requires : tie.Need-line-product-requires Inv-loop μ-loop
 line-product-requires c κs =
-    let a = c .before .before .before .before .before .before .args in
     let pre = c .before .before .before .before .before .before .pre in
-    let e = c .before .loop .e in
     let lt = c .loop-test .taken in
-    let within : e * 8 + 8 ≤ a .tau * 8 = omega (arith, lt) in
-    (omega (arith, pre .2, mul-le-mul-right (a .count) within), omega (arith, pre .1, lt), pre .3, pre .4, omega (arith, pre .5, lt))
+    (omega (arith, pre .2, lt), omega (arith, pre .1, lt), pre .3, pre .4, omega (arith, pre .5, lt))
 
 slice-read-mid : tie.Need-slice-read-mid Inv-loop μ-loop
 slice-read-mid c = search needs

@@ -85,7 +85,7 @@ returns c =
     c .dot .ensures
     ∙ sum-same most _ _ (λ j l.
     ap₂ product (ap (λ (s : List ℕ). byteAt s j) (row .ensures .0) ∙ row-byte (now (a .vectors)) most (a .e) j l)
-    (element-is S χ m (now (a .sums)) (now (a .words)) (a .count) (a .e * 8) planes (byteAt elements j) j weighed (second .ensures .1 .1 j) (omega arith) (looked .ensures)
+    (element-is S χ m (now (a .sums)) (now (a .words)) (a .groups) (a .e * 8) planes (byteAt elements j) j weighed (second .ensures .1 .1 j) (omega arith) (looked .ensures)
     (λ p hp. both-turned planes (first .last .0) elements (first .ensures .0) (second .ensures .0) (second .ensures .1 .0) j p (omega arith) hp)))
 
 pub line-product-spec : {M : Type 1} → statement M

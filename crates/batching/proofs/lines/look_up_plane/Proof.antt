@@ -9,7 +9,6 @@ use denote.Ref.{now}
 use lib.ListN.{length, take, drop, length-take, length-drop}
 use Rattle.strings.proofs.Rows.{put-in, put-other}
 use Rattle.chunks.specs.Chunks.{chunk}
-use Rattle.batching.proofs.LineLaws.{looked-row}
 use Rattle.batching.proofs.lines.look_up_plane.Statement.{statement}
 use Rattle.batching.proofs.lines.look_up_plane.Tie as tie
 
@@ -28,9 +27,6 @@ part-look-up-start c = search needs
 part-look-up-end : tie.Need-part-look-up-end
 part-look-up-end c = search needs
 
-row-at-requires : tie.Need-row-at-requires
-row-at-requires c κs = search needs
-
 look-up-requires : tie.Need-look-up-requires
 look-up-requires c κs = search needs
 
@@ -39,17 +35,16 @@ same-length c = search needs
 
 returns : tie.Need-returns
 returns c =
-    let a = c .before .before .before .before .before .before .before .before .args in
+    let a = c .before .before .before .before .before .before .before .args in
     let l = now (a .planes) in
     let at = a .p * chunk in
     let done = c .before .before .look-up in
-    let row = c .before .before .before .row-at in
     let r = done .last .0 in
     let e : at + chunk - at ≡ chunk = add-sub-cancel-left at chunk in
     let fits : at + chunk ≤ length l = omega arith in
     let long : length (take chunk (drop at l)) ≡ chunk = simp (length-take, length-drop) (omega arith) in
     let kept : length r ≡ chunk = rw e at (done .kept .0) ∙ long in
-    rw e ((λ f h. put-in at chunk l r fits kept f h ∙ done .ensures f h ∙ looked-row (now (a .words)) _ (now (a .sums)) (a .count) (a .r) f (row .ensures .0) (row .ensures .1)), put-other (a .p) chunk l r fits kept)
+    rw e ((λ f h. put-in at chunk l r fits kept f h ∙ done .ensures f h), put-other (a .p) chunk l r fits kept)
 
 pub look-up-plane-spec : {M : Type 1} → statement M
 look-up-plane-spec =
@@ -60,7 +55,6 @@ look-up-plane-spec =
     sub-look-up
     part-look-up-start
     part-look-up-end
-    row-at-requires
     look-up-requires
     same-length
     returns)

@@ -10,19 +10,19 @@ use lib.ListN.{length}
 use Rattle.strings.specs.Sums.{byteAt, xorSum}
 use Rattle.strings.proofs.Rows.{RowsAre, rows-more, row-end}
 use Rattle.chunks.specs.Chunks.{chunk}
-use Rattle.choices.specs.Entries.{eightByte}
+use Rattle.choices.specs.Entries.{lookedUp}
 use Rattle.batching.proofs.lines.look_up_planes.Statement.{statement}
 use Rattle.batching.proofs.lines.look_up_planes.Tie as tie
 
 -- byte f of what the words of plane p choose
 abbrev looked : List ℕ → List ℕ → ℕ → ℕ → ℕ → ℕ → ℕ
-looked words sums base count p f = xorSum count (λ k. eightByte sums k (byteAt words ((base + p) * count + k)) f)
+looked words sums base groups p f = lookedUp sums words (base + p) groups f
 
 abbrev Inv-loop : tie.InvT-loop
-Inv-loop planes₀ words base count sums p₀ planes p = (p ≤ 8) × (length planes ≡ length planes₀) × RowsAre (looked words sums base count) planes p chunk
+Inv-loop planes₀ words base groups sums p₀ planes p = (p ≤ 8) × (length planes ≡ length planes₀) × RowsAre (looked words sums base groups) planes p chunk
 
 abbrev μ-loop : tie.MeasureT-loop
-μ-loop planes₀ words base count sums p₀ planes p = 8 - p
+μ-loop planes₀ words base groups sums p₀ planes p = 8 - p
 
 loop-holds : tie.Need-loop-holds Inv-loop μ-loop
 loop-holds c = (search needs, refl, λ i f hi. absurd (omega arith))
@@ -31,11 +31,7 @@ add-look-up-plane : tie.Need-add-look-up-plane Inv-loop μ-loop
 add-look-up-plane c = search needs
 
 look-up-plane-requires : tie.Need-look-up-plane-requires Inv-loop μ-loop
-look-up-plane-requires c κs =
-    let a = c .before .before .before .before .before .before .args in
-    let l = c .before .before .loop in
-    let end = row-end (a .base + l .p) (a .base + 8) (a .count) (omega arith) in
-    search (needs, end)
+look-up-plane-requires c κs = search needs
 
 add-p : tie.Need-add-p Inv-loop μ-loop
 add-p c = search needs
@@ -50,7 +46,7 @@ loop-again c =
     let done = c .before .before .look-up-plane in (
       omega arith,
       done .kept .0 ∙ l .inv .1,
-      rows-more (looked (now (a .words)) (now (a .sums)) (a .base) (a .count)) (l .planes) (done .last .0) (l .p) chunk (l .inv .2) (done .ensures .0) (done .ensures .1),
+      rows-more (looked (now (a .words)) (now (a .sums)) (a .base) (a .groups)) (l .planes) (done .last .0) (l .p) chunk (l .inv .2) (done .ensures .0) (done .ensures .1),
     )
 
 same-length : tie.Need-same-length Inv-loop μ-loop

@@ -9,13 +9,11 @@ use denote.Ref.{now}
 use lib.ListN.{length}
 use lib.Bits.{bitXor, xor-zero-r}
 use Rattle.strings.specs.Sums.{byteAt, bitOf, xorSum}
-use Rattle.protocol.specs.Lists.{blockAt}
 use Rattle.strings.proofs.XorLaws.{xor-assoc}
-use Rattle.strings.proofs.Rows.{row-end, row-byte}
 use Rattle.strings.proofs.SumLaws.{sum-same, sum-step}
 use Rattle.strings.proofs.Meaning.{bitOf-lt, bitOf-sum, bit-times}
 use Rattle.chunks.specs.Chunks.{chunk, cellAt, Masks}
-use Rattle.choices.specs.Entries.{eightByte, Weighed}
+use Rattle.choices.specs.Entries.{lookedUp, Weighed}
 use Rattle.choices.proofs.ChoiceLaws.{chosen-sum}
 use Rattle.columns.specs.Stacks.{alpha, product, planes, stackAt}
 use Rattle.batching.proofs.StackLaws.{planes-added}
@@ -32,15 +30,6 @@ all-terms S v χ m f z small =
     (λ p l. ap (λ x. x * product (alpha p) (byteAt v f)) (bitOf-sum m (λ i. bitOf (χ i) p * cellAt S i f) z ∙ sum-same m _ _ (λ i k. bit-times (bitOf (χ i) p) (cellAt S i f) z (bitOf-lt (χ i) p))))
     ∙ planes-added m (byteAt v f) χ (λ i. bitOf (cellAt S i f) z) small (λ i. bitOf-lt (cellAt S i f) z)
 
--- what a row of words looks up, where it is row r of them all
-looked-sum : (S sums words row : List ℕ) (χ : ℕ → ℕ) (m n count base p r f : ℕ) → Weighed S χ m sums words count base → p < 8 → f < chunk → r ≡ base + p → row ≡ blockAt words count r → n ≡ count
-    → xorSum n (λ k. eightByte sums k (byteAt row k) f) ≡ xorSum m (λ i. bitOf (χ i) p * cellAt S i f)
-looked-sum S sums words row χ m n count base p r f weighed hp h at is long =
-    ap (λ l. xorSum l (λ k. eightByte sums k (byteAt row k) f)) long
-    ∙ sum-same count _ (λ k. eightByte sums k (byteAt words ((base + p) * count + k)) f)
-    (λ k l. ap (λ w. eightByte sums k w f) (ap (λ s. byteAt s k) is ∙ row-byte words count r k l ∙ ap (λ j. byteAt words (j * count + k)) at))
-    ∙ chosen-sum S χ m sums words count base p f weighed hp h
-
 -- two more terms
 step-two : (a s k : ℕ) (f : ℕ → ℕ) → s ≡ bitXor a (xorSum (2 * k) f) → bitXor s (bitXor (f (2 * k)) (f (2 * k + 1))) ≡ bitXor a (xorSum (2 * (k + 1)) f)
 step-two a s k f h =
@@ -48,10 +37,10 @@ step-two a s k f h =
     sym (xor-assoc s (f (2 * k)) (f (2 * k + 1))) ∙ ap (λ x. bitXor x (f (2 * k + 1))) (sum-step a s (2 * k) f h) ∙ sum-step a _ (2 * k + 1) f refl ∙ ap (λ n. bitXor a (xorSum n f)) e
 
 abbrev Inv-loop : tie.InvT-loop
-Inv-loop t₀ words base count sums masks k₀ t k = (k ≤ 4) × (length t ≡ planes * chunk) × ((S v : List ℕ) (χ : ℕ → ℕ) (m f z : ℕ) → Weighed S χ m sums words count base → Masks v masks → byteAt v f < 256 → f < chunk → stackAt t f z ≡ bitXor (stackAt t₀ f z) (xorSum (2 * k) (term S v χ m f z)))
+Inv-loop t₀ words base groups sums masks k₀ t k = (k ≤ 4) × (length t ≡ planes * chunk) × ((S v : List ℕ) (χ : ℕ → ℕ) (m f z : ℕ) → Weighed S χ m sums words groups base → Masks v masks → byteAt v f < 256 → f < chunk → stackAt t f z ≡ bitXor (stackAt t₀ f z) (xorSum (2 * k) (term S v χ m f z)))
 
 abbrev μ-loop : tie.MeasureT-loop
-μ-loop t₀ words base count sums masks k₀ t k = 4 - k
+μ-loop t₀ words base groups sums masks k₀ t k = 4 - k
 
 loop-holds : tie.Need-loop-holds Inv-loop μ-loop
 unfolding xorSum
@@ -61,38 +50,14 @@ loop-holds c =
 slice-aggregate-look-up-two : tie.Need-slice-aggregate-look-up-two Inv-loop μ-loop
 slice-aggregate-look-up-two c = search needs
 
-mul-row-at : tie.Need-mul-row-at Inv-loop μ-loop
-mul-row-at c = search needs
+mul-look-up-two : tie.Need-mul-look-up-two Inv-loop μ-loop
+mul-look-up-two c = search needs
 
-add-row-at : tie.Need-add-row-at Inv-loop μ-loop
-add-row-at c = search needs
-
-row-at-requires : tie.Need-row-at-requires Inv-loop μ-loop
-row-at-requires c κs =
-    let a = c .before .before .before .before .before .before .before .args in
-    let k = c .before .before .loop .k in
-    omega (arith, row-end (a .base + 2 * k) (a .base + 8) (a .count) (omega (arith, c .before .loop-test .taken)))
-
-mul-row-at-2 : tie.Need-mul-row-at-2 Inv-loop μ-loop
-mul-row-at-2 c = search needs
-
-add-row-at-2 : tie.Need-add-row-at-2 Inv-loop μ-loop
-add-row-at-2 c = search needs
-
-add-row-at-3 : tie.Need-add-row-at-3 Inv-loop μ-loop
-add-row-at-3 c = search needs
-
-row-at-requires-2 : tie.Need-row-at-requires-2 Inv-loop μ-loop
-row-at-requires-2 c κs =
-    let a = c .before .before .before .before .before .before .before .before .args in
-    let k = c .before .before .before .loop .k in
-    omega (arith, row-end (a .base + 2 * k + 1) (a .base + 8) (a .count) (omega (arith, c .before .before .loop-test .taken)))
+add-look-up-two : tie.Need-add-look-up-two Inv-loop μ-loop
+add-look-up-two c = search needs
 
 look-up-two-requires : tie.Need-look-up-two-requires Inv-loop μ-loop
-look-up-two-requires c κs =
-    let pre = c .before .before .before .before .before .before .before .before .before .pre in
-    let first = c .before .row-at in
-    (refl, c .row-at2 .ensures .1 ∙ sym (first .ensures .1), omega (arith, pre .2, first .ensures .1), rw (first .ensures .1) (pre .3))
+look-up-two-requires c κs = search needs
 
 mul-absorb-planes : tie.Need-mul-absorb-planes Inv-loop μ-loop
 mul-absorb-planes c = search needs
@@ -111,20 +76,20 @@ loop-less c = search needs
 
 loop-again : tie.Need-loop-again Inv-loop μ-loop
 loop-again c =
-    let a = c .before .before .before .before .before .before .before .before .before .before .before .before .before .before .before .before .args in
-    let l = c .before .before .before .before .before .before .before .before .before .before .before .loop in
-    let lt : l .k < 4 = omega (arith, c .before .before .before .before .before .before .before .before .before .before .loop-test .taken) in
-    let first = c .before .before .before .before .before .before .before .before .row-at in
-    let second = c .before .before .before .before .before .before .before .row-at2 in
-    let both = c .before .before .before .before .before .before .look-up-two .last .0 in
+    let a = c .before .before .before .before .before .before .before .before .before .before .before .before .before .before .args in
+    let l = c .before .before .before .before .before .before .before .before .before .loop in
+    let lt : l .k < 4 = omega (arith, c .before .before .before .before .before .before .before .before .loop-test .taken) in
+    let looked = c .before .before .before .before .before .before .look-up-two in
+    let both = looked .last .0 in
     let done = c .before .before .absorb-planes in
     let p : ℕ = 2 * l .k in
-    let one : (S : List ℕ) (χ : ℕ → ℕ) (m f : ℕ) → Weighed S χ m (now (a .sums)) (now (a .words)) (a .count) (a .base) → f < chunk → cellAt both 0 f ≡ xorSum m (λ i. bitOf (χ i) p * cellAt S i f) =
-    λ S χ m f weighed h.
-    c .before .before .before .before .before .before .look-up-two .ensures .0 f h ∙ looked-sum S (now (a .sums)) (now (a .words)) (now (first .result)) χ m _ (a .count) (a .base) p (a .base + p) f weighed (omega (arith, lt)) h refl (first .ensures .0) (first .ensures .1) in
-    let two : (S : List ℕ) (χ : ℕ → ℕ) (m f : ℕ) → Weighed S χ m (now (a .sums)) (now (a .words)) (a .count) (a .base) → f < chunk → cellAt both 1 f ≡ xorSum m (λ i. bitOf (χ i) (p + 1) * cellAt S i f) =
-    λ S χ m f weighed h.
-    c .before .before .before .before .before .before .look-up-two .ensures .1 f h ∙ looked-sum S (now (a .sums)) (now (a .words)) (now (second .result)) χ m _ (a .count) (a .base) (p + 1) (a .base + p + 1) f weighed (omega (arith, lt)) h (omega arith) (second .ensures .0) (first .ensures .1) in (
+    let next : a .base + p + 1 ≡ a .base + (p + 1) = omega arith in
+    let S′ = now (a .sums) in
+    let W = now (a .words) in
+    let one : (S : List ℕ) (χ : ℕ → ℕ) (m f : ℕ) → Weighed S χ m S′ W (a .groups) (a .base) → f < chunk → cellAt both 0 f ≡ xorSum m (λ i. bitOf (χ i) p * cellAt S i f) =
+    λ S χ m f weighed h. looked .ensures .0 f h ∙ chosen-sum S χ m S′ W (a .groups) (a .base) p f weighed (omega (arith, lt)) h in
+    let two : (S : List ℕ) (χ : ℕ → ℕ) (m f : ℕ) → Weighed S χ m S′ W (a .groups) (a .base) → f < chunk → cellAt both 1 f ≡ xorSum m (λ i. bitOf (χ i) (p + 1) * cellAt S i f) =
+    λ S χ m f weighed h. looked .ensures .1 f h ∙ ap (λ r. lookedUp S′ W r (a .groups) f) next ∙ chosen-sum S χ m S′ W (a .groups) (a .base) (p + 1) f weighed (omega (arith, lt)) h in (
       omega (arith, lt),
       done .kept .0 ∙ l .inv .1,
       (λ S v χ m f z weighed masks hv h.
@@ -151,13 +116,8 @@ absorb-spec =
     μ-loop
     loop-holds
     slice-aggregate-look-up-two
-    mul-row-at
-    add-row-at
-    row-at-requires
-    mul-row-at-2
-    add-row-at-2
-    add-row-at-3
-    row-at-requires-2
+    mul-look-up-two
+    add-look-up-two
     look-up-two-requires
     mul-absorb-planes
     slice-aggregate-absorb-planes

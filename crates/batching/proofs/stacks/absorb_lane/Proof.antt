@@ -66,7 +66,7 @@ slice-aggregate-absorb c = search needs
 absorb-requires : tie.Need-absorb-requires
 absorb-requires c κs =
     let pre = c .before .before .before .before .before .before .before .before .before .before .before .before .before .pre in
-    (search needs, search needs, pre .2, pre .3, search needs, search needs)
+    (search needs, search needs, pre .2, pre .3, search needs)
 
 same-length : tie.Need-same-length
 same-length c = search needs
@@ -87,7 +87,7 @@ returns c =
     let long : length (blockAt l (planes * chunk) (a .e)) ≡ planes * chunk = simp (length-take, length-drop) (omega arith) in
     let kept : length r ≡ planes * chunk = rw e at (done .kept .0) ∙ long in
     let filled = c .before .before .before .before .before .before .fill-masks in
-    let sums : ((S v : List ℕ) (χ : ℕ → ℕ) (m f z : ℕ) → Weighed S χ m (now (a .sums)) (now (a .words)) (a .count) (a .e * 8) → Masks v (filled .last .0) → byteAt v f < 256 → f < chunk → stackAt r f z ≡ bitXor (stackAt (blockAt l (planes * chunk) (a .e)) f z) (product (byteAt v f) (xorSum m (λ i. bitOf (cellAt S i f) z * χ i)))) =
+    let sums : ((S v : List ℕ) (χ : ℕ → ℕ) (m f z : ℕ) → Weighed S χ m (now (a .sums)) (now (a .words)) (a .groups) (a .e * 8) → Masks v (filled .last .0) → byteAt v f < 256 → f < chunk → stackAt r f z ≡ bitXor (stackAt (blockAt l (planes * chunk) (a .e)) f z) (product (byteAt v f) (xorSum m (λ i. bitOf (cellAt S i f) z * χ i)))) =
     rw e at (done .ensures) in
     rw e (
       (λ S χ m h f z weighed hh hf.

@@ -25,10 +25,10 @@ abbrev weight : List ℕ → (ℕ → ℕ → ℕ) → ℕ → ℕ → ℕ → �
 weight S χ m e f z = xorSum m (λ i. bitOf (cellAt S i f) z * χ e i)
 
 abbrev Inv-loop : tie.InvT-loop
-Inv-loop stacks₀ tau words count sums vectors first e₀ stacks e = (e ≤ tau) × (length stacks ≡ length stacks₀) × ((S : List ℕ) (χ : ℕ → ℕ → ℕ) (m q h f z : ℕ) → ((q : ℕ) → q < tau → Weighed S (χ q) m sums words count (q * 8)) → q < e → h < 2 → f < 16 → stackOf stacks q (h * 16 + f) z ≡ bitXor (stackOf stacks₀ q (h * 16 + f) z) (product (byteAt vectors (q * most + (first + f))) (weight S χ m q (h * 16 + f) z))) × ((q b : ℕ) → e ≤ q → b < planes * chunk → byteAt stacks (q * (planes * chunk) + b) ≡ byteAt stacks₀ (q * (planes * chunk) + b))
+Inv-loop stacks₀ tau words groups sums vectors first e₀ stacks e = (e ≤ tau) × (length stacks ≡ length stacks₀) × ((S : List ℕ) (χ : ℕ → ℕ → ℕ) (m q h f z : ℕ) → ((q : ℕ) → q < tau → Weighed S (χ q) m sums words groups (q * 8)) → q < e → h < 2 → f < 16 → stackOf stacks q (h * 16 + f) z ≡ bitXor (stackOf stacks₀ q (h * 16 + f) z) (product (byteAt vectors (q * most + (first + f))) (weight S χ m q (h * 16 + f) z))) × ((q b : ℕ) → e ≤ q → b < planes * chunk → byteAt stacks (q * (planes * chunk) + b) ≡ byteAt stacks₀ (q * (planes * chunk) + b))
 
 abbrev μ-loop : tie.MeasureT-loop
-μ-loop stacks₀ tau words count sums vectors first e₀ stacks e = tau - e
+μ-loop stacks₀ tau words groups sums vectors first e₀ stacks e = tau - e
 
 loop-holds : tie.Need-loop-holds Inv-loop μ-loop
 loop-holds c =
@@ -36,12 +36,10 @@ loop-holds c =
 
 absorb-lane-requires : tie.Need-absorb-lane-requires Inv-loop μ-loop
 absorb-lane-requires c κs =
-    let a = c .before .before .before .before .before .before .before .args in
     let pre = c .before .before .before .before .before .before .before .pre in
     let l = c .before .before .loop in
     let lt = c .before .loop-test .taken in
-    let within : l .e * 8 + 8 ≤ a .tau * 8 = omega arith in
-    (omega (arith, l .inv .1, pre .0, lt), omega (arith, pre .1, mul-le-mul-right (a .count) within), pre .2, pre .3, omega (arith, pre .4, lt), pre .5, omega (arith, pre .6, lt))
+    (omega (arith, l .inv .1, pre .0, lt), omega (arith, pre .1, lt), pre .2, pre .3, omega (arith, pre .4, lt), pre .5, omega (arith, pre .6, lt))
 
 add-e : tie.Need-add-e Inv-loop μ-loop
 add-e c = search needs

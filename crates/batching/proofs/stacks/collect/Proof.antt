@@ -55,18 +55,15 @@ sum-is cells χ m e q f z h =
     ap₂ (λ x y. bitOf x z * y) (row-byte cells (m * chunk) q (i * chunk + f) inside ∙ ap (byteAt cells) (place q m i f)) (row-byte χ m e i l))
 
 abbrev Inv-loop : tie.InvT-loop
-Inv-loop stacks₀ sums₀ cells panel m tau words count vectors q₀ stacks sums q = (q ≤ panel + 1) × (length stacks ≡ length stacks₀) × (length sums ≡ 32768) × ((χ : List ℕ) (e h f z : ℕ) → ((k : ℕ) → byteAt χ k < 256) → ((r : ℕ) → r < tau * 8 → Chosen χ m count words r) → e < tau → h < 2 → f < 16 → stackOf stacks e (h * 16 + f) z ≡ bitXor (stackOf stacks₀ e (h * 16 + f) z) (xorSum q (term cells m χ vectors e h f z)))
+Inv-loop stacks₀ sums₀ cells panel m tau words groups vectors q₀ stacks sums q = (q ≤ panel + 1) × (length stacks ≡ length stacks₀) × (length sums ≡ 32768) × ((χ : List ℕ) (e h f z : ℕ) → ((k : ℕ) → byteAt χ k < 256) → ((r : ℕ) → r < tau * 8 → Chosen χ m words r) → e < tau → h < 2 → f < 16 → stackOf stacks e (h * 16 + f) z ≡ bitXor (stackOf stacks₀ e (h * 16 + f) z) (xorSum q (term cells m χ vectors e h f z)))
 
 abbrev μ-loop : tie.MeasureT-loop
-μ-loop stacks₀ sums₀ cells panel m tau words count vectors q₀ stacks sums q = panel + 1 - q
+μ-loop stacks₀ sums₀ cells panel m tau words groups vectors q₀ stacks sums q = panel + 1 - q
 
 loop-holds : tie.Need-loop-holds Inv-loop μ-loop
 unfolding xorSum
 loop-holds c =
     (search needs, refl, c .before .before .before .before .before .pre .1, λ χ e h f z s k l i j. sym (xor-zero-r _))
-
-mul-fill-sums : tie.Need-mul-fill-sums Inv-loop μ-loop
-mul-fill-sums c = search needs
 
 mul-row-at : tie.Need-mul-row-at Inv-loop μ-loop
 mul-row-at c = search needs
@@ -101,8 +98,8 @@ absorb-lanes-requires c κs =
     let settled = c .before .before .before .before .add-first in (
       omega (arith, pre .0, settled .kept .0, l .inv .1),
       pre .9,
-      omega (arith, pre .8, pre .5),
-      omega (arith, pre .8, pre .5, filled .kept .0, l .inv .2),
+      pre .8 .0,
+      omega (arith, filled .kept .0, l .inv .2),
       pre .10,
       omega (arith, pre .3, c .before .before .before .before .before .before .before .before .before .before .before .before .loop-test .taken),
       pre .7,
@@ -128,13 +125,13 @@ loop-again c =
     let done = c .before .before .absorb-lanes in
     let cells = now (a .cells) in
     let S = blockAt cells (a .m * chunk) (l .q) in
-    let tabled : Tabled S (filled .last .0) (a .count * 8 * 32) = rw (sym (row .ensures .0)) (filled .ensures) in
+    let tabled : Tabled S (filled .last .0) (a .groups * 32) = rw (sym (row .ensures .0)) (filled .ensures) in
     let long : length S ≡ a .m * chunk = ap length (sym (row .ensures .0)) ∙ row .ensures .1 in
-    let enough : a .m ≤ a .count * 8 * 5 = omega (arith, pre .8) in
-    let some : 0 < a .count * 8 * 32 = omega (arith, pre .8, pre .4) in
-    let same = unchanged S (filled .last .0) (l .stacks) (settled .last .0) (a .count * 8 * 32) some tabled (settled .ensures .0) (settled .ensures .1) in
-    let all : (χ : List ℕ) → ((k : ℕ) → byteAt χ k < 256) → ((r : ℕ) → r < a .tau * 8 → Chosen χ (a .m) (a .count) (now (a .words)) r) → (q : ℕ) → q < a .tau → Weighed S (byteAt (blockAt χ (a .m) q)) (a .m) (filled .last .0) (now (a .words)) (a .count) (q * 8) =
-    λ χ. weighed-rows S (filled .last .0) (now (a .words)) χ (a .m) (a .count) (a .tau) tabled long enough in (
+    let few : a .groups ≤ 32 = pre .8 .0 .0 in
+    let some : 0 < a .groups * 32 = omega (arith, pre .8 .1, pre .4) in
+    let same = unchanged S (filled .last .0) (l .stacks) (settled .last .0) (a .groups * 32) some tabled (settled .ensures .0) (settled .ensures .1) in
+    let all : (χ : List ℕ) → ((k : ℕ) → byteAt χ k < 256) → ((r : ℕ) → r < a .tau * 8 → Chosen χ (a .m) (now (a .words)) r) → (q : ℕ) → q < a .tau → Weighed S (byteAt (blockAt χ (a .m) q)) (a .m) (filled .last .0) (now (a .words)) (a .groups) (q * 8) =
+    λ χ. weighed-rows S (filled .last .0) (now (a .words)) χ (a .m) (a .groups) (a .tau) tabled long (pre .8 .1) few in (
       omega (arith, c .before .before .before .before .before .before .before .before .before .before .before .before .before .before .before .loop-test .taken),
       done .kept .0 ∙ settled .kept .0 ∙ l .inv .1,
       filled .kept .0 ∙ l .inv .2,
@@ -167,7 +164,6 @@ collect-spec =
     Inv-loop
     μ-loop
     loop-holds
-    mul-fill-sums
     mul-row-at
     row-at-requires
     fill-sums-requires

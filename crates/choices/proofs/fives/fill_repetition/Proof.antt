@@ -77,7 +77,6 @@ returns : tie.Need-returns
 returns c =
     let start = c .before .before .before .before .before .before .before .before .before .before .before .before .before .before .before .before .before .before .before .before .before .before in
     let a = start .args in
-    let few : a .count ≤ 4 = omega (arith, start .pre .0, start .pre .1) in
     let chi = now (a .chi) in
     let copy = c .before .before .before .before .before .before .before .before .before .before .before .before .before .before .before .before .before .before .copy-front in
     let first = c .before .before .before .before .before .before .before .before .before .before .before .before .before .before .fill-rows in
@@ -90,17 +89,17 @@ returns c =
     rows-more (λ h i. byteAt bytes (h * 80 + i % 16 * 5 + i / 16)) (first .last .0) rows 1 128
     (rows-more (λ h i. byteAt bytes (h * 80 + i % 16 * 5 + i / 16)) (replicate 256 0) (first .last .0) 0 128 (λ q i h. absurd (omega arith)) (first .ensures .0) (first .ensures .1))
     (second .ensures .0) (second .ensures .1) in (
-      (λ p hp k j hk hj.
-          let g : ℕ = k * 8 + j in
-          let hg : g < 32 = omega (arith, few, hk, hj) in
+      (λ p hp g hg.
+          let at : ℕ = p * 32 + g / 10 * 10 in
+          let own : at + g % 10 ≡ p * 32 + g = omega arith in
           let q : (a .e * 8 + p) / 8 ≡ a .e = omega arith in
           let r : (a .e * 8 + p) % 8 ≡ p = omega arith in
-          let small : (i : ℕ) → i < 8 → byteAt (picks .last .0) (p * 32 + k * 8 + i) < 32 =
-          λ i hi. rw (add-assoc (p * 32) (k * 8) i, picks .ensures p (k * 8 + i) hp (omega (arith, few, hk, hi))) (choice-lt (inRows rows) p (k * 8 + i)) in
+          let small : (i : ℕ) → i ≤ g % 10 → byteAt (picks .last .0) (at + i) < 32 =
+          λ i hi. rw (add-assoc (p * 32) (g / 10 * 10) i, picks .ensures p (g / 10 * 10 + i) hp (omega (arith, hg, hi))) (choice-lt (inRows rows) p (g / 10 * 10 + i)) in
           rw (q, r)
-          (ap (λ (w : ℕ). five w j) (put .ensures .0 p k hp hk)
-          ∙ word-five (picks .last .0) (p * 32 + k * 8) small j hj
-          ∙ ap (byteAt (picks .last .0)) (add-assoc (p * 32) (k * 8) j)
+          (ap (λ (w : ℕ). five w (g % 10)) (put .ensures .0 p (g / 10) hp (omega arith))
+          ∙ word-five (picks .last .0) at (g % 10) (omega arith) small
+          ∙ ap (byteAt (picks .last .0)) own
           ∙ picks .ensures p g hp hg
           ∙ choice-same (inRows rows) (byteAt (blockAt chi (a .m) (a .e))) p g (λ i hi. rows-held bytes rows held i (omega (arith, hg, hi)) ∙ padded bytes chi (a .m) (a .e) (copy .ensures .0) (copy .ensures .1) i (omega (arith, hg, hi))))),
       put .ensures .1,

@@ -3,7 +3,6 @@
 use borrow.Author.Needs.{needs}
 use Prim.Native.Nat.{ℕ, _+_, _*_, _-_, _≤_, _<_}
 use mathlib.Core.Path.{_≡_, refl, _∙_}
-use native.Mathlib.Nat.{mul-le-mul}
 use native.Mathlib.Omega.{arith}
 use denote.Ref.{now}
 use lib.ListN.{length}
@@ -14,10 +13,10 @@ use Rattle.choices.proofs.fives.fill_words.Statement.{statement}
 use Rattle.choices.proofs.fives.fill_words.Tie as tie
 
 abbrev Inv-loop : tie.InvT-loop
-Inv-loop words₀ chi m count tau e₀ words e = (e ≤ tau) × (length words ≡ length words₀) × ((q : ℕ) → q < e * 8 → Chosen chi m count words q)
+Inv-loop words₀ chi m tau e₀ words e = (e ≤ tau) × (length words ≡ length words₀) × ((q : ℕ) → q < e * 8 → Chosen chi m words q)
 
 abbrev μ-loop : tie.MeasureT-loop
-μ-loop words₀ chi m count tau e₀ words e = tau - e
+μ-loop words₀ chi m tau e₀ words e = tau - e
 
 loop-holds : tie.Need-loop-holds Inv-loop μ-loop
 loop-holds c = (search needs, refl, λ q h. absurd (omega arith))
@@ -27,9 +26,7 @@ fill-repetition-requires c κs =
     let start = c .before .before .before .before .before in
     let a = start .args in
     let l = c .before .before .loop in
-    let eight : l .e * 8 + 8 ≤ a .tau * 8 = omega arith in
-    let whole : a .count ≤ a .count = omega arith in
-    (start .pre .0, start .pre .1, omega (arith, l .inv .1, mul-le-mul eight whole), omega (arith, row-end (l .e) (a .tau) (a .m) (omega arith)), omega arith)
+    (start .pre .0, omega (arith, l .inv .1), omega (arith, row-end (l .e) (a .tau) (a .m) (omega arith)))
 
 add-e : tie.Need-add-e Inv-loop μ-loop
 add-e c = search needs
@@ -42,7 +39,7 @@ loop-again c =
     let a = c .before .before .before .before .before .before .before .before .args in
     let l = c .before .before .before .before .before .loop in
     let done = c .before .before .fill-repetition in
-    (omega arith, done .kept .0 ∙ l .inv .1, chosen-next (now (a .chi)) (l .words) (done .last .0) (a .m) (a .count) (l .e) (done .ensures .0) (done .ensures .1) (l .inv .2))
+    (omega arith, done .kept .0 ∙ l .inv .1, chosen-next (now (a .chi)) (l .words) (done .last .0) (a .m) (l .e) (done .ensures .0) (done .ensures .1) (l .inv .2))
 
 same-length : tie.Need-same-length Inv-loop μ-loop
 same-length c = search needs

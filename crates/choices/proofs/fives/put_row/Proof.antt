@@ -44,16 +44,15 @@ returns : tie.Need-returns
 returns c =
     let a = c .before .before .before .before .before .before .args in
     let l = now (a .words) in
-    let w = a .count in
-    let at = a .r * w in
+    let at = a .r * 4 in
     let done = c .before .before .put in
     let r = done .last .0 in
-    let e : at + w - at ≡ w = add-sub-cancel-left at w in
-    let fits : at + w ≤ length l = omega arith in
-    let long : length (take w (drop at l)) ≡ w = simp (length-take, length-drop) (omega arith) in
-    let kept : length r ≡ w = rw e at (done .kept .0) ∙ long in
-    let filled : (k : ℕ) → k < length (take w (drop at l)) → byteAt r k ≡ wordOf (now (a .picks)) (a .p * 32 + k * 8) = rw e at (done .ensures) in
-    rw e ((λ g h. put-in at w l r fits kept g h ∙ filled g (omega (arith, long))), put-other (a .r) w l r fits kept)
+    let e : at + 4 - at ≡ 4 = add-sub-cancel-left at 4 in
+    let fits : at + 4 ≤ length l = omega arith in
+    let long : length (take 4 (drop at l)) ≡ 4 = simp (length-take, length-drop) (omega arith) in
+    let kept : length r ≡ 4 = rw e at (done .kept .0) ∙ long in
+    let filled : (k : ℕ) → k < 4 → byteAt r k ≡ wordOf (now (a .picks)) (a .p * 32 + k * 10) = done .ensures in
+    rw e ((λ g h. put-in at 4 l r fits kept g h ∙ filled g h), put-other (a .r) 4 l r fits kept)
 
 pub put-row-spec : {M : Type 1} → statement M
 put-row-spec =

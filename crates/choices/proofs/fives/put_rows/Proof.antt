@@ -10,17 +10,16 @@ use native.Mathlib.Omega.{arith}
 use lib.ListN.{length}
 use Rattle.strings.specs.Sums.{byteAt}
 use Rattle.choices.specs.Entries.{wordOf}
-use Rattle.strings.proofs.Rows.{row-end}
 use Rattle.choices.proofs.fives.put_rows.Statement.{statement}
 use Rattle.choices.proofs.fives.put_rows.Tie as tie
 
 abbrev Inv-loop : tie.InvT-loop
-Inv-loop words₀ e picks count p₀ words p =
-    (p ≤ 8) × (length words ≡ length words₀) × ((q k : ℕ) → q < p → k < count → byteAt words ((e * 8 + q) * count + k) ≡ wordOf picks (q * 32 + k * 8))
-    × ((q k : ℕ) → q < e * 8 → k < count → byteAt words (q * count + k) ≡ byteAt words₀ (q * count + k))
+Inv-loop words₀ e picks p₀ words p =
+    (p ≤ 8) × (length words ≡ length words₀) × ((q k : ℕ) → q < p → k < 4 → byteAt words ((e * 8 + q) * 4 + k) ≡ wordOf picks (q * 32 + k * 10))
+    × ((q k : ℕ) → q < e * 8 → k < 4 → byteAt words (q * 4 + k) ≡ byteAt words₀ (q * 4 + k))
 
 abbrev μ-loop : tie.MeasureT-loop
-μ-loop words₀ e picks count p₀ words p = 8 - p
+μ-loop words₀ e picks p₀ words p = 8 - p
 
 loop-holds : tie.Need-loop-holds Inv-loop μ-loop
 loop-holds c = (search needs, refl, (λ q g h. absurd (omega arith)), λ q g h k. refl)
@@ -32,10 +31,7 @@ add-put-row : tie.Need-add-put-row Inv-loop μ-loop
 add-put-row c = search needs
 
 put-row-requires : tie.Need-put-row-requires Inv-loop μ-loop
-put-row-requires c κs =
-    let a = c .before .before .before .before .before .args in
-    let l = c .before .before .loop in
-    (omega arith, omega (arith, l .inv .1, row-end (a .e * 8 + l .p) (a .e * 8 + 8) (a .count) (omega arith)), omega arith, omega arith)
+put-row-requires c κs = search needs
 
 add-p : tie.Need-add-p Inv-loop μ-loop
 add-p c = search needs

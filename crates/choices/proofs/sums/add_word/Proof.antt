@@ -17,13 +17,13 @@ use Rattle.choices.proofs.sums.add_word.Tie as tie
 
 -- byte f of the entry that five j of w chooses
 abbrev entry : List ℕ → ℕ → ℕ → ℕ → ℕ → ℕ
-entry sums k w f j = cellAt sums ((k * 8 + j) * 32 + five w j) f
+entry sums k w f j = cellAt sums ((k * 10 + j) * 32 + five w j) f
 
 abbrev Inv-loop : tie.InvT-loop
-Inv-loop sum₀ w sums k j₀ sum j = (j ≤ 8) × (length sum ≡ chunk) × ((f : ℕ) → f < chunk → byteAt sum f ≡ bitXor (byteAt sum₀ f) (xorSum j (entry sums k w f)))
+Inv-loop sum₀ w n sums k j₀ sum j = (j ≤ n) × (length sum ≡ chunk) × ((f : ℕ) → f < chunk → byteAt sum f ≡ bitXor (byteAt sum₀ f) (xorSum j (entry sums k w f)))
 
 abbrev μ-loop : tie.MeasureT-loop
-μ-loop sum₀ w sums k j₀ sum j = 8 - j
+μ-loop sum₀ w n sums k j₀ sum j = n - j
 
 loop-holds : tie.Need-loop-holds Inv-loop μ-loop
 unfolding xorSum
@@ -42,7 +42,7 @@ add-at-requires : tie.Need-add-at-requires Inv-loop μ-loop
 add-at-requires c κs =
     let pre = c .before .before .before .before .before .pre in
     let l = c .before .before .before .loop in
-    (omega (arith, c .place-of .ensures .0, c .place-of .ensures .1, pre .2, c .before .before .loop-test .taken), l .inv .1)
+    (omega (arith, c .place-of .ensures .0, c .place-of .ensures .1, pre .3, c .before .before .loop-test .taken), l .inv .1)
 
 add-j : tie.Need-add-j Inv-loop μ-loop
 add-j c = search needs
@@ -64,7 +64,7 @@ loop-again c =
 returns : tie.Need-returns Inv-loop μ-loop
 returns c =
     let l = c .before .loop in
-    let end : l .j ≡ 8 = omega arith in
+    let end : l .j ≡ c .before .before .before .args .n = omega arith in
     (l .inv .1, rw end at (l .inv .2))
 
 pub add-word-spec : {M : Type 1} → statement M

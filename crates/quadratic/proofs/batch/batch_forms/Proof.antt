@@ -4,26 +4,18 @@
 use borrow.Author.Needs.{needs}
 use Prim.Native.Nat.{ℕ, _+_, _*_, _/_, _≤_, _<_}
 use mathlib.Core.Path.{refl, ap, ap₂, _∙_}
-use native.Mathlib.Nat.{mul-le-mul}
 use native.Mathlib.Omega.{arith}
 use denote.Ref.{now}
 use lib.Bits.{bitXor}
 use Rattle.protocol.specs.Strings.{bytesFor}
 use Rattle.strings.specs.Sums.{byteAt}
-use Rattle.lanes.specs.Lanes.{lanes}
 use Rattle.batching.specs.Lines.{leftOf}
 use Rattle.quadratic.proofs.BatchLaws.{line-bit, form-is, polar-is, lines-are, middle-is}
 use Rattle.quadratic.proofs.batch.batch_forms.Statement.{statement}
 use Rattle.quadratic.proofs.batch.batch_forms.Tie as tie
 
-words-fit : (tau m : ℕ) → tau ≤ lanes → m ≤ 160 → tau * 8 * ((m + 39) / 40) ≤ 1536
-words-fit tau m h k =
-    let t≤ : tau * 8 ≤ 384 = omega arith in
-    let c≤ : (m + 39) / 40 ≤ 4 = omega arith in
-    omega (arith, mul-le-mul t≤ c≤)
-
-add-count : tie.Need-add-count
-add-count c = search needs
+groups-for-requires : tie.Need-groups-for-requires
+groups-for-requires c κs = search needs
 
 add-width : tie.Need-add-width
 add-width c = search needs
@@ -32,15 +24,12 @@ slice-aggregate-fill-words : tie.Need-slice-aggregate-fill-words
 slice-aggregate-fill-words c = search needs
 
 fill-words-requires : tie.Need-fill-words-requires
-fill-words-requires c κs =
-    let pre = c .before .before .before .before .before .before .before .before .before .pre in
-    let a = c .before .before .before .before .before .before .before .before .before .args in
-    (refl, pre .3, words-fit (a .tau) (a .m) (pre .4) (pre .3), pre .7, omega (arith, pre .4))
+fill-words-requires c κs = search needs
 
 put-lines-requires : tie.Need-put-lines-requires
 unfolding bytesFor
 put-lines-requires c κs =
-    let pre = c .before .before .before .before .before .before .before .before .before .before .before .before .pre in
+    let pre = c .before .before .before .before .before .before .before .before .before .before .before .before .before .pre in
     (pre .15, pre .6, omega (arith, pre .2))
 
 slice-aggregate-add-forms : tie.Need-slice-aggregate-add-forms
@@ -49,10 +38,10 @@ slice-aggregate-add-forms c = search needs
 add-forms-requires : tie.Need-add-forms-requires
 unfolding bytesFor
 add-forms-requires c κs =
-    let pre = c .before .before .before .before .before .before .before .before .before .before .before .before .before .before .before .before .before .before .before .pre in
-    let a = c .before .before .before .before .before .before .before .before .before .before .before .before .before .before .before .before .before .before .before .args in
+    let pre = c .before .before .before .before .before .before .before .before .before .before .before .before .before .before .before .before .before .before .before .before .pre in
+    let groups = c .before .before .before .before .before .before .before .before .before .before .before .groups-for in
     let chosen = c .before .before .before .before .before .before .before .before .before .fill-words in
-    (pre .0, pre .1, pre .5, refl, pre .2, pre .12, pre .3, pre .13, pre .4, refl, omega (arith, chosen .kept .0, words-fit (a .tau) (a .m) (pre .4) (pre .3)), pre .8, pre .9, pre .10, pre .11, pre .14, omega (arith, pre .15, c .before .before .before .before .before .before .put-lines .kept .0))
+    (pre .0, pre .1, pre .5, refl, pre .2, pre .12, pre .3, pre .13, pre .4, groups .ensures, omega (arith, chosen .kept .0, pre .4), pre .8, pre .9, pre .10, pre .11, pre .14, omega (arith, pre .15, c .before .before .before .before .before .before .put-lines .kept .0))
 
 same-length : tie.Need-same-length
 same-length c = search needs
@@ -66,15 +55,15 @@ same-length-3 c = search needs
 returns : tie.Need-returns
 unfolding bytesFor
 returns c =
-    let pre = c .before .before .before .before .before .before .before .before .before .before .before .before .before .before .before .before .before .before .before .before .before .before .before .before .before .before .pre in
-    let a = c .before .before .before .before .before .before .before .before .before .before .before .before .before .before .before .before .before .before .before .before .before .before .before .before .before .before .args in
+    let pre = c .before .before .before .before .before .before .before .before .before .before .before .before .before .before .before .before .before .before .before .before .before .before .before .before .before .before .before .pre in
+    let a = c .before .before .before .before .before .before .before .before .before .before .before .before .before .before .before .before .before .before .before .before .before .before .before .before .before .before .before .args in
     let chosen = c .before .before .before .before .before .before .before .before .before .before .before .before .before .before .before .before .fill-words in
     let lines = c .before .before .before .before .before .before .before .before .before .before .before .before .before .put-lines in
     let formed = c .before .before .before .before .before .before .add-forms in
     let T = now (a .table) in
     let χ = now (a .chi) in
-    let small : (k : ℕ) → byteAt χ k < 256 = λ k. c .before .before .before .before .before .before .before .before .before .before .before .before .before .before .before .before .before .before .before .shared-slice-known4 .given k .fits in
-    let bytes : (k : ℕ) → byteAt T k < 256 = λ k. c .before .before .before .before .before .before .before .before .before .before .before .before .before .before .before .before .before .before .shared-slice-known5 .given k .fits in (
+    let small : (k : ℕ) → byteAt χ k < 256 = λ k. c .before .before .before .before .before .before .before .before .before .before .before .before .before .before .before .before .before .before .before .before .shared-slice-known4 .given k .fits in
+    let bytes : (k : ℕ) → byteAt T k < 256 = λ k. c .before .before .before .before .before .before .before .before .before .before .before .before .before .before .before .before .before .before .before .shared-slice-known5 .given k .fits in (
       (λ e h. formed .ensures .0 χ e small (chosen .ensures) h ∙ ap (bitXor (byteAt (now (a .quad)) e)) (form-is (a .n) (a .m) e (now (a .a)) T χ)),
       (
         (λ e h.
@@ -91,7 +80,7 @@ pub batch-forms-spec : {M : Type 1} → statement M
 batch-forms-spec =
     tie.close
     (tie.spec
-    add-count
+    groups-for-requires
     add-width
     slice-aggregate-fill-words
     fill-words-requires
