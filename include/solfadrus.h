@@ -20,7 +20,7 @@
  *
  * Every byte string is lent as a pointer and a length, and stays the caller's. The library
  * allocates nothing, keeps nothing between two calls, and has no global state: any number of
- * calls may run at the same time. A call takes less than 256 KiB of stack (measured, not proved).
+ * calls may run at the same time.
  *
  * Every call ends, whatever bytes it is lent, and answers one word:
  *
@@ -111,6 +111,9 @@
  *   Overlap    `out` overlaps no input. Inputs may overlap each other, and the same inputs may be
  *              lent to several calls at once.
  *   Stillness  Nobody else writes an input, or reads or writes `out`, until the call returns.
+ *   Stack      The calling thread has MQ_STACK_BYTES, which is 256 KiB, of stack left, whatever the
+ *              key's sizes. With less, a call can end the process. That a call takes less is
+ *              measured (tests/stack.c), and is not proved.
  *
  * What the proof is worth rests on these.
  *
@@ -167,6 +170,9 @@ extern "C" {
 #define MQ_MAX_EQUATIONS 160
 #define MQ_MAX_REPETITIONS 48
 #define MQ_MAX_HASH_ROWS 160
+
+/* The stack that a call must find left. */
+#define MQ_STACK_BYTES 262144
 
 /* The field K: its degree over GF(2), its size, and the modulus, bit s for X^s. */
 #define MQ_FIELD_DEGREE 8

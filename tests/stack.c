@@ -1,6 +1,6 @@
 /*
- * Tests what the header says of the stack: each call takes less than 256 KiB of it, at the largest sizes (a call
- * takes the same at all sizes, since its buffers are those of the largest). A control takes more, and must be seen.
+ * Tests what the header says of the stack: each call takes less than MQ_STACK_BYTES of it, at the largest sizes, the
+ * usual ones and the least (buffers are those of the largest at all sizes). A control takes more, and must be seen.
  */
 #define _XOPEN_SOURCE 700
 #include <stdio.h>
@@ -8,7 +8,11 @@
 #include "case.h"
 #include "depth.h"
 
-enum { LIMIT = 256 * 1024 };
+static const struct sizes shapes[] = {
+    { MQ_MAX_VARIABLES, MQ_MAX_EQUATIONS, MQ_MAX_REPETITIONS, MQ_MAX_HASH_ROWS },
+    { 150, 150, 19, 144 },
+    { 1, 1, 1, 1 },
+};
 
 static struct made made;
 static uint8_t *out;
@@ -26,7 +30,7 @@ static void nothing(void)
 /* As large a stack as is said, and a byte more. */
 static void control(void)
 {
-    volatile uint8_t room[LIMIT];
+    volatile uint8_t room[MQ_STACK_BYTES];
     room[0] = 1;
     word = (uint32_t)(room[0] - 1);
 }
@@ -76,25 +80,32 @@ static const struct {
     { "mq_batch", batch }, { "mq_prove", prove },   { "mq_verify", verify }, /* what was proved */
 };
 
-int main(void)
+/* Whether every call of a case accepts, and takes less than the header says. */
+static int holds(struct sizes sizes, size_t bare)
 {
-    const struct sizes largest = { MQ_MAX_VARIABLES, MQ_MAX_EQUATIONS, MQ_MAX_REPETITIONS, MQ_MAX_HASH_ROWS };
-    const size_t bare = depth_of(nothing);
-    made = make_case(1, largest);
+    int right = 1;
+    made = make_case(1, sizes);
     out = lend(made.proof.len).at;
     for (size_t i = 0; i < sizeof calls / sizeof calls[0]; i++) {
         const size_t depth = depth_of(calls[i].run) - bare;
-        printf("%s: %zu bytes of stack\n", calls[i].name, depth);
-        if (word || depth >= LIMIT) {
-            printf("%s\n", word ? "refused" : "more than the header says");
-            return 1;
-        }
-    }
-    if (depth_of(control) - bare < LIMIT) {
-        printf("the control is not seen\n");
-        return 1;
+        const char *fault = word ? ": refused" : depth >= MQ_STACK_BYTES ? ": more than the header says" : "";
+        printf("n = %zu, %s: %zu bytes of stack%s\n", sizes.n, calls[i].name, depth, fault);
+        right &= !*fault;
     }
     free(out);
     drop_case(&made);
-    return 0;
+    return right;
+}
+
+int main(void)
+{
+    const size_t bare = depth_of(nothing);
+    int right = 1;
+    for (size_t i = 0; i < sizeof shapes / sizeof shapes[0]; i++)
+        right &= holds(shapes[i], bare);
+    if (depth_of(control) - bare < MQ_STACK_BYTES) {
+        printf("the control is not seen\n");
+        right = 0;
+    }
+    return !right;
 }
