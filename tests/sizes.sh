@@ -1,7 +1,7 @@
 #!/bin/sh
-# Size macros and size functions: each size macro of the header has its function, each function its macro, and
-# tests/sizes.c has them all; then tests/sizes.c compares their values. The library is that of SOLFADRUS_LIB_DIR, or
-# else the one that rt builds.
+# Size macros and size functions: each macro of a length (..._SIZE, ..._BYTES) has its function, each function its
+# macro, and tests/sizes.c has them all; then tests/sizes.c compares their values. The library is that of
+# SOLFADRUS_LIB_DIR, or else the one that rt builds.
 set -eu
 cd "$(dirname "$0")/.."
 . tests/need.sh
@@ -12,11 +12,11 @@ trap 'rm -rf "$work"' EXIT
 
 # covered HEADER TEST: fails, and shows the names, where macros, functions and the test's table differ.
 covered() {
-    sed -n 's/^#define MQ_\([A-Z_]*\)_SIZE[ (].*/\1/p' "$1" | sort >"$work/macros"
-    sed -n 's/^size_t mq_\([a-z_]*\)_size(.*/\1/p' "$1" | tr '[:lower:]' '[:upper:]' | sort >"$work/functions"
-    sed -n 's/^    { "[a-z_]*", mq_\([a-z_]*\)_size, macro_[A-Z_]* },$/\1/p' "$2" | tr '[:lower:]' '[:upper:]' | sort >"$work/tested"
-    # Parts of lengths, for places inside a string, have no function.
-    printf '%s\n' COUNT FIELD HASH_ROW HEADER LEAF STRING | sort - "$work/functions" >"$work/named"
+    sed -nE 's/^#define MQ_([A-Z0-9_]*)_(SIZE|BYTES)[ (].*/\1/p' "$1" | sort >"$work/macros"
+    sed -nE 's/^size_t mq_([a-z0-9_]*)_(size|bytes)\(.*/\1/p' "$1" | tr '[:lower:]' '[:upper:]' | sort >"$work/functions"
+    sed -nE 's/^    \{ "[a-z0-9_]*", mq_([a-z0-9_]*)_(size|bytes), macro_[A-Z0-9_]* \},$/\1/p' "$2" | tr '[:lower:]' '[:upper:]' | sort >"$work/tested"
+    # No function: parts of lengths, for places inside a string; and the stack, which is neither lent nor written.
+    printf '%s\n' COUNT FIELD HASH_ROW HEADER LEAF STACK STRING | sort - "$work/functions" >"$work/named"
     [ -s "$work/functions" ] && diff "$work/macros" "$work/named" && diff "$work/functions" "$work/tested"
 }
 
@@ -28,8 +28,10 @@ missed() {
     fi
     echo "found out: $1: $(grep '^[<>]' "$work/log")"
 }
-{ cat include/solfadrus.h; echo '#define MQ_SEED_SIZE 16'; } >"$work/more.h"
-missed "a macro without a function" "$work/more.h" tests/sizes.c
+for name in MQ_SEED_SIZE 'MQ_SHA3_256_SIZE(n)' MQ_SEED_BYTES; do
+    { cat include/solfadrus.h; echo "#define $name 16"; } >"$work/more.h"
+    missed "a macro without a function" "$work/more.h" tests/sizes.c
+done
 grep -v 'define MQ_DELTA_SIZE' include/solfadrus.h >"$work/less.h"
 missed "a function without a macro" "$work/less.h" tests/sizes.c
 grep -v '"proof"' tests/sizes.c >"$work/less.c"
