@@ -71,9 +71,11 @@ static int left_side(const uint8_t *a, const uint8_t *b, const uint8_t *x, size_
 {
     int sum = 0;
     for (size_t r = 0; r < n; r++) {
+        if (!bit(x, r))
+            continue;
         for (size_t c = 0; c < n; c++)
-            sum ^= bit(x, r) & bit(a + r * MQ_STRING_SIZE(n), c) & bit(x, c);
-        sum ^= bit(b, r) & bit(x, r);
+            sum ^= bit(a + r * MQ_STRING_SIZE(n), c) & bit(x, c);
+        sum ^= bit(b, r);
     }
     return sum;
 }

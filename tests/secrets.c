@@ -4,7 +4,9 @@
  * mq_verify is not called: nothing that it takes is secret.
  *
  *   secrets mark WORDS...   Makes the calls, at every shape, with strings marked undefined: memcheck reports each
- *                           branch and each address that depends on one. The words:
+ *                           branch and each address that depends on one. Where the leaves are marked, every bit that
+ *                           an accepted call writes must be undefined, but for the counts: so the call was made, and
+ *                           the leaves of every repetition were marked. The words:
  *                               leaves    marks every bit of every leaf, but the spare ones, which answer 8 tells
  *                               witness   marks every bit of the witness, but the spare ones, which answer 9 tells
  *                               y         marks every bit of the key's section y, but the spare ones
@@ -24,7 +26,8 @@
 #include "case.h"
 
 static const struct sizes shapes[] = {
-    { 1, 1, 1, 1 }, { 9, 3, 2, 5 }, { 16, 9, 3, 8 }, { 33, 4, 17, 12 }, { 150, 2, 4, 20 }, { 24, 5, 48, 3 },
+    { 1, 1, 1, 1 },    { 9, 3, 2, 5 },   { 16, 9, 3, 8 },       { 33, 4, 17, 12 },
+    { 150, 2, 4, 20 }, { 24, 5, 48, 3 }, { 150, 150, 19, 144 }, { 160, 160, 48, 160 },
 };
 enum { SHAPES = sizeof shapes / sizeof shapes[0], TRACED = 3 /* the small ones: a trace is long */ };
 
@@ -79,18 +82,123 @@ static struct made make_variant(struct sizes sizes, unsigned variant)
 
 /* ---- Marks -------------------------------------------------------------------------------- */
 
+/* The bits of a string's last byte that are not spare. */
+static uint8_t last_bits(size_t bits)
+{
+    return (uint8_t)(bits % 8 ? (1 << bits % 8) - 1 : 0xFF);
+}
+
 /* Marks the bits of each string, but not its spare bits. */
 static void mark(uint8_t *at, size_t count, size_t bits)
 {
     const size_t len = MQ_STRING_SIZE(bits);
-    uint8_t last = (uint8_t)(bits % 8 ? (1 << bits % 8) - 1 : 0xFF);
+    uint8_t last = last_bits(bits);
     for (size_t i = 0; i < count; i++, at += len) {
         VALGRIND_MAKE_MEM_UNDEFINED(at, len);
         (void)VALGRIND_SET_VBITS(at + len - 1, &last, 1);
     }
 }
 
+/* The bits of a byte that depend on what was marked. */
+static uint8_t marks_of(const uint8_t *at)
+{
+    uint8_t marks = 0;
+    if (VALGRIND_GET_VBITS(at, &marks, 1) != 1)
+        exit(2); /* not under memcheck */
+    return marks;
+}
+
+/* A section of a proof: so many strings of so many bits, after their count. */
+struct section {
+    size_t count, bits;
+};
+
+static struct section section_of(struct sizes s, int which)
+{
+    const struct section sections[] = {
+        { s.tau - 1, s.n + MQ_FIELD_DEGREE + s.t }, /* C */
+        { 1, s.n },                                 /* d */
+        { 1, s.t },                                 /* u~ */
+        { s.tau * s.t, MQ_FIELD_DEGREE },           /* V~ */
+        { s.tau, MQ_FIELD_DEGREE },                 /* QS0 */
+        { s.tau, MQ_FIELD_DEGREE },                 /* QS1 */
+    };
+    return sections[which];
+}
+
+static size_t section_length(struct section section)
+{
+    return MQ_COUNT_SIZE + section.count * MQ_STRING_SIZE(section.bits);
+}
+
+/* Whether the count is unmarked, and every bit of the strings marked, but for the spare ones. */
+static int section_marked(const uint8_t *at, struct section section)
+{
+    const size_t len = MQ_STRING_SIZE(section.bits);
+    int all = 1;
+    for (size_t i = 0; i < MQ_COUNT_SIZE; i++)
+        all &= marks_of(at++) == 0;
+    for (size_t i = 0; i < section.count; i++, at += len)
+        for (size_t b = 0; b < len; b++) {
+            const uint8_t data = b + 1 < len ? 0xFF : last_bits(section.bits);
+            all &= (marks_of(at + b) & data) == data;
+        }
+    return all;
+}
+
 /* ---- Calls -------------------------------------------------------------------------------- */
+
+#define LENT(which) c->which.at, c->which.len
+
+static uint32_t call_test(const struct made *c, uint8_t *out, size_t len)
+{
+    (void)out, (void)len;
+    return mq_test(LENT(key), LENT(witness));
+}
+
+static uint32_t call_commit(const struct made *c, uint8_t *out, size_t len)
+{
+    return mq_commit(LENT(key), LENT(leaves), LENT(witness), out, len);
+}
+
+static uint32_t call_hash(const struct made *c, uint8_t *out, size_t len)
+{
+    return mq_hash(LENT(key), LENT(leaves), LENT(hash_matrix), out, len);
+}
+
+static uint32_t call_batch(const struct made *c, uint8_t *out, size_t len)
+{
+    return mq_batch(LENT(key), LENT(leaves), LENT(witness), LENT(batching), out, len);
+}
+
+static uint32_t call_prove(const struct made *c, uint8_t *out, size_t len)
+{
+    return mq_prove(LENT(key), LENT(leaves), LENT(witness), LENT(hash_matrix), LENT(batching), out, len);
+}
+
+/* Each call, and the sections of a proof that it writes. */
+static const struct call {
+    const char *name;
+    uint32_t (*make)(const struct made *c, uint8_t *out, size_t len);
+    int first, end;
+} calls[] = {
+    { "test", call_test, 0, 0 },   { "commit", call_commit, 0, 2 }, { "hash", call_hash, 2, 4 },
+    { "batch", call_batch, 4, 6 }, { "prove", call_prove, 0, 6 },
+};
+enum { CALLS = sizeof calls / sizeof calls[0] };
+
+/* The call to be made alone, where one is named. */
+static const struct call *only;
+
+/* A word that is misspelt must not make a test of nothing. */
+static const struct call *call_named(const char *word)
+{
+    for (size_t i = 0; i < CALLS; i++)
+        if (strcmp(word, calls[i].name) == 0)
+            return &calls[i];
+    fprintf(stderr, "%s: no such word\n", word);
+    exit(2);
+}
 
 /* A word is told to the caller: whatever it was made from, it may be looked at from here on. */
 static uint32_t told(uint32_t word)
@@ -99,45 +207,43 @@ static uint32_t told(uint32_t word)
     return word;
 }
 
-/* The call to be made alone, where one is named. */
-static const char *only;
-
-static int wanted(const char *call)
+static size_t output_length(struct sizes s, const struct call *call)
 {
-    return !only || strcmp(only, call) == 0;
+    size_t len = 0;
+    for (int i = call->first; i < call->end; i++)
+        len += section_length(section_of(s, i));
+    return len;
 }
 
-/* A word that is misspelt must not make a test of nothing. */
-static const char *call_named(const char *word)
+/* Whether each section of an output is marked. Of V~ and QS0 each string depends on the leaves of its own repetition
+ * alone, so that those of every repetition must have been. */
+static int output_marked(struct sizes s, const struct call *call, const uint8_t *at)
 {
-    static const char *const calls[] = { "test", "commit", "hash", "batch", "prove" };
-    for (size_t i = 0; i < sizeof calls / sizeof calls[0]; i++)
-        if (strcmp(word, calls[i]) == 0)
-            return calls[i];
-    fprintf(stderr, "%s: no such word\n", word);
-    exit(2);
+    int all = 1;
+    for (int i = call->first; i < call->end; i++) {
+        all &= section_marked(at, section_of(s, i));
+        at += section_length(section_of(s, i));
+    }
+    return all;
 }
 
-/* Makes the calls. Answers the words together: 0 where all accepted. */
-static uint32_t call_all(const struct made *c, uint8_t *out)
+/* Makes the calls. Answers the words together: 0 where all accepted, and, with marked leaves, wrote what is marked. */
+static uint32_t call_all(const struct made *c, int leaves_marked)
 {
     const struct sizes s = c->sizes;
     uint32_t words = 0;
-    if (wanted("test"))
-        words |= told(mq_test(c->key.at, c->key.len, c->witness.at, c->witness.len));
-    if (wanted("commit"))
-        words |= told(mq_commit(c->key.at, c->key.len, c->leaves.at, c->leaves.len, c->witness.at, c->witness.len, out,
-                                MQ_COMMIT_SIZE(s.n, s.m, s.tau, s.t)));
-    if (wanted("hash"))
-        words |= told(mq_hash(c->key.at, c->key.len, c->leaves.at, c->leaves.len, c->hash_matrix.at, c->hash_matrix.len,
-                              out, MQ_HASH_SIZE(s.n, s.m, s.tau, s.t)));
-    if (wanted("batch"))
-        words |= told(mq_batch(c->key.at, c->key.len, c->leaves.at, c->leaves.len, c->witness.at, c->witness.len,
-                               c->batching.at, c->batching.len, out, MQ_BATCH_SIZE(s.n, s.m, s.tau, s.t)));
-    if (wanted("prove"))
-        words |= told(mq_prove(c->key.at, c->key.len, c->leaves.at, c->leaves.len, c->witness.at, c->witness.len,
-                               c->hash_matrix.at, c->hash_matrix.len, c->batching.at, c->batching.len, out,
-                               MQ_PROOF_SIZE(s.n, s.m, s.tau, s.t)));
+    for (const struct call *call = calls; call < calls + CALLS; call++) {
+        if (only && only != call)
+            continue;
+        struct lent out = lend(MQ_PROOF_SIZE(s.n, s.m, s.tau, s.t));
+        const uint32_t word = told(call->make(c, out.at, output_length(s, call)));
+        words |= word;
+        if (leaves_marked && !word && !output_marked(s, call, out.at)) {
+            printf("mq_%s at n = %zu, tau = %zu: the output is not marked throughout\n", call->name, s.n, s.tau);
+            words = UINT32_MAX;
+        }
+        free(out.at);
+    }
     return words;
 }
 
@@ -190,7 +296,6 @@ static struct words read_words(char **words)
 static int mark_and_call(struct sizes s, struct words words, int fails)
 {
     struct made c = make_variant(s, 0);
-    struct lent out = lend(MQ_PROOF_SIZE(s.n, s.m, s.tau, s.t));
     const uint8_t *secret = words.witness ? c.witness.at : c.leaves.at;
     const uint32_t refused = MQ_REFUSED_EQUATION_FAILS * 65536 + (uint32_t)s.m - 1;
     uint32_t answer;
@@ -206,10 +311,9 @@ static int mark_and_call(struct sizes s, struct words words, int fails)
         leak_by_branch(secret);
     if (words.index)
         leak_by_address(secret);
-    answer = call_all(&c, out.at);
-    free(out.at);
+    answer = call_all(&c, words.leaves);
     drop_case(&c);
-    return answer == (fails && !(only && strcmp(only, "hash") == 0) ? refused : 0);
+    return answer == (fails && !(only && only->make == call_hash) ? refused : 0);
 }
 
 static int mark_all_shapes(struct words words)
@@ -251,12 +355,10 @@ static int read_and_call(int leak, FILE *file)
     for (size_t i = 0; i < TRACED; i++) {
         const struct sizes s = shapes[i];
         struct made c = lend_case(s);
-        struct lent out = lend(MQ_PROOF_SIZE(s.n, s.m, s.tau, s.t));
         pass(fread, &c, file);
         if (leak)
             leak_by_address(c.witness.at);
-        answers |= call_all(&c, out.at);
-        free(out.at);
+        answers |= call_all(&c, 0);
         drop_case(&c);
     }
     return answers != 0;

@@ -4,6 +4,8 @@
 #
 #   1. Leaves marked undefined: memcheck must report nothing.
 #   2. Leaves and witness marked: what memcheck reports must be branches on the answer to 11.
+#      In 1 and 2 all that an accepted call writes must be undefined, in every repetition: else a call that is not made,
+#      or leaves that are not marked, would pass.
 #   3. Two sets of leaves and two witnesses of one key: the traces of all instructions and addresses must be the same.
 #   4. Controls, branches and addresses on a secret: each test must report them.
 #
@@ -18,7 +20,8 @@
 #        branches on the errors and nothing else. With leaves and witness marked no other instruction may be reported.
 #        The calls are made with a witness that solves, and again with one at which the last equation fails.
 #
-# Shapes, in secrets.c: n a multiple of 8 and not, repetitions to 48, n to 150.
+# Shapes, in secrets.c: small ones, n a multiple of 8 and not; the usual sizes (n = m = 150, tau = 19, t = 144) and the
+# largest (160, 160, 48, 160). The traces, which are long, are of the three smallest.
 set -eu
 cd "$(dirname "$0")/.."
 . tests/need.sh
