@@ -1,18 +1,91 @@
 #!/bin/sh
-# The line counts of docs/AUDIT.md: `counts.sh` compares, `counts.sh --write` writes them anew.
+# The line counts of docs/AUDIT.md: `counts.sh` compares, `counts.sh --write` writes them anew. First, that its reading
+# list is closed: what a contract or a listed file imports is listed, and above the file.
 set -eu
 cd "$(dirname "$0")/.."
 
-# The definitions to be believed, in reading order.
+# The definitions to be believed, in reading order: a file, or the definitions of a file from one name to another.
+order=tests/reading-order.txt
+
+# uses FILE...: what the files import from this repository. (`declared` is the code's own enums and structs.)
+uses() {
+    grep -hE '^ *(ghost |pub )?use Rattle·' "$@" |
+        sed -E 's/.*use Rattle·([a-z]+)(·[a-z]+)?\.(specs|proofs)\.([A-Za-z0-9]+)\..*/\1\/\3\/\4/; /\/declared$/d' | sort -u
+}
+
+# within LIST WHAT NAME...: fails, and shows them, where names are not in the list.
+within() {
+    list=$1
+    what=$2
+    shift 2
+    for name; do
+        case " $list " in
+        *" $name "*) ;;
+        *)
+            echo "$what $name, which is not on the reading list, or not above it"
+            return 1
+            ;;
+        esac
+    done
+}
+
+# closed ORDER: the list has what the exports, the check program, the reader of sections and the finder promise, and is
+# closed under imports. A file of proofs is no definition: it may be listed by names only, and is then not gone into.
+closed() {
+    above=
+    while IFS='|' read -r entry what; do
+        # An entry is split into the file and its names.
+        # shellcheck disable=SC2086
+        set -- $entry
+        case $1,$# in
+        */specs/*,1) within "$above" "$1 imports" $(uses "crates/$1.antt") || return ;;
+        */proofs/*,3) ;;
+        *)
+            echo "$entry: of a file of proofs the definitions are listed, from a name to a name"
+            return 1
+            ;;
+        esac
+        above="$above $1"
+    done <"$1"
+    within "$above" "a contract cites" \
+        $(uses crates/solfadrus/src/*.rt crates/checking/src/*.rt crates/reader/src/*.rt crates/sections/src/lib.rt) &&
+        within "$above" "there are statements in" \
+            $(ls crates/solfadrus/specs/*.antt crates/checking/specs/*.antt | sed 's|crates/||; s|\.antt$||; /\/Lib$/d')
+}
+
+# missed WHAT SED: a control, the list changed by a sed command.
+missed() {
+    sed "$2" "$order" >"$work/other"
+    if closed "$work/other" >/dev/null; then
+        echo "not found out: $1" >&2
+        exit 1
+    fi
+}
+
+# listed FILE [FIRST LAST]: its lines, each with its number; or those of its definitions from FIRST to LAST.
+listed() {
+    awk -v first="${2-}" -v last="${3-}" '
+        first == "" || index($0, "abbrev pub " first " :") == 1 { inside = 1 }
+        inside { print NR " " $0 }
+        last != "" && index($0, last " ") == 1 { ending = 1 }
+        ending && /^}/ { exit }' "crates/$1.antt"
+}
+
 counts() {
     echo '| File | Lines | What it defines |'
     echo '|---|---|---|'
-    while IFS='|' read -r file what; do
-        echo "| \`$file\` | $(wc -l <"crates/$file.antt") | $what |"
-    done <tests/reading-order.txt
+    while IFS='|' read -r entry what; do
+        # shellcheck disable=SC2086
+        set -- $entry
+        listed "$@" >"$lines"
+        [ -s "$lines" ] || { echo "$entry: not found" >&2 && exit 1; }
+        name="\`$1\`"
+        [ $# = 1 ] || name="$name, \`$2\` to \`$3\` (lines $(sed -n '1s/ .*//p' "$lines") to $(sed -n '$s/ .*//p' "$lines"))"
+        echo "| $name | $(wc -l <"$lines") | $what |"
+        cat "$lines" >>"$all"
+    done <"$order"
     echo
-    total=$(cut -d'|' -f1 tests/reading-order.txt | sed 's|.*|crates/&.antt|' | xargs cat | wc -l)
-    echo "In all: $total lines."
+    echo "In all: $(wc -l <"$all") lines, $(grep -cE '^[0-9]+ (pub )?use ' "$all") of them imports."
 }
 
 # lines FOLDER NAME: of the files of a crate's folder.
@@ -39,9 +112,17 @@ between() {
     cp "$next" "$page"
 }
 
-page=$(mktemp)
-next=$(mktemp)
-trap 'rm -f "$page" "$next"' EXIT
+work=$(mktemp -d)
+trap 'rm -rf "$work"' EXIT
+page=$work/page
+next=$work/next
+lines=$work/lines
+all=$work/all
+missed "an import that is not listed" '/^protocol.specs.Reader|/d'
+missed "an import that is listed below" '1h; 1d; $G'
+missed "statements that are not listed" '/^solfadrus.specs.Forgery|/d'
+missed "a file of proofs, all of it" '$a algebra/proofs/BitFieldLaws|laws'
+closed "$order"
 cp docs/AUDIT.md "$page"
 between counts
 between sizes
