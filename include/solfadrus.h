@@ -83,7 +83,7 @@
  *    2  Are n, m, tau, t in range?
  *    3  Are all counts and the key's length exact?
  *    4  Are the key's spare bits 0 (in each row of A, each row of b, and y)?
- *    5  Have the challenges that this call uses (hash_matrix, batching, delta) exact lengths?
+ *    5  Have the challenges that this call uses exact lengths?
  *    6  Are the spare bits of hash_matrix 0?
  *    7  Have the leaves their exact length?
  *    8  Are the spare bits of each leaf 0?
@@ -96,8 +96,8 @@
  *   15  Does the product check hold in every repetition?   place: the first one where not
  *
  * The place is 0 for all numbers but 11, 14 and 15. Where several equations fail, 11 names one of
- * them, and not always the lowest: do not rely on which. 12 to 15 are questions of mq_verify alone.
- * 14 is put of every repetition before 15 of any.
+ * them: do not rely on which. 12 to 15 are questions of mq_verify alone. 14 is put of every
+ * repetition before 15 of any.
  *
  *
  * 4. THE CALLER'S DUTY

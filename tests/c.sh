@@ -53,6 +53,9 @@ sh tests/compare.sh "$lib"
 echo "the example"
 sh tests/demo.sh
 
+echo "the published lists"
+sh tests/lists.sh
+
 echo "the manual pages"
 sh tests/man.sh
 

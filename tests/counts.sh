@@ -31,11 +31,11 @@ within() {
 
 # closed ORDER: the list has what the exports, the check program, the reader of sections and the finder promise, and is
 # closed under imports. A file of proofs is no definition: it may be listed by names only, and is then not gone into.
+# Entries, and what is printed one name to a line, are split.
+# shellcheck disable=SC2046,SC2086
 closed() {
     above=
     while IFS='|' read -r entry what; do
-        # An entry is split into the file and its names.
-        # shellcheck disable=SC2086
         set -- $entry
         case $1,$# in
         */specs/*,1) within "$above" "$1 imports" $(uses "crates/$1.antt") || return ;;
