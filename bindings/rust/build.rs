@@ -1,4 +1,5 @@
-//! Finds libsolfadrus.a: in the directory that SOLFADRUS_LIB_DIR names, or else where pkg-config says.
+//! Finds libsolfadrus.a: in the directory that SOLFADRUS_LIB_DIR names, by an absolute path, or else where pkg-config
+//! says.
 
 use std::path::PathBuf;
 use std::process::Command;
@@ -13,7 +14,7 @@ fn main() {
         println!("cargo:rerun-if-env-changed={name}");
     }
     let directory = match std::env::var_os("SOLFADRUS_LIB_DIR") {
-        Some(named) => PathBuf::from(named),
+        Some(named) => absolute(named.into()),
         None => installed(),
     };
     let archive = directory.join("libsolfadrus.a");
@@ -21,6 +22,17 @@ fn main() {
     println!("cargo:rerun-if-changed={}", archive.display());
     println!("cargo:rustc-link-search=native={}", directory.display());
     println!("cargo:rustc-link-lib=static=solfadrus");
+}
+
+/// A build script is run in its package's folder, and is not told where cargo was: a relative path would be looked up in
+/// a place that nobody meant.
+fn absolute(named: PathBuf) -> PathBuf {
+    assert!(
+        named.is_absolute(),
+        "SOLFADRUS_LIB_DIR must be an absolute path, and is {}",
+        named.display()
+    );
+    named
 }
 
 /// The directory that the installed pkg-config file names, of this very version.

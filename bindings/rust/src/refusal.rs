@@ -119,6 +119,22 @@ impl fmt::Display for Reason {
 }
 
 /// A refused call. It has written nothing: its output is as it was.
+///
+/// ```
+/// use solfadrus::{Reason, Refusal};
+///
+/// // x0·x1 + x0 = 1, which x = 0 does not solve.
+/// let key = [
+///     2, 0, 1, 0, 1, 0, 1, 0, 2, 0, 0, 0, 0x02, 0x00, 1, 0, 0, 0, 0x01, 1, 0, 0, 0, 0x01,
+/// ];
+/// let refusal = solfadrus::test(&key, &[0x00]).unwrap_err();
+/// assert_eq!((refusal.reason, refusal.place), (Reason::EquationFails, 0));
+/// assert_eq!(refusal.to_string(), "refused 11 place 0: the witness does not solve the system");
+///
+/// // As the word of the C interface, and back.
+/// assert_eq!(refusal.word(), 11 * 65_536);
+/// assert_eq!(Refusal::from_word(refusal.word()), Err(refusal));
+/// ```
 #[derive(Clone, Copy, Debug, PartialEq, Eq, Hash)]
 pub struct Refusal {
     /// Why.
