@@ -4,7 +4,7 @@
 // One byte more than is taken: it alone tells that there are too many.
 const ROOM: usize = 65537;
 
-// The longest line has 21 bytes.
+// check_line asks for 32 bytes. A bound is 21 (a word of 8, two numbers of 16 bits); the longest line, `refused 11 159` and its line feed, has 15.
 const LINE: usize = 32;
 
 fn main() {
