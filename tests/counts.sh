@@ -80,7 +80,7 @@ counts() {
         listed "$@" >"$lines"
         [ -s "$lines" ] || { echo "$entry: not found" >&2 && exit 1; }
         name="\`$1\`"
-        [ $# = 1 ] || name="$name, \`$2\` to \`$3\` (lines $(sed -n '1s/ .*//p' "$lines") to $(sed -n '$s/ .*//p' "$lines"))"
+        [ $# = 1 ] || name="$name, \`$2\` to \`$3\` (lines $(sed 's/ .*//; 1!{$!d}' "$lines" | xargs printf '%s to %s'))"
         echo "| $name | $(wc -l <"$lines") | $what |"
         cat "$lines" >>"$all"
     done <"$order"

@@ -24,8 +24,8 @@ fn main() {
     println!("cargo:rustc-link-lib=static=solfadrus");
 }
 
-/// A build script is run in its package's folder, and is not told where cargo was: a relative path would be looked up in
-/// a place that nobody meant.
+/// A build script is run in its package's folder, and is not told where cargo was: a relative path would be looked up
+/// in a place that nobody meant.
 fn absolute(named: PathBuf) -> PathBuf {
     assert!(
         named.is_absolute(),

@@ -6,9 +6,9 @@
 //! pointers are kept by this crate: a slice is valid for its length, `&mut` overlaps nothing and is written by nobody
 //! else, and an empty slice is taken with any pointer.
 //!
-//! One duty on memory is the caller's: the calling thread must have 256 KiB of stack left, whatever the key's sizes. With
-//! less, a call can end the process. (That a call takes less is measured, not proved. Rust's own threads begin with more.)
-//! A call allocates nothing and never panics.
+//! One duty on memory is the caller's: the calling thread must have 256 KiB of stack left, whatever the key's sizes.
+//! With less, a call can end the process. (That a call takes less is measured, not proved. Rust's own threads begin with
+//! more.) A call allocates nothing and never panics.
 //!
 //! # Example
 //!
