@@ -132,7 +132,7 @@ rebuilt s a proof-spare-bit = refl
 rebuilt s a (inconsistent e l) = refl
 rebuilt s a (product-differs e l) = refl
 
-place-lt : (s : Shape) → s .m ≤ 65536 → s .τ ≤ 65536 → (a : Answer) → Published s a → placeOf a < 65536
+pub place-lt : (s : Shape) → s .m ≤ 65536 → s .τ ≤ 65536 → (a : Answer) → Published s a → placeOf a < 65536
 place-lt s hm hτ a taken = omega arith
 place-lt s hm hτ a header-short = omega arith
 place-lt s hm hτ a size-out-of-range = omega arith
@@ -149,6 +149,14 @@ place-lt s hm hτ a proof-length = omega arith
 place-lt s hm hτ a proof-spare-bit = omega arith
 place-lt s hm hτ a (inconsistent e l) = omega arith
 place-lt s hm hτ a (product-differs e l) = omega arith
+
+-- the word of a refusal tells its number and place
+pub word-tells : (s : Shape) (a : Answer) → Published s a → placeOf a < 65536 → (i p : ℕ) → p < 65536 → suc i * 65536 + p ≡ word a → a ≡ refused (suc i) p
+unfolding word rebuild
+word-tells s a pa la i p l h =
+    let n : numberOf a ≡ suc i = omega arith in
+    let k : placeOf a ≡ p = omega arith in
+    sym (rebuilt s a pa) ∙ ap₂ rebuild n k
 
 pub word-injective : WordInjective
 unfolding word

@@ -1,32 +1,32 @@
 -- Demand 1 and demand 2 of the exports.
 -- Assumes nothing.
 use mathlib.Core.Path.{_≡_, refl, sym, ap, ap₂, _∙_, subst}
-use mathlib.Core.Logic.{_↔_, _≢_}
-use mathlib.Core.Bool.{true}
+use mathlib.Core.Bool.{Bool, true}
 use mathlib.Core.List.{List, [], _∷_, _++_}
-use Prim.Native.Nat.{ℕ, _+_, _*_}
-use native.Mathlib.Omega.{arith}
+use Prim.Native.Nat.{ℕ}
+use lib.ListN.{length}
+use Rattle.protocol.specs.Strings.{bytes}
 use Rattle.protocol.specs.Binary.{bits256}
 use Rattle.protocol.specs.Shape.{Shape, shapeOf, limits, perTree}
 use Rattle.protocol.specs.Frames.{framed}
 use Rattle.protocol.specs.Sections.{Sections, bytesOf, lengths, sectionsIn}
 use Rattle.protocol.specs.Prover.{sectionsOf, proofOf}
-use Rattle.protocol.specs.Answers.{Answer, accepted, refused, Question, placeOf, word, written, Published, taken, header-short, size-out-of-range, key-length, key-spare-bit, challenge-length, hash-spare-bit, leaf-length, leaf-spare-bit, witness-form, output-length, equation-fails, proof-length, proof-spare-bit, inconsistent, product-differs}
+use Rattle.protocol.specs.Answers.{Answer, Question, question, ask, placeOf, word, Published}
 use Rattle.protocol.specs.Questions.{hExact, χExact, solves, q1, q2, q3, q4, q5, q6, q7, q8, q9, q11}
-use Rattle.protocol.specs.Calls.{hashAnswer, proveQuestions, proveAnswer, verifyAnswer, honestForm}
+use Rattle.protocol.specs.Calls.{proveQuestions, testAnswer, commitAnswer, hashAnswer, batchAnswer, proveAnswer, verifyAnswer, honestForm}
 use Rattle.protocol.specs.Counting.{opening}
-use Rattle.protocol.specs.Statements.{SomeFails}
+use Rattle.protocol.specs.Statements.{SomeFails, RefusedIff}
 use Rattle.protocol.proofs.Published.{all-published, refuses-exactly-when}
-use Rattle.protocol.proofs.AnswerLaws.{ask-accepts, all-yes, yes-all}
+use Rattle.protocol.proofs.AnswerLaws.{ask-accepts, Yes, all-yes, yes-all}
 use Rattle.protocol.proofs.BinaryLaws.{bits256-lawful}
 use Rattle.protocol.proofs.LimitLaws.{bounds-of}
 use Rattle.protocol.proofs.HonestLaws.{exact, sections-back}
-use Rattle.protocol.proofs.Theorems.{steps-are-whole}
+use Rattle.protocol.proofs.Theorems.{steps-are-whole, first-named}
 use Rattle.protocol.proofs.Demands.{accepts-exactly-when, honest-proof-accepted}
 use Rattle.sections.specs.Reading.{Reads}
 use Rattle.sections.proofs.ReadingLaws.{proof-read}
-use Rattle.solfadrus.specs.Told.{Told, Writes}
-use Rattle.solfadrus.specs.Demands.{EveryAnswerListed, RefusedKeeps, AcceptedWrites, RefusedWhenFails, VerifierAcceptsExactly, WrittenIsAccepted, StepsMakeWhole, ReadsBack}
+use Rattle.solfadrus.specs.Demands.{ProveWrites, VerifyTold, RefusedByEleven, EveryAnswerListed, PlacesNamed, RefusedKeeps, AcceptedWrites, RefusedWhenFails, VerifierAcceptsExactly, WrittenIsAccepted, StepsMakeWhole, ReadsBack}
+use Rattle.solfadrus.proofs.ToldLaws.{word-accepted, only-accepted, not-zero, kept, wrote, refusal-told, number-told, eleven-told}
 
 hash-published : (key leaves H′ out : List ℕ) (a : Answer) → a ≡ hashAnswer bits256 key leaves H′ out → Published (shapeOf key) a
 hash-published key leaves H′ out a h = subst (Published (shapeOf key)) (sym h) (all-published bits256 .hash-published key leaves H′ out)
@@ -41,39 +41,8 @@ every-answer-listed = record {
   verify-listed = λ key Δ H′ χ opened proof r t. (verifyAnswer bits256 key Δ H′ χ opened proof, (t, all-published bits256 .verify-published key Δ H′ χ opened proof));
 }
 
-pub word-accepted : word accepted ≡ 0
-unfolding word
-word-accepted = refl
-
-kept : (a : Answer) (before after bytes : List ℕ) → after ≡ written a before bytes → word a ≢ 0 → after ≡ before
-kept accepted before after bytes e n = absurd (n word-accepted)
-kept (refused i p) before after bytes e n = e
-
 pub refused-keeps : RefusedKeeps
 refused-keeps reply before after bytes r t n = kept (t .0) before after bytes (t .1 .2) (λ z. n (t .1 .0 ∙ z))
-
--- no refusal of the list has the word 0
-pub only-accepted : (s : Shape) (a : Answer) → Published s a → word a ≡ 0 → a ≡ accepted
-unfolding word
-only-accepted s accepted taken h = refl
-only-accepted s (refused i p) header-short h = absurd (omega (arith, h))
-only-accepted s (refused i p) size-out-of-range h = absurd (omega (arith, h))
-only-accepted s (refused i p) key-length h = absurd (omega (arith, h))
-only-accepted s (refused i p) key-spare-bit h = absurd (omega (arith, h))
-only-accepted s (refused i p) challenge-length h = absurd (omega (arith, h))
-only-accepted s (refused i p) hash-spare-bit h = absurd (omega (arith, h))
-only-accepted s (refused i p) leaf-length h = absurd (omega (arith, h))
-only-accepted s (refused i p) leaf-spare-bit h = absurd (omega (arith, h))
-only-accepted s (refused i p) witness-form h = absurd (omega (arith, h))
-only-accepted s (refused i p) output-length h = absurd (omega (arith, h))
-only-accepted s (refused i p) (equation-fails e l) h = absurd (omega (arith, h))
-only-accepted s (refused i p) proof-length h = absurd (omega (arith, h))
-only-accepted s (refused i p) proof-spare-bit h = absurd (omega (arith, h))
-only-accepted s (refused i p) (inconsistent e l) h = absurd (omega (arith, h))
-only-accepted s (refused i p) (product-differs e l) h = absurd (omega (arith, h))
-
-wrote : (s : Shape) (a : Answer) (before after bytes : List ℕ) → Published s a → 0 ≡ word a → after ≡ written a before bytes → after ≡ bytes
-wrote s a before after bytes p z e = e ∙ ap (λ b. written b before bytes) (only-accepted s a p (sym z))
 
 pub accepted-writes : AcceptedWrites
 accepted-writes = record {
@@ -83,19 +52,40 @@ accepted-writes = record {
   prove-writes = λ key leaves x H′ χ before after t. wrote (shapeOf key) (t .0) before after _ (all-published bits256 .prove-published key leaves x H′ χ before (t .0) (t .1 .1)) (t .1 .0) (t .1 .2);
 }
 
--- a number that is not 0 is a refusal
-not-zero : (s : Shape) (a : Answer) (r : ℕ) (F : Type 0) → Published s a → r ≡ word a → (a ≢ accepted) ↔ F → (r ≢ 0) ↔ F
-not-zero s a r F p w i = (λ n. i .0 (λ e. n (w ∙ ap word e ∙ word-accepted)), λ f z. i .1 f (only-accepted s a p (sym w ∙ z)))
+pub places-named : PlacesNamed
+unfolding testAnswer commitAnswer batchAnswer proveAnswer verifyAnswer
+places-named = record {
+  test-names = λ key x i l t. eleven-told (shapeOf key) _ _ (t .0) (t .1 .1 .answers) (all-published bits256 .test-published key x (t .0) (t .1 .1)) _ _ (t .1 .1) i l (t .1 .0);
+  commit-names = λ key leaves x before after i l t.
+      eleven-told (shapeOf key) _ _ (t .0) (t .1 .1 .answers) (all-published bits256 .commit-published key leaves x before (t .0) (t .1 .1)) _ _ (t .1 .1) i l (t .1 .0);
+  batch-names = λ key leaves x χ before after i l t.
+      eleven-told (shapeOf key) _ _ (t .0) (t .1 .1 .answers) (all-published bits256 .batch-published key leaves x χ before (t .0) (t .1 .1)) _ _ (t .1 .1) i l (t .1 .0);
+  prove-names = λ key leaves x H′ χ before after i l t.
+      eleven-told (shapeOf key) _ _ (t .0) (t .1 .1 .answers) (all-published bits256 .prove-published key leaves x H′ χ before (t .0) (t .1 .1)) _ _ (t .1 .1) i l (t .1 .0);
+  fourteen = λ key Δ H′ χ opened proof e l t.
+      first-named bits256 .fourteen key Δ H′ χ opened proof e (refusal-told (shapeOf key) _ _ _ refl (all-published bits256 .verify-published key Δ H′ χ opened proof) 13 e l t);
+  fifteen = λ key Δ H′ χ opened proof e l t.
+      let k = first-named bits256 .fifteen key Δ H′ χ opened proof e (refusal-told (shapeOf key) _ _ _ refl (all-published bits256 .verify-published key Δ H′ χ opened proof) 14 e l t) in
+      ((k .0, k .1, k .2), k .3);
+}
+
+-- a refusal exactly when some equation fails, by the number of the answer
+by-eleven : (key x : List ℕ) (b : Bool) (qs : List Question) (a : Answer) (r : ℕ) → a ≡ ask (question b 1 0 ∷ q2 bits256 (shapeOf key) ∷ qs) → Published (shapeOf key) a → r ≡ word a
+    → RefusedIff bits256 key x a → RefusedByEleven key x r
+by-eleven key x b qs a r is listed w i =
+    let refused = not-zero (shapeOf key) a r (SomeFails bits256 key x) listed w (i .0) in
+    (refused, λ n. number-told (shapeOf key) b qs a is listed r w ∙ i .1 .1 (refused .0 n))
 
 pub refused-when-fails : RefusedWhenFails
+unfolding testAnswer commitAnswer batchAnswer proveAnswer
 refused-when-fails = record {
-  test-fails = λ key x r f t. not-zero (shapeOf key) (t .0) r _ (all-published bits256 .test-published key x (t .0) (t .1 .1)) (t .1 .0) (refuses-exactly-when bits256 .test-refuses key x (t .0) f (t .1 .1) .0);
+  test-fails = λ key x r f t. by-eleven key x _ _ (t .0) r (t .1 .1 .answers) (all-published bits256 .test-published key x (t .0) (t .1 .1)) (t .1 .0) (refuses-exactly-when bits256 .test-refuses key x (t .0) f (t .1 .1));
   commit-fails = λ key leaves x before after r f t.
-      not-zero (shapeOf key) (t .0) r _ (all-published bits256 .commit-published key leaves x before (t .0) (t .1 .1)) (t .1 .0) (refuses-exactly-when bits256 .commit-refuses key leaves x before (t .0) f (t .1 .1) .0);
+      by-eleven key x _ _ (t .0) r (t .1 .1 .answers) (all-published bits256 .commit-published key leaves x before (t .0) (t .1 .1)) (t .1 .0) (refuses-exactly-when bits256 .commit-refuses key leaves x before (t .0) f (t .1 .1));
   batch-fails = λ key leaves x χ before after r f t.
-      not-zero (shapeOf key) (t .0) r _ (all-published bits256 .batch-published key leaves x χ before (t .0) (t .1 .1)) (t .1 .0) (refuses-exactly-when bits256 .batch-refuses key leaves x χ before (t .0) f (t .1 .1) .0);
+      by-eleven key x _ _ (t .0) r (t .1 .1 .answers) (all-published bits256 .batch-published key leaves x χ before (t .0) (t .1 .1)) (t .1 .0) (refuses-exactly-when bits256 .batch-refuses key leaves x χ before (t .0) f (t .1 .1));
   prove-fails = λ key leaves x H′ χ before after r f t.
-      not-zero (shapeOf key) (t .0) r _ (all-published bits256 .prove-published key leaves x H′ χ before (t .0) (t .1 .1)) (t .1 .0) (refuses-exactly-when bits256 .prove-refuses key leaves x H′ χ before (t .0) f (t .1 .1) .0);
+      by-eleven key x _ _ (t .0) r (t .1 .1 .answers) (all-published bits256 .prove-published key leaves x H′ χ before (t .0) (t .1 .1)) (t .1 .0) (refuses-exactly-when bits256 .prove-refuses key leaves x H′ χ before (t .0) f (t .1 .1));
 }
 
 pub steps-make-whole : StepsMakeWhole
@@ -108,6 +98,8 @@ verifier-accepts-exactly key Δ H′ χ opened proof r form told =
     let exactly = accepts-exactly-when key Δ H′ χ opened proof form in
     (λ z. exactly .0 (only-accepted (shapeOf key) _ (all-published bits256 .verify-published key Δ H′ χ opened proof) (sym told ∙ z)), λ hold. told ∙ ap word (exactly .1 hold) ∙ word-accepted)
 
+-- ---- what an accepted call was lent
+
 -- those of prove that are not of its output
 abbrev honestQuestions : List ℕ → List ℕ → List ℕ → List ℕ → List ℕ → List Question
 honestQuestions key leaves x H′ χ =
@@ -115,24 +107,32 @@ honestQuestions key leaves x H′ χ =
     q1 bits256 s key ∷ q2 bits256 s ∷ q3 bits256 s key ∷ q4 bits256 s key ∷ q5 bits256 s (hExact bits256 s H′ ∷ χExact bits256 s χ ∷ []) ∷ q6 bits256 s H′ ∷ q7 bits256 s (perTree bits256) leaves
     ∷ q8 bits256 s (perTree bits256) leaves ∷ q9 bits256 s x ∷ []
 
--- the questions of prove that are not of its output, and the solved system, where it is accepted
-proved : (key leaves x H′ χ out : List ℕ) (p : ℕ) → proveAnswer bits256 key leaves x H′ χ out p ≡ accepted
-    → (honestForm bits256 key leaves x H′ χ ≡ true) × (solves bits256 (shapeOf key) key x ≡ true) × (limits (shapeOf key) ≡ true)
+-- every question got a yes, where the number is 0
+yes-told : (s : Shape) (qs : List Question) (a : Answer) → Published s a → a ≡ ask qs → 0 ≡ word a → Yes qs
+yes-told s qs a listed h z = all-yes qs (ask-accepts qs .0 (sym h ∙ only-accepted s a listed (sym z)))
+
+-- the form of an honest proof's inputs, a solved system, and sizes in range
+abbrev Honest : List ℕ → List ℕ → List ℕ → List ℕ → List ℕ → Type 0
+Honest key leaves x H′ χ = (honestForm bits256 key leaves x H′ χ ≡ true) × (solves bits256 (shapeOf key) key x ≡ true) × (limits (shapeOf key) ≡ true)
+
+proved : (key leaves x H′ χ before after : List ℕ) → ProveWrites key leaves x H′ χ before after 0 → Honest key leaves x H′ χ
 unfolding proveAnswer honestForm
-proved key leaves x H′ χ out p h =
-    let y = all-yes (proveQuestions bits256 key leaves x H′ χ out ++ (q11 bits256 (shapeOf key) key x p ∷ [])) (ask-accepts (proveQuestions bits256 key leaves x H′ χ out ++ (q11 bits256 (shapeOf key) key x p ∷ [])) .0 h) in
+proved key leaves x H′ χ before after t =
+    let y =
+    yes-told (shapeOf key) (proveQuestions bits256 key leaves x H′ χ before ++ (q11 bits256 (shapeOf key) key x (placeOf (t .0)) ∷ [])) (t .0)
+    (all-published bits256 .prove-published key leaves x H′ χ before (t .0) (t .1 .1)) (t .1 .1 .answers) (t .1 .0) in
     (yes-all (honestQuestions key leaves x H′ χ) (y .0, (y .1 .0, (y .1 .1 .0, (y .1 .1 .1 .0, (y .1 .1 .1 .1 .0, (y .1 .1 .1 .1 .1 .0, (y .1 .1 .1 .1 .1 .1 .0, (y .1 .1 .1 .1 .1 .1 .1 .0, (y .1 .1 .1 .1 .1 .1 .1 .1 .0, tt))))))))), y .1 .1 .1 .1 .1 .1 .1 .1 .1 .1 .0, y .1 .0)
+
+honest-told : (key leaves x H′ χ proof Δ : List ℕ) (r : ℕ) → Honest key leaves x H′ χ → proof ≡ proofOf bits256 key leaves x H′ χ → length Δ ≡ shapeOf key .τ → bytes Δ
+    → VerifyTold key Δ H′ χ (opening bits256 (shapeOf key) leaves Δ) proof r → r ≡ 0
+honest-told key leaves x H′ χ proof Δ r honest is long small told =
+    told
+    ∙ ap word (ap (verifyAnswer bits256 key Δ H′ χ (opening bits256 (shapeOf key) leaves Δ)) is ∙ honest-proof-accepted key leaves x H′ χ Δ (honest .0) (honest .1) long small)
+    ∙ word-accepted
 
 pub written-is-accepted : WrittenIsAccepted
 written-is-accepted key leaves x H′ χ before after Δ r writes long small told =
-    let a = writes .0 in
-    let is : a ≡ accepted = only-accepted (shapeOf key) a (all-published bits256 .prove-published key leaves x H′ χ before a (writes .1 .1)) (sym (writes .1 .0)) in
-    let given = proved key leaves x H′ χ before (placeOf a) (sym (writes .1 .1 .answers) ∙ is) in
-    told
-    ∙ ap word
-    (ap (verifyAnswer bits256 key Δ H′ χ (opening bits256 (shapeOf key) leaves Δ)) (accepted-writes .prove-writes key leaves x H′ χ before after writes)
-    ∙ honest-proof-accepted key leaves x H′ χ Δ (given .0) (given .1) long small)
-    ∙ word-accepted
+    honest-told key leaves x H′ χ after Δ r (proved key leaves x H′ χ before after writes) (accepted-writes .prove-writes key leaves x H′ χ before after writes) long small told
 
 -- a string that is the proof's bytes, and sections that are its own
 read-as : (s : Shape) (after : List ℕ) (P : Sections) → after ≡ bytesOf P → sectionsIn bits256 s (bytesOf P) ≡ P → framed (lengths bits256 s) (bytesOf P) ≡ true
@@ -145,8 +145,5 @@ pub reads-back : ReadsBack
 unfolding proofOf
 reads-back key leaves x H′ χ before after writes =
     let s = shapeOf key in
-    let a = writes .0 in
-    let is : a ≡ accepted = only-accepted (shapeOf key) a (all-published bits256 .prove-published key leaves x H′ χ before a (writes .1 .1)) (sym (writes .1 .0)) in
-    let given = proved key leaves x H′ χ before (placeOf a) (sym (writes .1 .1 .answers) ∙ is) in
     read-as s after (sectionsOf bits256 s leaves key x H′ χ) (accepted-writes .prove-writes key leaves x H′ χ before after writes) (sections-back bits256 bits256-lawful s leaves key x H′ χ)
-    (exact bits256 bits256-lawful s leaves key x H′ χ (bounds-of s (given .2)))
+    (exact bits256 bits256-lawful s leaves key x H′ χ (bounds-of s (proved key leaves x H′ χ before after writes .2)))

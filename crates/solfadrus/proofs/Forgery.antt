@@ -16,7 +16,7 @@ use Rattle.protocol.proofs.AnswerLaws.{accepted-of}
 use Rattle.protocol.proofs.Published.{all-published}
 use Rattle.protocol.proofs.Demands.{demand-3}
 use Rattle.solfadrus.specs.Forgery.{Answers, accepts, acceptedBy, ForgeryBound, VerifierBound}
-use Rattle.solfadrus.proofs.Demands.{word-accepted, only-accepted}
+use Rattle.solfadrus.proofs.ToldLaws.{word-accepted, only-accepted}
 
 -- of an answer in the list, the number is 0 exactly where it accepts
 zero-accepts : (s : Shape) (a : Answer) → Published s a → eqb (word a) 0 ≡ isAccepted a

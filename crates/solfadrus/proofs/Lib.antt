@@ -1,3 +1,4 @@
 pub mod SizedLaws
+pub mod ToldLaws
 pub mod Demands
 pub mod Forgery

@@ -1,13 +1,15 @@
 -- Demand 1 and demand 2 of the exports, over what their contracts promise. Demand 3 is in Forgery.
 --   Listed s r == r is 0, or number × 65,536 + place of a refusal in the published list, for a key of sizes s
+--   FirstFailing τ holds e == e is the first of τ repetitions in which a check does not hold
+--   RefusedByEleven key x r == r is a refusal exactly when some equation of the key fails at x, and then its number is 11
 --   TestTold, CommitWrites, HashWrites, BatchWrites, ProveWrites == the promises of mq_test, mq_commit, mq_hash, mq_batch, mq_prove: their inputs, the output before and after, the number
 --   VerifyTold == the promise of mq_verify, which writes nothing: its inputs, the number
 -- Assumes nothing.
 use mathlib.Core.Path.{_≡_}
 use mathlib.Core.Logic.{_↔_, _≢_}
-use mathlib.Core.Bool.{true}
+use mathlib.Core.Bool.{Bool, true, false}
 use mathlib.Core.List.{List, [], _∷_, _++_}
-use Prim.Native.Nat.{ℕ, _<_}
+use Prim.Native.Nat.{ℕ, _+_, _*_, _/_, _<_}
 use lib.ListN.{length}
 use Rattle.protocol.specs.Strings.{bytes}
 use Rattle.protocol.specs.Binary.{bits256}
@@ -15,7 +17,7 @@ use Rattle.protocol.specs.Shape.{Shape, shapeOf}
 use Rattle.protocol.specs.Prover.{sectionsOf, commitBytes, hashBytes, batchBytes, proofOf}
 use Rattle.protocol.specs.Sections.{lengths}
 use Rattle.protocol.specs.Answers.{Answer, word, Published}
-use Rattle.protocol.specs.Questions.{consistentIn, productIn}
+use Rattle.protocol.specs.Questions.{fails, consistentIn, productIn}
 use Rattle.protocol.specs.Calls.{hashAnswer, verifyAnswer, TestReply, CommitReply, BatchReply, ProveReply, testForm, commitForm, batchForm, proveForm, verifyForm}
 use Rattle.protocol.specs.Counting.{opening}
 use Rattle.protocol.specs.Statements.{SomeFails}
@@ -44,6 +46,12 @@ module _ (key : List ℕ) where
   abbrev pub VerifyTold : List ℕ → List ℕ → List ℕ → List ℕ → List ℕ → ℕ → Type 0
   VerifyTold Δ H′ χ opened proof r = r ≡ word (verifyAnswer bits256 key Δ H′ χ opened proof)
 
+abbrev pub FirstFailing : ℕ → (ℕ → Bool) → ℕ → Type 0
+FirstFailing τ holds e = (e < τ) × (holds e ≡ false) × ((i : ℕ) → i < e → holds i ≡ true)
+
+abbrev pub RefusedByEleven : List ℕ → List ℕ → ℕ → Type 0
+RefusedByEleven key x r = ((r ≢ 0) ↔ SomeFails bits256 key x) × (r ≢ 0 → r / 65536 ≡ 11)
+
 -- "every input is taken or refused by a number and place from a published list"
 pub record EveryAnswerListed : Type 0 where
   pub test-listed : (key x : List ℕ) (r : ℕ) → TestTold key x r → Listed (shapeOf key) r
@@ -52,6 +60,21 @@ pub record EveryAnswerListed : Type 0 where
   pub batch-listed : (key leaves x χ before after : List ℕ) (r : ℕ) → BatchWrites key leaves x χ before after r → Listed (shapeOf key) r
   pub prove-listed : (key leaves x H′ χ before after : List ℕ) (r : ℕ) → ProveWrites key leaves x H′ χ before after r → Listed (shapeOf key) r
   pub verify-listed : (key Δ H′ χ opened proof : List ℕ) (r : ℕ) → VerifyTold key Δ H′ χ opened proof r → Listed (shapeOf key) r
+
+-- Each place of that list means what the list says: no call names an equation that holds or a repetition in which the check holds.
+pub record PlacesNamed : Type 0 where
+  -- "11, with the number of some equation that fails"
+  pub test-names : (key x : List ℕ) (i : ℕ) → i < 65536 → TestTold key x (11 * 65536 + i) → fails bits256 (shapeOf key) key x i
+  pub commit-names : (key leaves x before after : List ℕ) (i : ℕ) → i < 65536 → CommitWrites key leaves x before after (11 * 65536 + i) → fails bits256 (shapeOf key) key x i
+  pub batch-names : (key leaves x χ before after : List ℕ) (i : ℕ) → i < 65536 → BatchWrites key leaves x χ before after (11 * 65536 + i) → fails bits256 (shapeOf key) key x i
+  pub prove-names : (key leaves x H′ χ before after : List ℕ) (i : ℕ) → i < 65536 → ProveWrites key leaves x H′ χ before after (11 * 65536 + i) → fails bits256 (shapeOf key) key x i
+  -- "14, with the first e where not"
+  pub fourteen : (key Δ H′ χ opened proof : List ℕ) (e : ℕ) → e < 65536 → VerifyTold key Δ H′ χ opened proof (14 * 65536 + e)
+      → FirstFailing (shapeOf key .τ) (consistentIn bits256 (shapeOf key) Δ H′ opened proof) e
+  -- "15, with the first e where not": and consistency holds in every repetition
+  pub fifteen : (key Δ H′ χ opened proof : List ℕ) (e : ℕ) → e < 65536 → VerifyTold key Δ H′ χ opened proof (15 * 65536 + e)
+      → FirstFailing (shapeOf key .τ) (productIn bits256 (shapeOf key) key Δ χ opened proof) e
+      × ((i : ℕ) → i < shapeOf key .τ → consistentIn bits256 (shapeOf key) Δ H′ opened proof i ≡ true)
 
 -- "a refused call changes no lent byte": of any export that writes. Inputs are lent for reading only, and mq_verify is lent nothing else.
 abbrev pub RefusedKeeps : Type 1
@@ -64,12 +87,12 @@ pub record AcceptedWrites : Type 0 where
   pub batch-writes : (key leaves x χ before after : List ℕ) → BatchWrites key leaves x χ before after 0 → after ≡ batchBytes bits256 key leaves x χ
   pub prove-writes : (key leaves x H′ χ before after : List ℕ) → ProveWrites key leaves x H′ χ before after 0 → after ≡ proofOf bits256 key leaves x H′ χ
 
--- "a witness of right form is refused exactly when some equation fails"
+-- "a witness of right form is refused exactly when some equation fails": by the number 11, whose place `PlacesNamed` speaks of
 pub record RefusedWhenFails : Type 0 where
-  pub test-fails : (key x : List ℕ) (r : ℕ) → testForm bits256 key x ≡ true → TestTold key x r → (r ≢ 0) ↔ SomeFails bits256 key x
-  pub commit-fails : (key leaves x before after : List ℕ) (r : ℕ) → commitForm bits256 key leaves x before ≡ true → CommitWrites key leaves x before after r → (r ≢ 0) ↔ SomeFails bits256 key x
-  pub batch-fails : (key leaves x χ before after : List ℕ) (r : ℕ) → batchForm bits256 key leaves x χ before ≡ true → BatchWrites key leaves x χ before after r → (r ≢ 0) ↔ SomeFails bits256 key x
-  pub prove-fails : (key leaves x H′ χ before after : List ℕ) (r : ℕ) → proveForm bits256 key leaves x H′ χ before ≡ true → ProveWrites key leaves x H′ χ before after r → (r ≢ 0) ↔ SomeFails bits256 key x
+  pub test-fails : (key x : List ℕ) (r : ℕ) → testForm bits256 key x ≡ true → TestTold key x r → RefusedByEleven key x r
+  pub commit-fails : (key leaves x before after : List ℕ) (r : ℕ) → commitForm bits256 key leaves x before ≡ true → CommitWrites key leaves x before after r → RefusedByEleven key x r
+  pub batch-fails : (key leaves x χ before after : List ℕ) (r : ℕ) → batchForm bits256 key leaves x χ before ≡ true → BatchWrites key leaves x χ before after r → RefusedByEleven key x r
+  pub prove-fails : (key leaves x H′ χ before after : List ℕ) (r : ℕ) → proveForm bits256 key leaves x H′ χ before ≡ true → ProveWrites key leaves x H′ χ before after r → RefusedByEleven key x r
 
 -- "Given well-formed input, the verifier accepts exactly when the published checks hold in every repetition."
 abbrev pub VerifierAcceptsExactly : Type 0
