@@ -13,9 +13,10 @@ use Rattle.protocol.specs.Sections.{Sections, bytesOf, lengths, sectionsIn}
 use Rattle.protocol.specs.Prover.{sectionsOf, proofOf}
 use Rattle.protocol.specs.Answers.{Answer, Question, question, ask, placeOf, word, Published}
 use Rattle.protocol.specs.Questions.{hExact, χExact, solves, q1, q2, q3, q4, q5, q6, q7, q8, q9, q11}
-use Rattle.protocol.specs.Calls.{proveQuestions, testAnswer, commitAnswer, hashAnswer, batchAnswer, proveAnswer, verifyAnswer, honestForm}
+use Rattle.protocol.specs.Calls.{commitQuestions, hashQuestions, batchQuestions, proveQuestions, testAnswer, commitAnswer, hashAnswer, batchAnswer, proveAnswer, verifyAnswer, honestForm}
 use Rattle.protocol.specs.Counting.{opening}
 use Rattle.protocol.specs.Statements.{SomeFails, RefusedIff}
+use Rattle.protocol.proofs.TestLaws.{all-true, true-all}
 use Rattle.protocol.proofs.Published.{all-published, refuses-exactly-when}
 use Rattle.protocol.proofs.AnswerLaws.{ask-accepts, Yes, all-yes, yes-all}
 use Rattle.protocol.proofs.BinaryLaws.{bits256-lawful}
@@ -25,7 +26,7 @@ use Rattle.protocol.proofs.Theorems.{steps-are-whole, first-named}
 use Rattle.protocol.proofs.Demands.{accepts-exactly-when, honest-proof-accepted}
 use Rattle.sections.specs.Reading.{Reads}
 use Rattle.sections.proofs.ReadingLaws.{proof-read}
-use Rattle.solfadrus.specs.Demands.{ProveWrites, VerifyTold, RefusedByEleven, EveryAnswerListed, PlacesNamed, RefusedKeeps, AcceptedWrites, RefusedWhenFails, VerifierAcceptsExactly, WrittenIsAccepted, StepsMakeWhole, ReadsBack}
+use Rattle.solfadrus.specs.Demands.{CommitWrites, HashWrites, BatchWrites, ProveWrites, VerifyTold, RefusedByEleven, EveryAnswerListed, PlacesNamed, RefusedKeeps, AcceptedWrites, RefusedWhenFails, VerifierAcceptsExactly, WrittenIsAccepted, StepsMakeWhole, StepsAreAccepted, ReadsBack}
 use Rattle.solfadrus.proofs.ToldLaws.{word-accepted, only-accepted, not-zero, kept, wrote, refusal-told, number-told, eleven-told}
 
 hash-published : (key leaves H′ out : List ℕ) (a : Answer) → a ≡ hashAnswer bits256 key leaves H′ out → Published (shapeOf key) a
@@ -89,9 +90,10 @@ refused-when-fails = record {
 }
 
 pub steps-make-whole : StepsMakeWhole
-steps-make-whole key leaves x H′ χ b₁ a₁ b₂ a₂ b₃ a₃ b a commit hash batch prove =
-    accepted-writes .prove-writes key leaves x H′ χ b a prove ∙ sym (steps-are-whole bits256 key leaves x H′ χ)
-    ∙ sym (ap₂ (λ (p q : List ℕ). p ++ q) (accepted-writes .commit-writes key leaves x b₁ a₁ commit) (ap₂ (λ (p q : List ℕ). p ++ q) (accepted-writes .hash-writes key leaves H′ b₂ a₂ hash) (accepted-writes .batch-writes key leaves x χ b₃ a₃ batch)))
+steps-make-whole key leaves x H′ χ b₁ a₁ b₂ a₂ b₃ a₃ commit hash batch =
+    ap₂ (λ (p q : List ℕ). p ++ q) (accepted-writes .commit-writes key leaves x b₁ a₁ commit)
+    (ap₂ (λ (p q : List ℕ). p ++ q) (accepted-writes .hash-writes key leaves H′ b₂ a₂ hash) (accepted-writes .batch-writes key leaves x χ b₃ a₃ batch))
+    ∙ steps-are-whole bits256 key leaves x H′ χ
 
 pub verifier-accepts-exactly : VerifierAcceptsExactly
 verifier-accepts-exactly key Δ H′ χ opened proof r form told =
@@ -123,6 +125,22 @@ proved key leaves x H′ χ before after t =
     (all-published bits256 .prove-published key leaves x H′ χ before (t .0) (t .1 .1)) (t .1 .1 .answers) (t .1 .0) in
     (yes-all (honestQuestions key leaves x H′ χ) (y .0, (y .1 .0, (y .1 .1 .0, (y .1 .1 .1 .0, (y .1 .1 .1 .1 .0, (y .1 .1 .1 .1 .1 .0, (y .1 .1 .1 .1 .1 .1 .0, (y .1 .1 .1 .1 .1 .1 .1 .0, (y .1 .1 .1 .1 .1 .1 .1 .1 .0, tt))))))))), y .1 .1 .1 .1 .1 .1 .1 .1 .1 .1 .0, y .1 .0)
 
+stepped : (key leaves x H′ χ b₁ a₁ b₂ a₂ b₃ a₃ : List ℕ) → CommitWrites key leaves x b₁ a₁ 0 → HashWrites key leaves H′ b₂ a₂ 0 → BatchWrites key leaves x χ b₃ a₃ 0 → Honest key leaves x H′ χ
+unfolding commitAnswer hashAnswer batchAnswer honestForm
+stepped key leaves x H′ χ b₁ a₁ b₂ a₂ b₃ a₃ c h t =
+    let s = shapeOf key in
+    let y =
+    yes-told s (commitQuestions bits256 key leaves x b₁ ++ (q11 bits256 s key x (placeOf (c .0)) ∷ [])) (c .0)
+    (all-published bits256 .commit-published key leaves x b₁ (c .0) (c .1 .1)) (c .1 .1 .answers) (c .1 .0) in
+    let z = yes-told s (hashQuestions bits256 key leaves H′ b₂) (h .0) (hash-published key leaves H′ b₂ (h .0) (h .1 .1)) (h .1 .1) (h .1 .0) in
+    let w =
+    yes-told s (batchQuestions bits256 key leaves x χ b₃ ++ (q11 bits256 s key x (placeOf (t .0)) ∷ [])) (t .0)
+    (all-published bits256 .batch-published key leaves x χ b₃ (t .0) (t .1 .1)) (t .1 .1 .answers) (t .1 .0) in
+    let exact =
+    true-all (hExact bits256 s H′ ∷ χExact bits256 s χ ∷ [])
+    (all-true (hExact bits256 s H′ ∷ []) (z .1 .1 .1 .1 .0) .0, (all-true (χExact bits256 s χ ∷ []) (w .1 .1 .1 .1 .0) .0, tt)) in
+    (yes-all (honestQuestions key leaves x H′ χ) (y .0, (y .1 .0, (y .1 .1 .0, (y .1 .1 .1 .0, (exact, (z .1 .1 .1 .1 .1 .0, (y .1 .1 .1 .1 .0, (y .1 .1 .1 .1 .1 .0, (y .1 .1 .1 .1 .1 .1 .0, tt))))))))), y .1 .1 .1 .1 .1 .1 .1 .1 .0, y .1 .0)
+
 honest-told : (key leaves x H′ χ proof Δ : List ℕ) (r : ℕ) → Honest key leaves x H′ χ → proof ≡ proofOf bits256 key leaves x H′ χ → length Δ ≡ shapeOf key .τ → bytes Δ
     → VerifyTold key Δ H′ χ (opening bits256 (shapeOf key) leaves Δ) proof r → r ≡ 0
 honest-told key leaves x H′ χ proof Δ r honest is long small told =
@@ -133,6 +151,11 @@ honest-told key leaves x H′ χ proof Δ r honest is long small told =
 pub written-is-accepted : WrittenIsAccepted
 written-is-accepted key leaves x H′ χ before after Δ r writes long small told =
     honest-told key leaves x H′ χ after Δ r (proved key leaves x H′ χ before after writes) (accepted-writes .prove-writes key leaves x H′ χ before after writes) long small told
+
+pub steps-are-accepted : StepsAreAccepted
+steps-are-accepted key leaves x H′ χ b₁ a₁ b₂ a₂ b₃ a₃ Δ r commit hash batch long small told =
+    honest-told key leaves x H′ χ (a₁ ++ (a₂ ++ a₃)) Δ r (stepped key leaves x H′ χ b₁ a₁ b₂ a₂ b₃ a₃ commit hash batch)
+    (steps-make-whole key leaves x H′ χ b₁ a₁ b₂ a₂ b₃ a₃ commit hash batch) long small told
 
 -- a string that is the proof's bytes, and sections that are its own
 read-as : (s : Shape) (after : List ℕ) (P : Sections) → after ≡ bytesOf P → sectionsIn bits256 s (bytesOf P) ≡ P → framed (lengths bits256 s) (bytesOf P) ≡ true

@@ -104,10 +104,14 @@ abbrev pub WrittenIsAccepted : Type 0
 WrittenIsAccepted = (key leaves x H′ χ before after Δ : List ℕ) (r : ℕ) → ProveWrites key leaves x H′ χ before after 0 → length Δ ≡ shapeOf key .τ → bytes Δ
     → VerifyTold key Δ H′ χ (opening bits256 (shapeOf key) leaves Δ) after r → r ≡ 0
 
--- The three steps' bytes, one after the other, are the whole call's.
+-- What the three steps wrote of one key, leaves and witness, one after the other, is what mq_prove writes: a proof, which mq_verify accepts at every Δ.
 abbrev pub StepsMakeWhole : Type 0
-StepsMakeWhole = (key leaves x H′ χ : List ℕ) (b₁ a₁ b₂ a₂ b₃ a₃ b a : List ℕ) → CommitWrites key leaves x b₁ a₁ 0 → HashWrites key leaves H′ b₂ a₂ 0 → BatchWrites key leaves x χ b₃ a₃ 0
-    → ProveWrites key leaves x H′ χ b a 0 → a ≡ a₁ ++ (a₂ ++ a₃)
+StepsMakeWhole = (key leaves x H′ χ b₁ a₁ b₂ a₂ b₃ a₃ : List ℕ) → CommitWrites key leaves x b₁ a₁ 0 → HashWrites key leaves H′ b₂ a₂ 0 → BatchWrites key leaves x χ b₃ a₃ 0
+    → a₁ ++ (a₂ ++ a₃) ≡ proofOf bits256 key leaves x H′ χ
+
+abbrev pub StepsAreAccepted : Type 0
+StepsAreAccepted = (key leaves x H′ χ b₁ a₁ b₂ a₂ b₃ a₃ Δ : List ℕ) (r : ℕ) → CommitWrites key leaves x b₁ a₁ 0 → HashWrites key leaves H′ b₂ a₂ 0 → BatchWrites key leaves x χ b₃ a₃ 0
+    → length Δ ≡ shapeOf key .τ → bytes Δ → VerifyTold key Δ H′ χ (opening bits256 (shapeOf key) leaves Δ) (a₁ ++ (a₂ ++ a₃)) r → r ≡ 0
 
 -- What mq_prove wrote reads back: the finder finds its six sections, one after the other, each from where the one before ended, and the last ends where it ends.
 abbrev pub ReadsBack : Type 0
