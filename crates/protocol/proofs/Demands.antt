@@ -94,9 +94,11 @@ module _ (key leaves H′ χ proof : List ℕ) where
     each-factor = λ h. forgery-count bits256 key leaves H′ χ proof h .four-cases;
     large-count-needs-full = λ h. forgery-count bits256 key leaves H′ χ proof h .large-count;
     full-spells-candidate = λ h. forgery-count bits256 key leaves H′ χ proof h .full-error;
-    every-challenge-once = λ Δ n b. numbers-once (bits256 .K) (shapeOf key .τ) Δ n b;
+    every-challenge-once = numbers-once (bits256 .K) (shapeOf key .τ);
     challenges-in-all = strings-length (bits256 .K .base) (shapeOf key .τ);
     that-sum = λ e. column-is bits256 (shapeOf key) key χ leaves (sectionsIn bits256 (shapeOf key) proof) e;
     columns-if-failing = hiding-columns bits256 key leaves proof .failing;
     columns-if-solving = hiding-columns bits256 key leaves proof .solving;
+    every-column-once = numbers-once (bits256 .K) (shapeOf key .m);
+    columns-in-all = strings-length (bits256 .K .base) (shapeOf key .m);
   }

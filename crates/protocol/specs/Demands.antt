@@ -1,5 +1,7 @@
 -- The client's demands 2 and 3, sentence by sentence, over the names that the calls' contracts cite, at GF(256). proofs/Demands proves each.
 -- Well-formed is what 01 says: every question on form gets a yes. `wellFormed` and `verifyForm` are those questions.
+--   𝟎 == 00 of K;  EachOnce n == each string of n bytes stands exactly once among the strings of n elements of K, a byte being an element
+--   InAll n == those strings are 256^n
 -- Assumes nothing.
 use mathlib.Core.Path.{_≡_}
 use mathlib.Core.Logic.{_≢_, _⊎_, _↔_}
@@ -32,6 +34,12 @@ use Rattle.protocol.specs.Statements.{SomeFails, errorOf}
 abbrev pub 𝟎 : bits256 .K .base .R .F
 𝟎 = bits256 .K .base .R .𝟘
 
+abbrev pub EachOnce : ℕ → Type 0
+EachOnce n = (s : List ℕ) → length s ≡ n → bytes s → count (λ z. same eqb (map (bits256 .K .byte) z) s) (strings (bits256 .K .base) n) ≡ 1
+
+abbrev pub InAll : ℕ → Type 0
+InAll n = length (strings (bits256 .K .base) n) ≡ 256 ^ n
+
 -- Demand 2. "The prover's every byte equals what the published protocol's equations give for that key, witness, leaves and challenges": `proofOf` is these
 -- bytes, and the contracts of the calls cite it. Here: the three steps' bytes, one after the other, are the whole call's.
 abbrev pub StepBytes : Type 0
@@ -63,10 +71,10 @@ module _ (key leaves H′ χ proof : List ℕ) where
 
   -- Counted are all Δ of τ bytes: each stands exactly once among the strings that are counted, and they are 256^τ.
   abbrev pub EveryChallengeOnce : Type 0
-  EveryChallengeOnce = (Δ : List ℕ) → length Δ ≡ shapeOf key .τ → bytes Δ → count (λ z. same eqb (map (bits256 .K .byte) z) Δ) (strings (bits256 .K .base) (shapeOf key .τ)) ≡ 1
+  EveryChallengeOnce = EachOnce (shapeOf key .τ)
 
   abbrev pub ChallengesInAll : Type 0
-  ChallengesInAll = length (strings (bits256 .K .base) (shapeOf key .τ)) ≡ 256 ^ (shapeOf key .τ)
+  ChallengesInAll = InAll (shapeOf key .τ)
 
   -- "Each factor is 0, 1, 2 or 256."
   abbrev pub EachFactor : Type 0
@@ -98,6 +106,13 @@ module _ (key leaves H′ χ proof : List ℕ) where
   ColumnsIfSolving = (e : ℕ) → ((i : ℕ) → i < shapeOf key .m → errorOf bits256 key leaves proof e i ≡ 𝟎)
       → zeroColumns (bits256 .K .base) (shapeOf key .m) (errorOf bits256 key leaves proof e) ≡ 256 ^ (shapeOf key .m)
 
+  -- "all batching columns": any m elements of K. Each stands exactly once among the columns that are counted, and they are 256^m.
+  abbrev pub EveryColumnOnce : Type 0
+  EveryColumnOnce = EachOnce (shapeOf key .m)
+
+  abbrev pub ColumnsInAll : Type 0
+  ColumnsInAll = InAll (shapeOf key .m)
+
   -- Four statements are of what is well-formed; the others hold of anything.
   pub record Demand3 : Type 0 where
     pub count-equals-product : wellFormed bits256 key leaves H′ χ proof ≡ true → CountEqualsProduct
@@ -109,3 +124,5 @@ module _ (key leaves H′ χ proof : List ℕ) where
     pub that-sum : ThatSum
     pub columns-if-failing : ColumnsIfFailing
     pub columns-if-solving : ColumnsIfSolving
+    pub every-column-once : EveryColumnOnce
+    pub columns-in-all : ColumnsInAll

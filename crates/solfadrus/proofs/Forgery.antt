@@ -51,4 +51,6 @@ verifier-bound key leaves H′ χ proof call form answers =
       that-sum = d .that-sum;
       columns-if-failing = d .columns-if-failing;
       columns-if-solving = d .columns-if-solving;
+      every-column-once = d .every-column-once;
+      columns-in-all = d .columns-in-all;
     }

@@ -17,7 +17,7 @@ use Rattle.protocol.specs.Binary.{bits256}
 use Rattle.protocol.specs.Shape.{shapeOf}
 use Rattle.protocol.specs.Calls.{wellFormed}
 use Rattle.protocol.specs.Counting.{opening, factor}
-use Rattle.protocol.specs.Demands.{EveryChallengeOnce, ChallengesInAll, EachFactor, FullSpellsCandidate, ThatSum, ColumnsIfFailing, ColumnsIfSolving}
+use Rattle.protocol.specs.Demands.{EveryChallengeOnce, ChallengesInAll, EachFactor, FullSpellsCandidate, ThatSum, ColumnsIfFailing, ColumnsIfSolving, EveryColumnOnce, ColumnsInAll}
 use Rattle.solfadrus.specs.Demands.{VerifyTold}
 
 abbrev pub Answers : List ℕ → List ℕ → List ℕ → List ℕ → (List ℕ → List ℕ → ℕ) → Type 0
@@ -46,6 +46,8 @@ pub record ForgeryBound (key leaves H′ χ proof : List ℕ) (call : List ℕ �
   -- "exactly 256 to the power m−1 of all batching columns for m equations make that sum zero if it fails any equation, and all of them if it fails none."
   pub columns-if-failing : ColumnsIfFailing key leaves H′ χ proof
   pub columns-if-solving : ColumnsIfSolving key leaves H′ χ proof
+  pub every-column-once : EveryColumnOnce key leaves H′ χ proof
+  pub columns-in-all : ColumnsInAll key leaves H′ χ proof
 
 abbrev pub VerifierBound : Type 0
 VerifierBound = (key leaves H′ χ proof : List ℕ) (call : List ℕ → List ℕ → ℕ) → wellFormed bits256 key leaves H′ χ proof ≡ true → Answers key H′ χ proof call
