@@ -31,9 +31,10 @@ use Rattle.protocol.specs.Questions.{solves}
 use Rattle.protocol.specs.Demands.{StepBytes, RefusedExactlyWhen, AcceptsExactlyWhen, HonestProofAccepted, Demand3}
 use Rattle.protocol.proofs.TestLaws.{bool-iff, eqb-eq, eqb-same, all-at}
 use Rattle.protocol.proofs.ListLaws.{table-at}
+use Rattle.protocol.proofs.StringLaws.{pack-bytes}
 use Rattle.protocol.proofs.BinaryLaws.{bits256-lawful}
 use Rattle.protocol.proofs.Published.{refuses-exactly-when}
-use Rattle.protocol.proofs.Theorems.{steps-are-whole, accepts-exactly, honest-accepted, forgery-count, hiding-columns}
+use Rattle.protocol.proofs.Theorems.{steps-are-whole, accepts-exactly, honest-accepted, forgery-count, hiding-columns, candidate-is-witness}
 
 pub step-bytes : StepBytes
 step-bytes = steps-are-whole bits256
@@ -96,6 +97,7 @@ module _ (key leaves H′ χ proof : List ℕ) where
     full-spells-candidate = λ h. forgery-count bits256 key leaves H′ χ proof h .full-error;
     every-challenge-once = numbers-once (bits256 .K) (shapeOf key .τ);
     challenges-in-all = strings-length (bits256 .K .base) (shapeOf key .τ);
+    candidate-is-witness = (candidate-is-witness bits256 bits256-lawful key leaves proof, λ e. pack-bytes (shapeOf key .n) _ (λ c. bits256-lawful .symbol-lt _));
     that-sum = λ e. column-is bits256 (shapeOf key) key χ leaves (sectionsIn bits256 (shapeOf key) proof) e;
     columns-if-failing = hiding-columns bits256 key leaves proof .failing;
     columns-if-solving = hiding-columns bits256 key leaves proof .solving;

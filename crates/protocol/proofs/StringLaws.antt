@@ -1,4 +1,4 @@
--- Packed bits read back; and a string whose spare bits are 0 is its coordinates.
+-- Packed bits read back, and are bytes; and a string whose spare bits are 0 is its coordinates.
 -- Assumes nothing.
 use mathlib.Core.Path.{_≡_, refl, sym, ap, ap₂, _∙_}
 use mathlib.Core.Bool.{Bool, true, false, cond}
@@ -66,6 +66,17 @@ pub pack-spare : (L : ℕ) (f : ℕ → ℕ) → ((c : ℕ) → f c < 2) → spa
 unfolding spareZero
 pack-spare L f h =
     all-of (length (pack L f) * 8 - L) _ (λ i l. eqb-same _ 0 (pack-bit L f h (L + i) (omega (arith, length-pack L f)) ∙ ap (λ b. cond b (f (L + i)) 0) (ltb-no (L + i) L (omega arith))))
+
+pub bits-lt : (n : ℕ) (g : ℕ → ℕ) → ((i : ℕ) → g i < 2) → fromBits n g < 2 ^ n
+unfolding fromBits
+bits-lt zero g h = omega arith
+bits-lt (suc n) g h = omega (arith, h 0, bits-lt n (λ i. g (suc i)) (λ i. h (suc i)), pow-suc 2 n)
+
+pub pack-bytes : (L : ℕ) (f : ℕ → ℕ) → ((c : ℕ) → f c < 2) → bytes (pack L f)
+unfolding pack
+pack-bytes L f h i l =
+    let k : i < bytesFor L = omega (arith, length-pack L f) in
+    rw (table-at (bytesFor L) (λ b. fromBits 8 (λ i. cond (ltb (b * 8 + i) L) (f (b * 8 + i)) 0)) 0 i k) (bits-lt 8 _ (λ p. cond-lt (ltb (i * 8 + p) L) _ (h (i * 8 + p))))
 
 -- ---- a string is its coordinates
 

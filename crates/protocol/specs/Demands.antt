@@ -29,7 +29,7 @@ use Rattle.protocol.specs.Answers.{Answer, accepted, numberOf}
 use Rattle.protocol.specs.Questions.{solves, consistentIn, productIn}
 use Rattle.protocol.specs.Calls.{verifyAnswer, proveForm, honestForm, verifyForm, wellFormed, ProveReply}
 use Rattle.protocol.specs.Counting.{opening, acceptedCount, factor}
-use Rattle.protocol.specs.Statements.{SomeFails, errorOf}
+use Rattle.protocol.specs.Statements.{SomeFails, errorOf, CandidateIsWitness, candidateBytes}
 
 abbrev pub 𝟎 : bits256 .K .base .R .F
 𝟎 = bits256 .K .base .R .𝟘
@@ -90,6 +90,10 @@ module _ (key leaves H′ χ proof : List ℕ) where
   abbrev pub FullSpellsCandidate : Type 0
   FullSpellsCandidate = (e : ℕ) → e < shapeOf key .τ → factor bits256 key leaves H′ χ proof e ≡ 256 → batchedError bits256 (shapeOf key) key χ leaves (sectionsIn bits256 (shapeOf key) proof) e ≡ 𝟎
 
+  -- "a candidate witness": its bytes are a witness of the right form, at which each equation's error is the candidate's.
+  abbrev pub CandidateWitness : Type 0
+  CandidateWitness = CandidateIsWitness bits256 key leaves proof × ((e : ℕ) → bytes (candidateBytes bits256 key leaves proof e))
+
   -- "that sum": of the errors, each times the entry of a column, here the column of χ for repetition e.
   abbrev pub ThatSum : Type 0
   ThatSum = (e : ℕ) → batchedError bits256 (shapeOf key) key χ leaves (sectionsIn bits256 (shapeOf key) proof) e
@@ -121,6 +125,7 @@ module _ (key leaves H′ χ proof : List ℕ) where
     pub full-spells-candidate : wellFormed bits256 key leaves H′ χ proof ≡ true → FullSpellsCandidate
     pub every-challenge-once : EveryChallengeOnce
     pub challenges-in-all : ChallengesInAll
+    pub candidate-is-witness : CandidateWitness
     pub that-sum : ThatSum
     pub columns-if-failing : ColumnsIfFailing
     pub columns-if-solving : ColumnsIfSolving

@@ -48,6 +48,7 @@ verifier-bound key leaves H′ χ proof call form answers =
       each-factor = d .each-factor form;
       large-count-needs-full = λ h. d .large-count-needs-full form (subst (λ (n : ℕ). 2 ^ (shapeOf key .τ) < n) same h);
       full-spells-candidate = d .full-spells-candidate form;
+      candidate-is-witness = d .candidate-is-witness;
       that-sum = d .that-sum;
       columns-if-failing = d .columns-if-failing;
       columns-if-solving = d .columns-if-solving;

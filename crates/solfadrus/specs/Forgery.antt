@@ -17,7 +17,7 @@ use Rattle.protocol.specs.Binary.{bits256}
 use Rattle.protocol.specs.Shape.{shapeOf}
 use Rattle.protocol.specs.Calls.{wellFormed}
 use Rattle.protocol.specs.Counting.{opening, factor}
-use Rattle.protocol.specs.Demands.{EveryChallengeOnce, ChallengesInAll, EachFactor, FullSpellsCandidate, ThatSum, ColumnsIfFailing, ColumnsIfSolving, EveryColumnOnce, ColumnsInAll}
+use Rattle.protocol.specs.Demands.{EveryChallengeOnce, ChallengesInAll, EachFactor, FullSpellsCandidate, CandidateWitness, ThatSum, ColumnsIfFailing, ColumnsIfSolving, EveryColumnOnce, ColumnsInAll}
 use Rattle.solfadrus.specs.Demands.{VerifyTold}
 
 abbrev pub Answers : List ℕ → List ℕ → List ℕ → List ℕ → (List ℕ → List ℕ → ℕ) → Type 0
@@ -42,6 +42,7 @@ pub record ForgeryBound (key leaves H′ χ proof : List ℕ) (call : List ℕ �
   pub large-count-needs-full : 2 ^ (shapeOf key .τ) < acceptedBy key leaves call → (e : ℕ) × (e < shapeOf key .τ) × (factor bits256 key leaves H′ χ proof e ≡ 256)
   -- and wherever one is, the leaves and corrections spell for that repetition a candidate witness whose equation errors, each times its batching byte, sum to zero."
   pub full-spells-candidate : FullSpellsCandidate key leaves H′ χ proof
+  pub candidate-is-witness : CandidateWitness key leaves H′ χ proof
   pub that-sum : ThatSum key leaves H′ χ proof
   -- "exactly 256 to the power m−1 of all batching columns for m equations make that sum zero if it fails any equation, and all of them if it fails none."
   pub columns-if-failing : ColumnsIfFailing key leaves H′ χ proof

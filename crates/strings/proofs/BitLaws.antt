@@ -12,6 +12,7 @@ use native.Mathlib.Decide.{ℕ-discrete}
 use native.Mathlib.Omega.{arith, ne-cases}
 use lib.Bits.{bitAnd, bitXor, and-mask, xor-comm, xor-shifted, xor-zero-r}
 use Rattle.protocol.specs.Strings.{bytesFor, bit, fromBits}
+use Rattle.protocol.proofs.StringLaws.{bits-lt}
 use Rattle.strings.specs.Sums.{byteAt, bitOf, xorSum}
 use Rattle.strings.proofs.Meaning.{bitOf-xor, bit-is}
 
@@ -22,11 +23,6 @@ bits-more (suc n) g =
     ap (λ x. g 0 + 2 * x) (bits-more n (λ i. g (suc i)))
     ∙ let e : g (suc n) * 2 ^ suc n ≡ 2 * (g (suc n) * 2 ^ n) = ap (λ x. g (suc n) * x) (pow-suc 2 n) ∙ sym (mul-assoc (g (suc n)) (2 ^ n) 2) ∙ mul-comm (g (suc n) * 2 ^ n) 2 in
     omega (arith, e)
-
-pub bits-lt : (n : ℕ) (g : ℕ → ℕ) → ((i : ℕ) → g i < 2) → fromBits n g < 2 ^ n
-unfolding fromBits
-bits-lt zero g h = omega arith
-bits-lt (suc n) g h = omega (arith, h 0, bits-lt n (λ i. g (suc i)) (λ i. h (suc i)), pow-suc 2 n)
 
 pub bits-sum : (n : ℕ) (g : ℕ → ℕ) → ((i : ℕ) → g i < 2) → xorSum n (λ p. g p * 2 ^ p) ≡ fromBits n g
 unfolding fromBits xorSum
