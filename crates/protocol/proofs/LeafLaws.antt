@@ -11,9 +11,11 @@ use native.Mathlib.Omega.{arith}
 use lib.Dec.{eqb}
 use lib.ListN.{length, getD, length-map}
 use Rattle.protocol.specs.Lists.{blockAt, concat}
+use Rattle.protocol.specs.Strings.{bytes}
 use Rattle.protocol.specs.Leaves.{rising, unless, except, place, leafAt, openTree, openLeaves, openedLeaf}
 use Rattle.protocol.proofs.TestLaws.{eqb-other, eqb-same, ltb-yes, ltb-no}
 use Rattle.protocol.proofs.ListLaws.{row-end, length-block, Each, block-concat, length-concat, getD-map, table-block, table-length, Cut, cut-none, cut-one, cut-append, cut-table}
+use Rattle.protocol.proofs.StringLaws.{bytes-block, bytes-map, bytes-table}
 
 length-rising : (a n : ℕ) → length (rising a n) ≡ n
 unfolding rising
@@ -149,6 +151,12 @@ module _ (q w τ : ℕ) (leaves : List ℕ) (h : length leaves ≡ τ * q * w) (
   pub cut-opened : (Δ : List ℕ) → ((e : ℕ) → e < τ → getD Δ e 0 < q) → Cut w (τ * (q - 1)) P (openLeaves q w τ leaves Δ)
   unfolding openLeaves
   cut-opened Δ b = cut-table w (q - 1) τ P (λ e. openTree q w leaves e (getD Δ e 0)) (λ e le. cut-tree e (getD Δ e 0) le (b e le))
+
+-- what is opened is bytes where the leaves are
+pub opened-bytes : (q w τ : ℕ) (leaves Δ : List ℕ) → bytes leaves → bytes (openLeaves q w τ leaves Δ)
+unfolding openLeaves openTree leafAt
+opened-bytes q w τ leaves Δ h =
+    bytes-table τ (λ e. openTree q w leaves e (getD Δ e 0)) (λ e. bytes-map (leafAt q w leaves e) (λ j. bytes-block leaves w (e * q + j) h) (except (getD Δ e 0) (rising 0 q)))
 
 module _ (q w τ : ℕ) (leaves : List ℕ) (h : length leaves ≡ τ * q * w) (Δ : List ℕ) (b : (e : ℕ) → e < τ → getD Δ e 0 < q) where
   tree-length : (e : ℕ) → e < τ → length (openTree q w leaves e (getD Δ e 0)) ≡ (q - 1) * w

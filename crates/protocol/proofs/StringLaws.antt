@@ -1,8 +1,8 @@
--- Packed bits read back, and are bytes; and a string whose spare bits are 0 is its coordinates.
+-- Packed bits read back, and are bytes; what is cut from bytes or joined of them is bytes; and a string whose spare bits are 0 is its coordinates.
 -- Assumes nothing.
 use mathlib.Core.Path.{_≡_, refl, sym, ap, ap₂, _∙_}
 use mathlib.Core.Bool.{Bool, true, false, cond}
-use mathlib.Core.List.{List}
+use mathlib.Core.List.{List, [], _∷_, _++_, map}
 use Prim.Native.Nat.{ℕ, zero, suc, _+_, _*_, _-_, _/_, _%_, _^_, _≤_, _<_}
 use native.Mathlib.Nat.{div-one, pow-suc, div-lt-iff-lt-mul, mod-lt}
 use native.Mathlib.Decide.{decLt}
@@ -10,12 +10,12 @@ use native.Mathlib.Omega.{arith}
 use lib.Arith.{lt-one}
 use lib.Dec.{eqb, ltb, lit<}
 use lib.Pow.{shr-shr}
-use lib.ListN.{length, getD}
+use lib.ListN.{length, getD, length-take, length-drop}
 use lib.Seq.{ext-getD}
-use Rattle.protocol.specs.Lists.{table, allBelow}
+use Rattle.protocol.specs.Lists.{table, allBelow, concat, part, blockAt}
 use Rattle.protocol.specs.Strings.{bytesFor, bit, fromBits, pack, spareZero, bytes}
 use Rattle.protocol.proofs.TestLaws.{eqb-same, eqb-eq, ltb-yes, ltb-no, all-of, all-at}
-use Rattle.protocol.proofs.ListLaws.{length-table, table-at, table-congr}
+use Rattle.protocol.proofs.ListLaws.{length-table, table-at, table-congr, block-getD}
 
 pub bit-lt : (s : List ℕ) (c : ℕ) → bit s c < 2
 unfolding bit
@@ -77,6 +77,29 @@ unfolding pack
 pack-bytes L f h i l =
     let k : i < bytesFor L = omega (arith, length-pack L f) in
     rw (table-at (bytesFor L) (λ b. fromBits 8 (λ i. cond (ltb (b * 8 + i) L) (f (b * 8 + i)) 0)) 0 i k) (bits-lt 8 _ (λ p. cond-lt (ltb (i * 8 + p) L) _ (h (i * 8 + p))))
+
+-- ---- parts of a string of bytes, and strings of bytes put together
+
+pub bytes-block : (s : List ℕ) (w i : ℕ) → bytes s → bytes (blockAt s w i)
+unfolding blockAt part
+bytes-block s w i h b l =
+    let k : b < w = omega (arith, simp length-take at l) in
+    rw (block-getD s w i b k) (h (i * w + b) (omega (arith, simp (length-take, length-drop) at l)))
+
+pub bytes-append : (s t : List ℕ) → bytes s → bytes t → bytes (s ++ t)
+bytes-append [] t a b i l = b i l
+bytes-append (x ∷ s) t a b zero l = a 0 (omega arith)
+bytes-append (x ∷ s) t a b (suc i) l = bytes-append s t (λ j k. a (suc j) (omega arith)) b i (omega arith)
+
+pub bytes-map : (f : ℕ → List ℕ) → ((i : ℕ) → bytes (f i)) → (js : List ℕ) → bytes (concat (map f js))
+unfolding concat
+bytes-map f h [] = λ i l. absurd (omega arith)
+bytes-map f h (j ∷ js) = bytes-append (f j) (concat (map f js)) (h j) (bytes-map f h js)
+
+pub bytes-table : (n : ℕ) (f : ℕ → List ℕ) → ((i : ℕ) → bytes (f i)) → bytes (concat (table n f))
+unfolding concat table
+bytes-table zero f h = λ i l. absurd (omega arith)
+bytes-table (suc n) f h = bytes-append (f 0) (concat (table n (λ i. f (suc i)))) (h 0) (bytes-table n (λ i. f (suc i)) (λ i. h (suc i)))
 
 -- ---- a string is its coordinates
 

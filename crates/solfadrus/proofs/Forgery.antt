@@ -5,13 +5,20 @@ use mathlib.Core.Bool.{Bool, true}
 use mathlib.Core.List.{List, map}
 use Prim.Native.Nat.{ℕ, _^_, _<_}
 use lib.Dec.{eqb}
+use lib.ListN.{getD, length-map}
+use Rattle.algebra.specs.Ring.{Ring}
+use Rattle.algebra.specs.Field.{Field}
+use Rattle.algebra.specs.Coded.{Coded}
 use Rattle.algebra.proofs.CountLaws.{words-congr}
+use Rattle.protocol.specs.Strings.{bytes}
 use Rattle.protocol.specs.Binary.{bits256}
-use Rattle.protocol.specs.Shape.{Shape, shapeOf}
+use Rattle.protocol.specs.Shape.{Shape, shapeOf, perTree, wOf}
 use Rattle.protocol.specs.Answers.{Answer, accepted, word, isAccepted, Published}
 use Rattle.protocol.specs.Calls.{verifyAnswer}
 use Rattle.protocol.specs.Counting.{opening, acceptedCount}
 use Rattle.protocol.proofs.TestLaws.{eqb-eq, eqb-same, bool-iff}
+use Rattle.protocol.proofs.ListLaws.{getD-map}
+use Rattle.protocol.proofs.LeafLaws.{opened-bytes}
 use Rattle.protocol.proofs.AnswerLaws.{accepted-of}
 use Rattle.protocol.proofs.Published.{all-published}
 use Rattle.protocol.proofs.Demands.{demand-3}
@@ -24,23 +31,35 @@ zero-accepts s a p =
     bool-iff (eqb (word a) 0) (isAccepted a) (λ h. ap isAccepted (only-accepted s a p (eqb-eq (word a) 0 h)))
     (λ h. eqb-same (word a) 0 (ap word (accepted-of a h) ∙ word-accepted))
 
-module _ (key leaves H′ χ proof : List ℕ) (call : List ℕ → List ℕ → ℕ) (answers : Answers key H′ χ proof call) where
+-- what a challenge string and its opening are made of
+numbers-bytes : (z : List (bits256 .K .base .R .F)) → bytes (map (bits256 .K .byte) z)
+numbers-bytes z i l = rw (getD-map (bits256 .K .byte) z i (bits256 .K .base .R .𝟘) 0 (rw (length-map z (bits256 .K .byte)) at l)) (bits256 .K .byte-lt (getD z i (bits256 .K .base .R .𝟘)))
+
+opening-bytes : (s : Shape) (leaves Δ : List ℕ) → bytes leaves → bytes (opening bits256 s leaves Δ)
+unfolding opening
+opening-bytes s leaves Δ h = opened-bytes (perTree bits256) (wOf bits256 s) (s .τ) leaves Δ h
+
+module _ (key leaves H′ χ proof : List ℕ) (call : List ℕ → List ℕ → ℕ) (small : bytes leaves) (answers : Answers key H′ χ proof call) where
   abbrev answer : List ℕ → Answer
   answer Δ = verifyAnswer bits256 key Δ H′ χ (opening bits256 (shapeOf key) leaves Δ) proof
 
-  same-test : (Δ : List ℕ) → accepts key leaves call Δ ≡ isAccepted (answer Δ)
-  same-test Δ =
-      ap (λ (r : ℕ). eqb r 0) (answers Δ (opening bits256 (shapeOf key) leaves Δ))
+  same-test : (Δ : List ℕ) → bytes Δ → accepts key leaves call Δ ≡ isAccepted (answer Δ)
+  same-test Δ b =
+      ap (λ (r : ℕ). eqb r 0) (answers Δ (opening bits256 (shapeOf key) leaves Δ) b (opening-bytes (shapeOf key) leaves Δ small))
       ∙ zero-accepts (shapeOf key) (answer Δ) (all-published bits256 .verify-published key Δ H′ χ (opening bits256 (shapeOf key) leaves Δ) proof)
 
   same-count : acceptedBy key leaves call ≡ acceptedCount bits256 key leaves H′ χ proof
   unfolding acceptedCount
-  same-count = words-congr (bits256 .K .base .elements) (shapeOf key .τ) _ _ (λ z l. same-test (map (bits256 .K .byte) z))
+  same-count = words-congr (bits256 .K .base .elements) (shapeOf key .τ) _ _ (λ z l. same-test (map (bits256 .K .byte) z) (numbers-bytes z))
+
+-- there is such a call, so that the bound is of something
+pub answers-met : (key H′ χ proof : List ℕ) → Answers key H′ χ proof (λ Δ opened. word (verifyAnswer bits256 key Δ H′ χ opened proof))
+answers-met key H′ χ proof Δ opened b c = refl
 
 pub verifier-bound : VerifierBound
-verifier-bound key leaves H′ χ proof call form answers =
+verifier-bound key leaves H′ χ proof call form small answers =
     let d = demand-3 key leaves H′ χ proof in
-    let same = same-count key leaves H′ χ proof call answers in
+    let same = same-count key leaves H′ χ proof call small answers in
     record {
       count-is-product = same ∙ d .count-equals-product form;
       every-challenge-once = d .every-challenge-once;

@@ -1,5 +1,5 @@
 -- Demand 3 of mq_verify: whatever a stranger hands us, how many challenge strings the call accepts. It is proved of every function that keeps mq_verify's promise.
---   Answers key H′ χ proof call == call Δ opened is a number that mq_verify may answer, for every Δ and every string of opened leaves
+--   Answers key H′ χ proof call == call Δ opened is a number that mq_verify may answer, for every Δ and every string of opened leaves, of bytes as C lends them
 --   accepts key leaves call Δ == the call answers 0 at the challenge string Δ, with the leaves opened there
 --   acceptedBy key leaves call == how many of the 256^τ challenge strings it accepts
 -- Assumes nothing.
@@ -13,6 +13,7 @@ use Rattle.algebra.specs.Field.{Field}
 use Rattle.algebra.specs.Coded.{Coded}
 use Rattle.algebra.specs.Count.{count, product}
 use Rattle.algebra.specs.Strings.{strings}
+use Rattle.protocol.specs.Strings.{bytes}
 use Rattle.protocol.specs.Binary.{bits256}
 use Rattle.protocol.specs.Shape.{shapeOf}
 use Rattle.protocol.specs.Calls.{wellFormed}
@@ -21,7 +22,7 @@ use Rattle.protocol.specs.Demands.{EveryChallengeOnce, ChallengesInAll, EachFac
 use Rattle.solfadrus.specs.Demands.{VerifyTold}
 
 abbrev pub Answers : List ℕ → List ℕ → List ℕ → List ℕ → (List ℕ → List ℕ → ℕ) → Type 0
-Answers key H′ χ proof call = (Δ opened : List ℕ) → VerifyTold key Δ H′ χ opened proof (call Δ opened)
+Answers key H′ χ proof call = (Δ opened : List ℕ) → bytes Δ → bytes opened → VerifyTold key Δ H′ χ opened proof (call Δ opened)
 
 abbrev pub accepts : List ℕ → List ℕ → (List ℕ → List ℕ → ℕ) → List ℕ → Bool
 accepts key leaves call Δ = eqb (call Δ (opening bits256 (shapeOf key) leaves Δ)) 0
@@ -51,5 +52,5 @@ pub record ForgeryBound (key leaves H′ χ proof : List ℕ) (call : List ℕ �
   pub columns-in-all : ColumnsInAll key leaves H′ χ proof
 
 abbrev pub VerifierBound : Type 0
-VerifierBound = (key leaves H′ χ proof : List ℕ) (call : List ℕ → List ℕ → ℕ) → wellFormed bits256 key leaves H′ χ proof ≡ true → Answers key H′ χ proof call
-    → ForgeryBound key leaves H′ χ proof call
+VerifierBound = (key leaves H′ χ proof : List ℕ) (call : List ℕ → List ℕ → ℕ) → wellFormed bits256 key leaves H′ χ proof ≡ true → bytes leaves
+    → Answers key H′ χ proof call → ForgeryBound key leaves H′ χ proof call

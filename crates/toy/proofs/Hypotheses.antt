@@ -3,17 +3,21 @@
 use mathlib.Core.Path.{_≡_, refl, sym, _∙_}
 use mathlib.Core.Bool.{true}
 use mathlib.Core.Logic.{_≢_}
-use mathlib.Core.List.{[], _∷_}
-use Prim.Native.Nat.{ℕ, zero, suc, _<_}
+use mathlib.Core.List.{List, [], _∷_}
+use Prim.Native.Nat.{ℕ, zero, suc, _≤_, _<_}
 use native.Mathlib.Omega.{arith}
-use lib.Dec.{lit<}
+use lib.Dec.{leb, lit<}
+use lib.ListN.{length, getD}
 use Rattle.algebra.specs.Columns.{zeroColumns}
+use Rattle.protocol.specs.Lists.{allBelow}
+use Rattle.protocol.specs.Strings.{bytes}
 use Rattle.protocol.specs.Frames.{num2}
 use Rattle.protocol.specs.Shape.{shapeOf}
 use Rattle.protocol.specs.Questions.{solves}
 use Rattle.protocol.specs.Calls.{testForm, commitForm, batchForm, proveForm, verifyForm, honestForm, wellFormed}
 use Rattle.protocol.specs.Counting.{opening, factor}
 use Rattle.protocol.specs.Statements.{errorOf}
+use Rattle.protocol.proofs.TestLaws.{leb-le, all-at}
 use Rattle.protocol.proofs.Demands.{demand-3}
 use Rattle.toy.specs.Toy.{A, s, keyWith, key, key₀, leaves, x, H′, χ, out, proof, proofQS1, proofṼ}
 use Rattle.toy.specs.Hypotheses.{HypothesesMet}
@@ -64,6 +68,13 @@ QS1-well-formed = refl
 unfolding computing
 Ṽ-well-formed = refl
 
+bytes-by : (s : List ℕ) → allBelow (length s) (λ i. leb (getD s i 0) 255) ≡ true → bytes s
+bytes-by s h i l = let k : getD s i 0 ≤ 255 = leb-le _ 255 (all-at (length s) (λ i. leb (getD s i 0) 255) h i l) in omega arith
+
+leaves-bytes : bytes leaves
+unfolding computing
+leaves-bytes = bytes-by leaves refl
+
 factor-none : factor A key leaves H′ χ proofṼ 0 ≡ 0
 unfolding computing
 factor-none = factor-by 0x01 proofṼ (conditionsWith 0x01 0x00 0x00) 0 refl refl
@@ -111,6 +122,7 @@ hypotheses-met = record {
   QS1-well-formed = QS1-well-formed;
   Ṽ-well-formed = Ṽ-well-formed;
   forged-well-formed = forged-well-formed;
+  leaves-bytes = leaves-bytes;
   factor-none = factor-none;
   factor-one = factor-one;
   factor-two = factor-two;

@@ -6,6 +6,7 @@ use mathlib.Core.Path.{_≡_}
 use mathlib.Core.Bool.{true}
 use mathlib.Core.List.{[], _∷_}
 use Rattle.algebra.specs.Columns.{zeroColumns}
+use Rattle.protocol.specs.Strings.{bytes}
 use Rattle.protocol.specs.Shape.{shapeOf}
 use Rattle.protocol.specs.Questions.{solves}
 use Rattle.protocol.specs.Calls.{testForm, commitForm, batchForm, proveForm, verifyForm, honestForm, wellFormed}
@@ -30,6 +31,7 @@ pub record HypothesesMet : Type 0 where
   pub QS1-well-formed : wellFormed A key leaves H′ χ proofQS1 ≡ true
   pub Ṽ-well-formed : wellFormed A key leaves H′ χ proofṼ ≡ true
   pub forged-well-formed : wellFormed A key₀ leaves H′ χ proofQS1 ≡ true
+  pub leaves-bytes : bytes leaves
   -- "Each factor is 0, 1, 2 or 256": of these proofs, each of the four occurs.
   pub factor-none : factor A key leaves H′ χ proofṼ 0 ≡ 0
   pub factor-one : factor A key leaves H′ χ proofQS1 0 ≡ 1
