@@ -5,9 +5,11 @@ use mathlib.Core.List.{List, [], _∷_, _++_, append-assoc}
 use Prim.Native.Nat.{ℕ, zero, suc, _+_, _/_, _%_, _≤_, _<_}
 use native.Mathlib.Decide.{decLe}
 use native.Mathlib.Omega.{arith}
-use lib.ListN.{length, length-append}
+use lib.ListN.{length, set, drop, length-append}
+use lib.Seq.{sets, sets-eq}
 use Rattle.protocol.specs.Check.{decimalDigits, decimal}
 use Rattle.protocol.proofs.TestLaws.{ltb-yes, ltb-no}
+use Rattle.checking.specs.Checked.{lineText}
 
 digits-one : (f x : ℕ) → x < 10 → decimalDigits (suc f) x ≡ (48 + x) ∷ []
 unfolding decimalDigits
@@ -55,7 +57,36 @@ five-digits x h =
     let one : length (decimal (x / 10 / 10 / 10 / 10)) ≤ 1 = omega (arith, length-one (x / 10 / 10 / 10 / 10) (omega arith)) in
     one-more 4 x (one-more 3 (x / 10) (one-more 2 (x / 10 / 10) (one-more 1 (x / 10 / 10 / 10) one)))
 
--- the parts of a line, as they are written one after the other
-pub line-parts : (word number place end : List ℕ) → word ++ (32 ∷ number) ++ (32 ∷ place) ++ end ≡ word ++ (32 ∷ (number ++ (32 ∷ place)) ++ end)
-line-parts w n p e =
-    append-assoc (w ++ (32 ∷ n)) (32 ∷ p) e ∙ append-assoc w (32 ∷ n) ((32 ∷ p) ++ e) ∙ ap (λ l. w ++ l) (sym (append-assoc (32 ∷ n) (32 ∷ p) e))
+-- ---- the parts of a line, as they are stored one after the other
+
+pub sets-more : (l vs ws : List ℕ) (i k : ℕ) → k ≡ i + length vs → sets (sets l i vs) k ws ≡ sets l i (vs ++ ws)
+sets-more l [] ws i k e =
+    let z : k ≡ i = omega arith in
+    ap (λ k. sets l k ws) z
+sets-more l (v ∷ vs) ws i k e = sets-more (set l i v) vs ws (suc i) k (omega arith)
+
+pub sets-first : (l vs : List ℕ) → length vs ≤ length l → sets l 0 vs ≡ vs ++ drop (length vs) l
+sets-first l vs h =
+    let z : 0 + length vs ≡ length vs = omega arith in
+    sets-eq vs l 0 (omega arith) ∙ ap (λ k. vs ++ drop k l) z
+
+module _ (out word : List ℕ) (i p n₁ n₂ n₃ : ℕ) (e₁ : n₁ ≡ length word) (e₂ : n₂ ≡ n₁ + length (32 ∷ decimal i)) (e₃ : n₃ ≡ n₂ + length (32 ∷ decimal p)) where
+  pub line-length : n₃ + 1 ≡ length (lineText word i p)
+  line-length = simp length-append (omega arith)
+
+  line-sets : set (sets (sets (sets out 0 word) n₁ (32 ∷ decimal i)) n₂ (32 ∷ decimal p)) n₃ 10 ≡ sets out 0 (lineText word i p)
+  line-sets =
+      let end : List ℕ = 10 ∷ [] in
+      let place : List ℕ = 32 ∷ decimal p in
+      let numbers : List ℕ = (32 ∷ decimal i) ++ place in
+      let s : List ℕ = sets out 0 word in
+      ap (λ l. sets l n₃ end) (sets-more s (32 ∷ decimal i) place n₁ n₂ e₂)
+      ∙ sets-more s numbers end n₁ n₃ (simp length-append (omega arith))
+      ∙ sets-more out word (numbers ++ end) 0 n₁ (omega arith)
+
+  -- stored in four parts, the line stands at the start and what was after it is as it was
+  pub line-stored : n₃ + 1 ≤ length out → set (sets (sets (sets out 0 word) n₁ (32 ∷ decimal i)) n₂ (32 ∷ decimal p)) n₃ 10 ≡ lineText word i p ++ drop (n₃ + 1) out
+  line-stored h =
+      line-sets
+      ∙ sets-first out (lineText word i p) (rw (← line-length) h)
+      ∙ ap (λ k. lineText word i p ++ drop k out) (sym line-length)

@@ -1,18 +1,22 @@
 // The check program's line: verdict, number and place, a space between. Each part is written after what stands there already.
 ghost use mathlib.Core.Path.{_≡_};
-ghost use mathlib.Core.List.{[], _∷_, _++_};
+ghost use mathlib.Core.List.{_∷_, _++_};
 ghost use Prim.Native.Nat.{_+_, _<_, _≤_};
-ghost use lib.ListN.{length, take};
+ghost use lib.ListN.{length, set, drop};
+ghost use lib.Seq.{sets};
 ghost use Rattle.protocol.specs.Check.{decimal, lineOf};
-ghost use Rattle.checking.specs.Checked.{checkedOf};
+ghost use Rattle.checking.specs.Checked.{checkedOf, lineText};
 use super::Checked;
 use format::Verdict;
+
+// Room for a line. A bound is 21 (a word of 8, two numbers of 16 bits); the longest, `refused 11 159` and its line feed, has 15.
+pub const LINE: usize = 32;
 
 // One byte more.
 fn put_byte(out: &mut [u8], at: usize, byte: u8) -> usize
     requires { ⌜ at < length (now out) ⌝ }
     ensures { λ r. ⌜ r ≡ at + 1 ⌝ }
-    ensures put { λ r. ⌜ take r (now (out .exit)) ≡ take at (now (out .entry)) ++ (byte ∷ []) ⌝ }
+    ensures put { λ r. ⌜ now (out .exit) ≡ set (now (out .entry)) at byte ⌝ }
 {
     out[at] = byte;
     at + 1
@@ -22,7 +26,7 @@ fn put_byte(out: &mut [u8], at: usize, byte: u8) -> usize
 fn put_word(out: &mut [u8], word: &[u8]) -> usize
     requires { ⌜ length (now word) ≤ length (now out) ⌝ }
     ensures { λ r. ⌜ r ≡ length (now (word .entry)) ⌝ }
-    ensures put { λ r. ⌜ take r (now (out .exit)) ≡ now (word .entry) ⌝ }
+    ensures put { λ r. ⌜ now (out .exit) ≡ sets (now (out .entry)) 0 (now (word .entry)) ⌝ }
 {
     copies::copy_into(&mut out[..word.len()], word);
     word.len()
@@ -32,7 +36,7 @@ fn put_word(out: &mut [u8], word: &[u8]) -> usize
 fn put_decimal(out: &mut [u8], at: usize, x: usize) -> usize
     requires { ⌜ at + length (decimal x) ≤ length (now out) ⌝ }
     ensures { λ r. ⌜ r ≡ at + length (decimal x) ⌝ }
-    ensures put { λ r. ⌜ take r (now (out .exit)) ≡ take at (now (out .entry)) ++ decimal x ⌝ }
+    ensures put { λ r. ⌜ now (out .exit) ≡ sets (now (out .entry)) at (decimal x) ⌝ }
 {
     if x < 10 {
         return put_byte(out, at, 48 + x as u8);
@@ -44,8 +48,8 @@ fn put_decimal(out: &mut [u8], at: usize, x: usize) -> usize
 // A space, and the digits of x.
 fn put_number(out: &mut [u8], at: usize, x: usize) -> usize
     requires { ⌜ (at + 6 ≤ length (now out)) × (x < 65536) ⌝ }
-    ensures { λ r. ⌜ r ≤ at + 6 ⌝ }
-    ensures put { λ r. ⌜ take r (now (out .exit)) ≡ take at (now (out .entry)) ++ (32 ∷ decimal x) ⌝ }
+    ensures { λ r. ⌜ (r ≡ at + length (32 ∷ decimal x)) × (r ≤ at + 6) ⌝ }
+    ensures put { λ r. ⌜ now (out .exit) ≡ sets (now (out .entry)) at (32 ∷ decimal x) ⌝ }
 {
     let next = put_byte(out, at, b' ');
     put_decimal(out, next, x)
@@ -54,8 +58,8 @@ fn put_number(out: &mut [u8], at: usize, x: usize) -> usize
 // A word, two numbers, and the end of the line.
 fn put_line(out: &mut [u8], word: &[u8], number: usize, place: usize) -> usize
     requires { ⌜ (32 ≤ length (now out)) × (length (now word) ≤ 8) × (number < 65536) × (place < 65536) ⌝ }
-    ensures { λ r. ⌜ r ≤ length (now (out .exit)) ⌝ }
-    ensures put { λ r. ⌜ take r (now (out .exit)) ≡ now (word .entry) ++ (32 ∷ (decimal number ++ (32 ∷ decimal place)) ++ (10 ∷ [])) ⌝ }
+    ensures { λ r. ⌜ (r ≡ length (lineText (now (word .entry)) number place)) × (r ≤ length (now (out .exit))) ⌝ }
+    ensures put { λ r. ⌜ now (out .exit) ≡ lineText (now (word .entry)) number place ++ drop r (now (out .entry)) ⌝ }
 {
     let after_word = put_word(out, word);
     let after_number = put_number(out, after_word, number);
@@ -63,11 +67,10 @@ fn put_line(out: &mut [u8], word: &[u8], number: usize, place: usize) -> usize
     put_byte(out, after_place, b'\n')
 }
 
-// The line of an outcome.
-pub fn write_line(outcome: Checked, out: &mut [u8]) -> usize
-    requires { ⌜ 32 ≤ length (now out) ⌝ }
-    ensures { λ r. ⌜ r ≤ length (now (out .exit)) ⌝ }
-    ensures line { λ r. ⌜ take r (now (out .exit)) ≡ lineOf (checkedOf outcome) ⌝ }
+// The line of an outcome, at the start of out; the bytes after it stay as they were.
+pub fn write_line(outcome: Checked, out: &mut [u8; LINE]) -> usize
+    ensures { λ r. ⌜ (r ≡ length (lineOf (checkedOf outcome))) × (r ≤ length (now (out .exit))) ⌝ }
+    ensures line { λ r. ⌜ now (out .exit) ≡ lineOf (checkedOf outcome) ++ drop r (now (out .entry)) ⌝ }
 {
     match outcome {
         Checked::Unread => put_line(out, b"unread", 0, 0),

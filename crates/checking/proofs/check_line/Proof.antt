@@ -1,7 +1,6 @@
 -- `checking::check_line` meets its contract.
 -- Assumes nothing.
-use mathlib.Core.Path.{ap, _∙_}
-use Rattle.protocol.specs.Check.{lineOf, checkLine}
+use Rattle.protocol.specs.Check.{checkLine}
 use borrow.Author.Needs.{needs}
 use Rattle.checking.proofs.check_line.Statement.{statement}
 use Rattle.checking.proofs.check_line.Tie as tie
@@ -12,15 +11,10 @@ read-and-verify-requires c κs = search needs
 write-line-requires : tie.Need-write-line-requires
 write-line-requires c κs = search needs
 
-same-length : tie.Need-same-length
-same-length c = search needs
-
 returns : tie.Need-returns
 unfolding checkLine
-returns c =
-    let wrote = c .before .before .write-line in
-    (wrote .ensures .0, wrote .ensures .1 ∙ ap lineOf (c .before .before .before .before .read-and-verify .ensures))
+returns c = rw (← c .before .before .read-and-verify .ensures) (c .write-line .ensures)
 
 pub check-line-spec : {M : Type 1} → statement M
 check-line-spec =
-    tie.close (tie.spec read-and-verify-requires write-line-requires same-length returns)
+    tie.close (tie.spec read-and-verify-requires write-line-requires returns)

@@ -18,9 +18,6 @@ array-share-prefix-input c = search needs
 slice-aggregate-check-line : tie.Need-slice-aggregate-check-line
 slice-aggregate-check-line c = search needs
 
-slice-aggregate-check-line-2 : tie.Need-slice-aggregate-check-line-2
-slice-aggregate-check-line-2 c = search needs
-
 check-line-requires : tie.Need-check-line-requires
 check-line-requires c κs = search needs
 
@@ -44,7 +41,6 @@ main-spec =
     read-full-requires
     array-share-prefix-input
     slice-aggregate-check-line
-    slice-aggregate-check-line-2
     check-line-requires
     array-share-prefix-line
     slice-aggregate-write-all

@@ -1,14 +1,15 @@
 -- `checking::line::put_decimal` meets its contract: the digits of a tenth, then the last one. The measure is the number.
 -- Assumes nothing.
 use mathlib.Core.Path.{sym, ap, subst, _∙_}
-use mathlib.Core.List.{[], _∷_, _++_, append-assoc}
+use mathlib.Core.List.{[], _∷_}
 use Prim.Native.Nat.{ℕ, _+_, _/_, _%_, _≤_, _<_}
 use native.Mathlib.Omega.{arith}
 use denote.Ref.{now}
-use lib.ListN.{take}
+use lib.ListN.{set}
+use lib.Seq.{sets}
 use borrow.Author.Needs.{needs}
 use Rattle.protocol.specs.Check.{decimal}
-use Rattle.checking.proofs.LineLaws.{decimal-one, decimal-more, length-one, length-more}
+use Rattle.checking.proofs.LineLaws.{decimal-one, decimal-more, length-one, length-more, sets-more}
 use borrow.Fn.Kinds.{In}
 use borrow.Fn.PlainCycle.{Measures, is, falls, and}
 use Rattle.checking.proofs.line.put_decimal.Reads as put-decimal
@@ -74,7 +75,7 @@ put-decimal-returns t c =
     let small = c .before .before .before .before .if1 .taken in
     let put = c .before .before .put-byte in (
       put .ensures .0 ∙ ap (λ n. a .at + n) (sym (length-one (a .x) small)),
-      put .ensures .1 ∙ ap (λ d. take (a .at) (now (a .out)) ++ d) (sym (decimal-one (a .x) small)),
+      put .ensures .1 ∙ ap (sets (now (a .out)) (a .at)) (sym (decimal-one (a .x) small)),
     )
 
 put-decimal-put-decimal-requires : (t : ℕ) → put-decimal-lts.Need-put-decimal-requires (
@@ -138,9 +139,9 @@ put-decimal-returns-2 t c =
     let put = c .before .before .put-byte2 in (
       omega (arith, put .ensures .0, tenth .ensures .0, length-more (a .x) large),
       put .ensures .1
-          ∙ ap (λ d. d ++ ((48 + a .x % 10) ∷ [])) (tenth .ensures .1)
-          ∙ append-assoc (take (a .at) (now (a .out))) (decimal (a .x / 10)) _
-          ∙ ap (λ d. take (a .at) (now (a .out)) ++ d) (sym (decimal-more (a .x) large)),
+          ∙ ap (λ l. set l (tenth .result) (48 + a .x % 10)) (tenth .ensures .1)
+          ∙ sets-more (now (a .out)) (decimal (a .x / 10)) ((48 + a .x % 10) ∷ []) (a .at) (tenth .result) (tenth .ensures .0)
+          ∙ ap (sets (now (a .out)) (a .at)) (sym (decimal-more (a .x) large)),
     )
 
 pub +put-decimal-spec : {M : Type 1} → statement M

@@ -1,10 +1,9 @@
 -- `checking::line::put_number` meets its contract.
 -- Assumes nothing.
-use mathlib.Core.Path.{ap, _∙_}
-use mathlib.Core.List.{[], _∷_, _++_, append-assoc}
+use mathlib.Core.Path.{ap₂, _∙_}
+use native.Mathlib.Numerals.{add-one}
 use native.Mathlib.Omega.{arith}
-use denote.Ref.{now}
-use lib.ListN.{take}
+use lib.Seq.{sets}
 use Rattle.protocol.specs.Check.{decimal}
 use Rattle.checking.proofs.LineLaws.{five-digits}
 use borrow.Author.Needs.{needs}
@@ -28,11 +27,10 @@ returns c =
     let start = c .before .before .before .before .before .before .before .before .before in
     let a = start .args in
     let space = c .before .before .before .before .before .before .put-byte in
-    let put = c .before .before .put-decimal in (
-      omega (arith, five-digits (a .x) (start .pre .1), space .ensures .0, put .ensures .0),
-      put .ensures .1
-          ∙ ap (λ l. l ++ decimal (a .x)) (space .ensures .1)
-          ∙ append-assoc (take (a .at) (now (a .out))) (32 ∷ []) (decimal (a .x)),
+    let put = c .before .before .put-decimal in
+    let next = space .ensures .0 ∙ add-one (a .at) in (
+      (omega (arith, space .ensures .0, put .ensures .0), omega (arith, five-digits (a .x) (start .pre .1), space .ensures .0, put .ensures .0)),
+      put .ensures .1 ∙ ap₂ (λ l k. sets l k (decimal (a .x))) (space .ensures .1) next,
     )
 
 pub put-number-spec : {M : Type 1} → statement M

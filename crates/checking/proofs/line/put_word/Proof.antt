@@ -1,10 +1,11 @@
 -- `checking::line::put_word` meets its contract: the word is copied to the start.
 -- Assumes nothing.
-use mathlib.Core.Path.{refl, ap, _∙_}
+use mathlib.Core.Path.{refl, sym, ap, _∙_}
+use mathlib.Core.List.{_++_}
 use native.Mathlib.Omega.{arith}
 use denote.Ref.{now}
 use lib.ListN.{length, drop, length-take}
-use lib.Seq.{take-at}
+use Rattle.checking.proofs.LineLaws.{sets-first}
 use borrow.Author.Needs.{needs}
 use Rattle.checking.proofs.line.put_word.Statement.{statement}
 use Rattle.checking.proofs.line.put_word.Tie as tie
@@ -23,9 +24,10 @@ same-length c = search needs
 
 returns : tie.Need-returns
 returns c =
-    let a = c .before .before .before .before .before .before .args in
-    let copied = c .before .before .copy-into in
-    (refl, take-at (copied .last .0) (drop (length (now (a .word))) (now (a .out))) (length (now (a .word))) (ap length (copied .ensures)) ∙ copied .ensures)
+    let start = c .before .before .before .before .before .before in
+    let a = start .args in
+    let n = length (now (a .word)) in
+    (refl, ap (λ l. l ++ drop n (now (a .out))) (c .before .before .copy-into .ensures) ∙ sym (sets-first (now (a .out)) (now (a .word)) (start .pre)))
 
 pub put-word-spec : {M : Type 1} → statement M
 put-word-spec =

@@ -1,8 +1,6 @@
 -- `checking::line::write_line` meets its contract, case by case.
 -- Assumes nothing.
-use mathlib.Core.Path.{sym, ap, _∙_}
 use Rattle.protocol.specs.Check.{lineOf}
-use Rattle.checking.specs.Checked.{checkedOf}
 use borrow.Author.Needs.{needs}
 use Rattle.checking.proofs.line.write_line.Statement.{statement}
 use Rattle.checking.proofs.line.write_line.Tie as tie
@@ -46,34 +44,21 @@ slice-aggregate-put-line-3 c = search needs
 put-line-requires-3 : tie.Need-put-line-requires-3
 put-line-requires-3 c κs = search needs
 
-same-length : tie.Need-same-length
-same-length c = search needs
-
 returns : tie.Need-returns
 unfolding lineOf
-returns c =
-    let put = c .before .before .put-line in
-    (put .ensures .0, put .ensures .1 ∙ ap (λ o. lineOf (checkedOf o)) (sym (c .before .before .before .before .before .enum-told .given .1)))
-
-same-length-2 : tie.Need-same-length-2
-same-length-2 c = search needs
+returns c = rw (c .before .before .before .enum-told .given .1) (c .put-line .ensures)
 
 returns-2 : tie.Need-returns-2
 unfolding lineOf
 returns-2 c =
-    let put = c .before .before .put-line2 in
-    (put .ensures .0, put .ensures .1 ∙ rw (c .before .before .before .before .before .before .before .before .outcome .given .1, c .before .before .before .before .before .enum-told2 .given .1))
-
-same-length-3 : tie.Need-same-length-3
-same-length-3 c = search needs
+    rw (c .before .before .before .before .before .before .outcome .given .1, c .before .before .before .enum-told2 .given .1) (c .put-line2 .ensures)
 
 returns-3 : tie.Need-returns-3
 unfolding lineOf
 returns-3 c =
-    let put = c .before .before .put-line3 in
-    let numbered = c .before .before .before .before .before .before in
+    let numbered = c .before .before .before .before in
     let known = numbered .before .before in
-    (put .ensures .0, put .ensures .1 ∙ rw (known .before .before .before .outcome .given .1, known .verdict .given .1, numbered .number .ensures .0))
+    rw (known .before .before .before .outcome .given .1, known .verdict .given .1, ← numbered .number .ensures .0) (c .put-line3 .ensures)
 
 pub write-line-spec : {M : Type 1} → statement M
 write-line-spec =
@@ -92,9 +77,6 @@ write-line-spec =
     cast-place
     slice-aggregate-put-line-3
     put-line-requires-3
-    same-length
     returns
-    same-length-2
     returns-2
-    same-length-3
     returns-3)
