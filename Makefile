@@ -6,7 +6,7 @@
 # make secrets: no branch and no address of the built library depends on leaves or witness.
 # make vectors: the test vectors of vectors/, regenerated and run against the library.
 # make bindings: the Rust wrapper's tests.
-# make install PREFIX=/usr/local [DESTDIR=...]: library, header, pkg-config file, manual pages, and mqcheck where it is built.
+# make install PREFIX=/usr/local [DESTDIR=...]: library, header, pkg-config file, manual pages, and mqcheck if it has been built.
 # make uninstall, with the same words: takes these files away.
 # make fuzz: the six calls fuzzed against the rendering; seconds for each call in ARGS, else the gate's short run.
 .PHONY: demo test compare bench server soak secrets fuzz vectors bindings install uninstall

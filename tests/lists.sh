@@ -1,8 +1,8 @@
 #!/bin/sh
-# The published lists, which stand in several places, say the same: docs/REFUSALS.md, section 3 of the header,
-# solfadrus.3 and the Rust wrapper's documentation have the same questions, of each call the same numbers, which are
-# those that tests/vectors.c holds the library to, and the same challenges in question 5. Also the numbers that prose
-# repeats: limits, the stack, the check program's most bytes.
+# The published lists, which stand in several places, say the same: docs/REFUSALS.md, section 3 of the header and
+# solfadrus.3 have the same questions; these and the Rust wrapper's documentation have of each call the same numbers,
+# which are those that tests/vectors.c holds the library to, and the same challenges in question 5. Also the numbers
+# that prose repeats: limits, the stack, the check program's most bytes.
 set -eu
 cd "$(dirname "$0")/.."
 work=$(mktemp -d)
@@ -88,7 +88,10 @@ same() {
     numbers <"$work/calls" >"$work/numbers"
     challenges <"$work/calls" >"$work/challenges"
     # Fewer would mean that the header was not read.
-    [ "$(wc -l <"$work/questions")" = 15 ] && [ "$(wc -l <"$work/numbers")" = 6 ] || return
+    if [ "$(wc -l <"$work/questions")" != 15 ] || [ "$(wc -l <"$work/numbers")" != 6 ]; then
+        echo "the header was not read"
+        return 1
+    fi
     questions_of_page "$2" | diff "$work/questions" - || return
     questions_of_list "$3" | diff "$work/questions" - || return
     calls_of_vectors tests/vectors.c | numbers | diff "$work/numbers" - || return
@@ -119,7 +122,7 @@ other "a question of the page in other words" $page 's/^Has the key at least/Has
 other "a number of the page" $page 's/^12 to 15\.$/12 to 14./'
 other "a number of the header" $header '/questions  *1 2 3 4, 7 8, 9/s/10, 11/11/'
 same $header $page $list
-echo "15 questions, 6 calls: the same in the header, the page, REFUSALS.md, the Rust wrapper and vectors.c"
+echo "15 questions: the same in the header, the page and REFUSALS.md; the numbers of 6 calls: there, in the Rust wrapper and in vectors.c"
 
 # defined NAME: a number of the header.
 defined() {

@@ -9,7 +9,8 @@ ghost use Rattle.checking.specs.Checked.{checkedOf, lineText};
 use super::Checked;
 use format::Verdict;
 
-// Room for a line. A bound is 21 (a word of 8, two numbers of 16 bits); the longest, `refused 11 159` and its line feed, has 15.
+// Room for a line. A bound is 21 (a word of 8, two numbers of 16 bits, each after a space, and the line feed); the longest that is printed,
+// `refused 14 47` and its line feed, has 14.
 pub const LINE: usize = 32;
 
 // One byte more.

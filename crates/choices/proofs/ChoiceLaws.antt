@@ -13,7 +13,7 @@ use Rattle.strings.proofs.SumLaws.{sum-same, sum-parts, sum-past}
 use Rattle.strings.proofs.Meaning.{bitOf-lt}
 use Rattle.chunks.specs.Chunks.{chunk, cellAt}
 use Rattle.chunks.proofs.BitSumLaws.{sum-blocks}
-use Rattle.choices.specs.Entries.{entryByte, choice, five, wordOf, inRow, Chosen, wordByte, lookedUp, InWords, Weighed}
+use Rattle.choices.specs.Entries.{entryByte, choice, five, wordOf, rowFive, Chosen, wordByte, lookedUp, InWords, Weighed}
 
 -- ---- the five bits of a choice
 
@@ -108,7 +108,7 @@ chosen-next χ W W′ m e own kept done q h = go (decLt q (e * 8))
 -- n fives of the next word
 pub looked-more : (sums W : List ℕ) (r k n f : ℕ) → n ≤ 10 → lookedUp sums W r (k * 10 + n) f ≡ bitXor (lookedUp sums W r (k * 10) f) (wordByte sums k n (byteAt W (r * 4 + k)) f)
 looked-more sums W r k n f h =
-    sum-parts (k * 10) n (λ g. cellAt sums (g * 32 + inRow W r g) f)
+    sum-parts (k * 10) n (λ g. cellAt sums (g * 32 + rowFive W r g) f)
     ∙ ap (bitXor (lookedUp sums W r (k * 10) f))
     (sum-same n _ _ (λ j hj.
     let q : (k * 10 + j) / 10 ≡ k = omega arith in

@@ -5,13 +5,14 @@
 --   inRows R i == byte i of two sixteens of fives, which R holds in eight rows each: row z has byte z of each five
 --   five w j == five j of the word w: the number that its bits 5·j, .., 5·j + 4 write
 --   wordOf P at == the word of the ten fives that P has from at on
---   inRow W r g == five g of row r of W: a row is four words, of ten fives each
+--   rowFive W r g == five g of row r of W: a row is four words, of ten fives each, and has 32: the last eight of the fourth word are not its own
 --   Chosen χ m W r == five g of row r of W, g < 32, is the number of the entry, among the 32 of the rows 5·g, .., 5·g + 4, which bit r mod 8 of the m bytes χ
 --     of repetition ⌊r/8⌋ chooses
 --   wordByte sums k n w f == byte f of the sum of the entries that the first n fives of w choose, in the tables of the groups 10·k, .., 10·k + n - 1
 --   lookedUp sums W r G f == byte f of the sum of the entries that the first G fives of row r of W choose
 --   InWords G == G fives are whole words of ten, three at most, or all 32
---   Weighed S χ m sums W G r == sums is the table of the m rows S, and the eight rows of W from r on hold, for G fives, the entries which the bits of χ choose
+--   Weighed S χ m sums W G r == the first 32·G entries of sums are those of the m rows S, m ≤ 5·G, χ is bytes below m, and the eight rows of W from r on hold,
+--     for G fives, the entries which the bits of χ choose
 -- Assumes nothing.
 use mathlib.Core.Path.{_≡_}
 use mathlib.Core.List.{List}
@@ -41,20 +42,20 @@ wordOf P at =
     byteAt P at + byteAt P (at + 1) * 32 + byteAt P (at + 2) * 1024 + byteAt P (at + 3) * 32768 + (byteAt P (at + 4) + byteAt P (at + 5) * 32 + byteAt P (at + 6) * 1024 + byteAt P (at + 7) * 32768) * 1048576
     + (byteAt P (at + 8) + byteAt P (at + 9) * 32) * 1099511627776
 
-abbrev pub inRow : List ℕ → ℕ → ℕ → ℕ
-inRow W r g = five (byteAt W (r * 4 + g / 10)) (g % 10)
+abbrev pub rowFive : List ℕ → ℕ → ℕ → ℕ
+rowFive W r g = five (byteAt W (r * 4 + g / 10)) (g % 10)
 
 abbrev pub Chosen : List ℕ → ℕ → List ℕ → ℕ → Type 0
-Chosen χ m W r = (g : ℕ) → g < 32 → inRow W r g ≡ choice (byteAt (blockAt χ m (r / 8))) (r % 8) g
+Chosen χ m W r = (g : ℕ) → g < 32 → rowFive W r g ≡ choice (byteAt (blockAt χ m (r / 8))) (r % 8) g
 
 abbrev pub wordByte : List ℕ → ℕ → ℕ → ℕ → ℕ → ℕ
 wordByte sums k n w f = xorSum n (λ j. cellAt sums ((k * 10 + j) * 32 + five w j) f)
 
 abbrev pub lookedUp : List ℕ → List ℕ → ℕ → ℕ → ℕ → ℕ
-lookedUp sums W r G f = xorSum G (λ g. cellAt sums (g * 32 + inRow W r g) f)
+lookedUp sums W r G f = xorSum G (λ g. cellAt sums (g * 32 + rowFive W r g) f)
 
 abbrev pub InWords : ℕ → Type 0
 InWords G = (G ≤ 32) × (G ≤ 30 → G % 10 ≡ 0) × (30 < G → G ≡ 32)
 
 abbrev pub Weighed : List ℕ → (ℕ → ℕ) → ℕ → List ℕ → List ℕ → ℕ → ℕ → Type 0
-Weighed S χ m sums W G r = Tabled S sums (G * 32) × (length S ≡ m * chunk) × (m ≤ G * 5) × ((i : ℕ) → i < m → χ i < 256) × ((p g : ℕ) → p < 8 → g < G → inRow W (r + p) g ≡ choice χ p g)
+Weighed S χ m sums W G r = Tabled S sums (G * 32) × (length S ≡ m * chunk) × (m ≤ G * 5) × ((i : ℕ) → i < m → χ i < 256) × ((p g : ℕ) → p < 8 → g < G → rowFive W (r + p) g ≡ choice χ p g)

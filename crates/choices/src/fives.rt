@@ -1,7 +1,8 @@
 // Which entries of the tables of sums the batching bytes choose, which are public: row 8·e + p is for bit p of the bytes of repetition e, a number
-// below 32 for each five equations. A word holds ten of them, so that one load serves ten look-ups; of 32 the last two have a word of their own.
+// below 32 for each five equations. A word holds ten of them, so that one load serves ten look-ups; the last two of 32 begin a fourth word,
+// whose other fives are not looked up.
 ghost use mathlib.Core.Path.{_≡_};
-ghost use Prim.Native.Nat.{ℕ, _+_, _*_, _/_, _<_, _≤_};
+ghost use Prim.Native.Nat.{ℕ, _+_, _*_, _<_, _≤_};
 ghost use lib.ListN.{length};
 ghost use Rattle.strings.specs.Sums.{byteAt};
 ghost use Rattle.choices.specs.Entries.{wordOf, Chosen, InWords};
@@ -14,7 +15,7 @@ use chunks::cells::copy_front;
 use chunks::cells::least;
 
 // The words of a row.
-pub const ROW: usize = 4;
+pub const ROW_WORDS: usize = 4;
 
 // Room for the bytes of the most equations, and for eight where the last five begin.
 const MOST: usize = 168;
@@ -46,12 +47,13 @@ fn two_at(picks: &[u8], at: usize) -> u64
     wide(picks[at]) + wide(picks[at + 1]) * 32
 }
 
+// The four words of a row. The last takes eight numbers of the next bit too, which are not looked up.
 fn put(row: &mut [u64], picks: &[u8], at: usize)
     requires { ⌜ (length (now row) ≡ 4) × (at + 40 ≤ length (now picks)) ⌝ }
     ensures { λ _. ⌜ ((k : ℕ) → k < 4 → byteAt (now (row .exit)) k ≡ wordOf (now (picks .entry)) (at + k * 10)) ⌝ }
 {
     let mut k = 0;
-    while k < ROW {
+    while k < ROW_WORDS {
         let from = at + k * 10;
         let low = four_at(picks, from);
         let high = four_at(picks, from + 4);
@@ -67,8 +69,8 @@ fn put_row(words: &mut [u64], r: usize, p: usize, picks: &[u8])
     ensures { λ _. ⌜ ((k : ℕ) → k < 4 → byteAt (now (words .exit)) (r * 4 + k) ≡ wordOf (now (picks .entry)) (p * 32 + k * 10)) ⌝ }
     ensures { λ _. ⌜ ((q k : ℕ) → (q ≡ r → ⊥) → k < 4 → byteAt (now (words .exit)) (q * 4 + k) ≡ byteAt (now (words .entry)) (q * 4 + k)) ⌝ }
 {
-    let at = r * ROW;
-    put(&mut words[at..at + ROW], picks, p * FIVES);
+    let at = r * ROW_WORDS;
+    put(&mut words[at..at + ROW_WORDS], picks, p * FIVES);
 }
 
 // The eight rows of repetition e.

@@ -1,12 +1,12 @@
 // Sums of the rows that public bits select. Five rows at a time, the 32 sums of them are in a table, so that one addition serves five rows.
 ghost use mathlib.Core.Path.{_≡_};
-ghost use Prim.Native.Nat.{ℕ, _+_, _*_, _-_, _^_, _<_, _≤_};
+ghost use Prim.Native.Nat.{ℕ, _+_, _*_, _-_, _<_, _≤_};
 ghost use lib.ListN.{length};
 ghost use lib.Bits.{bitXor};
 ghost use Rattle.strings.specs.Sums.{byteAt};
 ghost use Rattle.chunks.specs.Chunks.{chunk, pair, cellAt};
 ghost use Rattle.choices.specs.Entries.{entryByte, Tabled, five, wordByte, lookedUp, InWords};
-use super::fives::ROW;
+use super::fives::ROW_WORDS;
 use chunks::CHUNK;
 
 // The entries of the table of sums for five rows, one for each value of five bits.
@@ -125,7 +125,8 @@ fn add_ten(first: &mut [u8; CHUNK], second: &mut [u8; CHUNK], w: u64, x: u64, su
     }
 }
 
-// The same of the last word, which holds two fives.
+// The same of the last word, of which the first two fives are looked up. A function of its own, so that the count is a constant and each of the two is
+// called from one place.
 fn add_two(first: &mut [u8; CHUNK], second: &mut [u8; CHUNK], w: u64, x: u64, sums: &[u8])
     requires { ⌜ (length (now first) ≡ chunk) × (length (now second) ≡ chunk) × (32768 ≤ length (now sums)) ⌝ }
     ensures { λ _. ⌜ (length (now (first .exit)) ≡ chunk) × (length (now (second .exit)) ≡ chunk) ⌝ }
@@ -168,14 +169,14 @@ pub fn look_up_two(out: &mut [u8], words: &[u64], r: usize, groups: usize, sums:
 {
     let mut first = [0u8; CHUNK];
     let mut second = [0u8; CHUNK];
-    let at = r * ROW;
+    let at = r * ROW_WORDS;
     let mut k = 0;
     while k < groups / 10 {
         add_ten(
             &mut first,
             &mut second,
             words[at + k],
-            words[at + ROW + k],
+            words[at + ROW_WORDS + k],
             sums,
             k,
         );
@@ -185,7 +186,7 @@ pub fn look_up_two(out: &mut [u8], words: &[u64], r: usize, groups: usize, sums:
         &mut first,
         &mut second,
         words[at + 3],
-        words[at + ROW + 3],
+        words[at + ROW_WORDS + 3],
         groups,
         sums,
     );
@@ -233,7 +234,7 @@ pub fn look_up(out: &mut [u8], words: &[u64], r: usize, groups: usize, sums: &[u
     ensures { λ _. ⌜ ((f : ℕ) → f < chunk → byteAt (now (out .exit)) f ≡ lookedUp (now (sums .entry)) (now (words .entry)) r groups f) ⌝ }
 {
     let mut sum = [0u8; CHUNK];
-    let at = r * ROW;
+    let at = r * ROW_WORDS;
     let mut k = 0;
     while k < groups / 10 {
         add_word(&mut sum, words[at + k], 10, sums, k);

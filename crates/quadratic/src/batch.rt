@@ -2,7 +2,7 @@
 // string u are secret.
 ghost use mathlib.Core.Path.{_≡_};
 ghost use mathlib.Core.Bool.{true, false};
-ghost use Prim.Native.Nat.{ℕ, _+_, _*_, _/_, _<_, _≤_};
+ghost use Prim.Native.Nat.{ℕ, _+_, _*_, _<_, _≤_};
 ghost use lib.ListN.{length};
 ghost use lib.Bits.{bitXor};
 ghost use Rattle.field.specs.Gf256.{gf256};
@@ -15,13 +15,13 @@ ghost use Rattle.equations.specs.Equations.{rowOf, matrixOf, errorOf};
 ghost use Rattle.quadratic.specs.Forms.{formByte, middleByte};
 ghost use Rattle.quadratic.specs.Batch.{batchByte, qs0Byte, qs1Byte};
 use super::EQUATIONS;
-use choices::fives::ROW;
+use choices::fives::ROW_WORDS;
 use chunks::CHUNK;
 use equations::VARIABLES;
 use lanes::LANES;
 
-// The words of what the batching bytes of as many repetitions as a key may have choose.
-const WORDS: usize = 8 * LANES * ROW;
+// The words of the choices, eight rows for each of as many repetitions as a key may have.
+const WORDS: usize = 8 * LANES * ROW_WORDS;
 
 // The bytes of as many lines as a key may have equations.
 pub const LINES: usize = EQUATIONS * CHUNK;

@@ -1,4 +1,5 @@
--- Demand 3 of mq_verify: whatever a stranger hands us, how many challenge strings the call accepts. It is proved of every function that keeps mq_verify's promise.
+-- Demand 3 of mq_verify: whatever a stranger hands us, how many challenge strings the call accepts. It is proved of every function that keeps
+-- mq_verify's promise on strings of bytes; full leaves are bytes too.
 --   Answers key H′ χ proof call == call Δ opened is a number that mq_verify may answer, for every Δ and every string of opened leaves, of bytes as C lends them
 --   accepts key leaves call Δ == the call answers 0 at the challenge string Δ, with the leaves opened there
 --   acceptedBy key leaves call == how many of the 256^τ challenge strings it accepts

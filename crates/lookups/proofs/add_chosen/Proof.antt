@@ -1,8 +1,8 @@
 -- `lookups::add_chosen` meets its contract. The two entries are those of the half-bytes.
 -- Assumes nothing.
 use borrow.Author.Needs.{needs}
-use Prim.Native.Nat.{ℕ, _+_, _*_, _%_, _/_}
-use mathlib.Core.Path.{_≡_, ap, ap₂, _∙_}
+use Prim.Native.Nat.{ℕ, _+_, _*_, _/_}
+use mathlib.Core.Path.{ap, _∙_}
 use denote.Ref.{now}
 use lib.Bits.{bitXor}
 use Rattle.strings.specs.Sums.{byteAt}

@@ -1,14 +1,13 @@
 -- `lookups::add_lanes` meets its contract. Each element is changed once (`Elementwise`).
 -- Assumes nothing.
 use borrow.Author.Needs.{needs}
-use Prim.Native.Nat.{ℕ, _+_, _≤_, _<_, _-_}
+use Prim.Native.Nat.{ℕ, _≤_, _-_}
 use mathlib.Core.List.{List}
 use mathlib.Core.Path.{_≡_, refl}
 use denote.Ref.{now}
 use lib.ListN.{length, length-set}
 use lib.Bits.{bitXor}
 use native.Mathlib.Omega.{arith}
-use Rattle.strings.specs.Sums.{byteAt}
 use Rattle.strings.proofs.Elementwise.{changed, changed-more, changed-all}
 use Rattle.lanes.specs.Lanes.{lanes, laneAt}
 use Rattle.lookups.proofs.add_lanes.Statement.{statement}

@@ -1,14 +1,13 @@
 -- `batching::lines::look_up_planes` meets its contract. The invariant: the planes below p are looked up.
 -- Assumes nothing.
 use borrow.Author.Needs.{needs}
-use Prim.Native.Nat.{ℕ, _+_, _*_, _-_, _≤_}
+use Prim.Native.Nat.{ℕ, _+_, _-_, _≤_}
 use mathlib.Core.List.{List}
 use mathlib.Core.Path.{_≡_, refl, _∙_}
 use native.Mathlib.Omega.{arith}
 use denote.Ref.{now}
 use lib.ListN.{length}
-use Rattle.strings.specs.Sums.{byteAt, xorSum}
-use Rattle.strings.proofs.Rows.{RowsAre, rows-more, row-end}
+use Rattle.strings.proofs.Rows.{RowsAre, rows-more}
 use Rattle.chunks.specs.Chunks.{chunk}
 use Rattle.choices.specs.Entries.{lookedUp}
 use Rattle.batching.proofs.lines.look_up_planes.Statement.{statement}

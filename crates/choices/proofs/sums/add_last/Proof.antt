@@ -1,13 +1,11 @@
 -- `choices::sums::add_last` meets its contract. Where there are at most 30 groups, no five of the last word is among them.
 -- Assumes nothing.
 use borrow.Author.Needs.{needs}
-use Prim.Native.Nat.{ℕ, _-_, _≤_}
-use mathlib.Core.Path.{_≡_, sym, ap, _∙_}
+use Prim.Native.Nat.{_-_}
+use mathlib.Core.Path.{_≡_, sym}
 use native.Mathlib.Omega.{arith}
-use denote.Ref.{now}
-use lib.Bits.{bitXor, xor-zero-r}
-use Rattle.strings.specs.Sums.{byteAt, xorSum}
-use Rattle.choices.specs.Entries.{wordByte}
+use lib.Bits.{xor-zero-r}
+use Rattle.strings.specs.Sums.{xorSum}
 use Rattle.choices.proofs.sums.add_last.Statement.{statement}
 use Rattle.choices.proofs.sums.add_last.Tie as tie
 
