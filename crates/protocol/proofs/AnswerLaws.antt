@@ -9,7 +9,7 @@ use native.Mathlib.Omega.{arith}
 use Rattle.algebra.proofs.CountLaws.{and-left, and-right}
 use Rattle.protocol.specs.Shape.{Shape}
 use Rattle.protocol.specs.Answers.{Answer, accepted, refused, numberOf, placeOf, word, isAccepted, Question, ask, allYes, Reply, Published, taken, header-short, size-out-of-range, key-length, key-spare-bit, challenge-length, hash-spare-bit, leaf-length, leaf-spare-bit, witness-form, output-length, equation-fails, proof-length, proof-spare-bit, inconsistent, product-differs}
-use Rattle.protocol.specs.Statements.{AskRefuses, AskFirstNo, AskAccepts, WordInjective}
+use Rattle.protocol.specs.Statements.{FirstNo, AskRefuses, AskFirstNo, AskAccepts, WordInjective}
 use Rattle.protocol.proofs.TestLaws.{both-true}
 
 pub ask-none : ask [] ≡ accepted
@@ -76,13 +76,10 @@ pub ask-refuses : AskRefuses
 ask-refuses [] i p h = absurd (true≢false (ap isAccepted (sym ask-none ∙ h)))
 ask-refuses (x ∷ qs) i p h = go (x .yes?) refl (ask-refuses qs i p)
   where
-    Split : List Question → Type 0
-    Split rs = (before : List Question) × (y : Question) × (after : List Question) × (rs ≡ before ++ (y ∷ after)) × (allYes before ≡ true) × (y .yes? ≡ false) × (y .number ≡ i) × (y .place ≡ p)
-
-    further : x .yes? ≡ true → Split qs → Split (x ∷ qs)
+    further : x .yes? ≡ true → FirstNo qs i p → FirstNo (x ∷ qs) i p
     further e (before, y, after, q, b, n, j, k) = (x ∷ before, y, after, ap (λ r. x ∷ r) q, both-true (x .yes?) (allYes before) e b, n, j, k)
 
-    go : (b : Bool) → x .yes? ≡ b → (ask qs ≡ refused i p → Split qs) → Split (x ∷ qs)
+    go : (b : Bool) → x .yes? ≡ b → (ask qs ≡ refused i p → FirstNo qs i p) → FirstNo (x ∷ qs) i p
     go true e ih = further e (ih (sym (ask-yes x qs e) ∙ h))
     go false e ih =
         let r : refused (x .number) (x .place) ≡ refused i p = sym (ask-no x qs e) ∙ h in

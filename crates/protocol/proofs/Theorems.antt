@@ -32,7 +32,7 @@ use Rattle.protocol.specs.Questions.{hExact, χExact, witnessForm, proof
 use Rattle.protocol.specs.Calls.{verifyQuestions, verifyAnswer, honestForm, verifyForm, wellFormed}
 use Rattle.protocol.specs.Counting.{opening, acceptedCount, checksAt, factor}
 use Rattle.protocol.specs.Coefficients.{conditions}
-use Rattle.protocol.specs.Statements.{OpenedByPlace, OpenedForm, VoleIdentity, Expansion, ProverExpansion, HonestAccepted, HonestWellFormed, AcceptsExactly, FirstNamed, StepsAreWhole, ProofReadsBack, CandidateIsWitness, candidateBytes, ForgeryCount, HidingColumns, errorOf, factorOf}
+use Rattle.protocol.specs.Statements.{OpenedByPlace, OpenedForm, VoleIdentity, Expansion, ProverExpansion, HonestAccepted, HonestWellFormed, AcceptsExactly, FirstFailing, FirstNamed, StepsAreWhole, ProofReadsBack, CandidateIsWitness, candidateBytes, ForgeryCount, HidingColumns, errorOf, factorOf}
 use Rattle.protocol.proofs.TestLaws.{both-true, all-at, all-of, all-true, eqb-same, passes-all, first-not, first-before}
 use Rattle.protocol.proofs.FrameLaws.{frame-append}
 use Rattle.protocol.proofs.LeafLaws.{open-place}
@@ -147,7 +147,7 @@ module _ (A : Alphabet) where
         go true f = refl
         go false f = absurd (n (sym (ap numberOf (sym (ask-no fourteenth (fifteenth ∷ []) f) ∙ h))))
 
-    names-14 : ask (form ++ last) ≡ refused 14 e → (e < τ) × (C e ≡ false) × ((i : ℕ) → i < e → C i ≡ true)
+    names-14 : ask (form ++ last) ≡ refused 14 e → FirstFailing τ C e
     names-14 h = go (allBelow τ C) refl
       where
         k : ask last ≡ refused 14 e
@@ -157,14 +157,14 @@ module _ (A : Alphabet) where
         rest true f g = zero-not 14 (omega arith) (sym (ap numberOf (ask-yes fifteenth [] g ∙ ask-none)) ∙ ap numberOf (sym (ask-yes fourteenth (fifteenth ∷ []) f) ∙ k))
         rest false f g = fifteen-not (sym (ap numberOf (ask-no fifteenth [] g)) ∙ ap numberOf (sym (ask-yes fourteenth (fifteenth ∷ []) f) ∙ k))
 
-        go : (b : Bool) → allBelow τ C ≡ b → (e < τ) × (C e ≡ false) × ((i : ℕ) → i < e → C i ≡ true)
+        go : (b : Bool) → allBelow τ C ≡ b → FirstFailing τ C e
         go true f = absurd (rest (allBelow τ Q) f refl)
         go false f =
             let p : firstNot τ C ≡ e = ap placeOf (sym (ask-no fourteenth (fifteenth ∷ []) f) ∙ k) in
             let t = first-not τ C f in
-            subst (λ j. (j < τ) × (C j ≡ false) × ((i : ℕ) → i < j → C i ≡ true)) p (t .0, t .1, first-before τ C)
+            subst (FirstFailing τ C) p (t .0, t .1, first-before τ C)
 
-    names-15 : ask (form ++ last) ≡ refused 15 e → (e < τ) × (Q e ≡ false) × ((i : ℕ) → i < e → Q i ≡ true) × ((i : ℕ) → i < τ → C i ≡ true)
+    names-15 : ask (form ++ last) ≡ refused 15 e → FirstFailing τ Q e × ((i : ℕ) → i < τ → C i ≡ true)
     names-15 h = go (allBelow τ Q) refl
       where
         k : ask last ≡ refused 15 e
@@ -176,12 +176,12 @@ module _ (A : Alphabet) where
         r : ask (fifteenth ∷ []) ≡ refused 15 e
         r = sym (ask-yes fourteenth (fifteenth ∷ []) f) ∙ k
 
-        go : (b : Bool) → allBelow τ Q ≡ b → (e < τ) × (Q e ≡ false) × ((i : ℕ) → i < e → Q i ≡ true) × ((i : ℕ) → i < τ → C i ≡ true)
+        go : (b : Bool) → allBelow τ Q ≡ b → FirstFailing τ Q e × ((i : ℕ) → i < τ → C i ≡ true)
         go true g = absurd (zero-not 15 (omega arith) (sym (ap numberOf (ask-yes fifteenth [] g ∙ ask-none)) ∙ ap numberOf r))
         go false g =
             let p : firstNot τ Q ≡ e = ap placeOf (sym (ask-no fifteenth [] g) ∙ r) in
             let t = first-not τ Q g in
-            subst (λ j. (j < τ) × (Q j ≡ false) × ((i : ℕ) → i < j → Q i ≡ true) × ((i : ℕ) → i < τ → C i ≡ true)) p (t .0, t .1, first-before τ Q, all-at τ C f)
+            (subst (FirstFailing τ Q) p (t .0, t .1, first-before τ Q), all-at τ C f)
 
   pub first-named : FirstNamed A
   unfolding verifyAnswer

@@ -2,7 +2,7 @@
 -- Assumes nothing.
 use mathlib.Core.Path.{_≡_}
 use mathlib.Core.Logic.{_≢_, _⊎_, _↔_}
-use mathlib.Core.Bool.{true, false}
+use mathlib.Core.Bool.{Bool, true, false}
 use mathlib.Core.List.{List, [], _∷_, _++_}
 use Prim.Native.Nat.{ℕ, _+_, _*_, _-_, _^_, _≤_, _<_}
 use lib.ListN.{getD, length}
@@ -27,9 +27,12 @@ use Rattle.protocol.specs.Counting.{opening, acceptedCount, factor}
 use Rattle.protocol.specs.Coefficients.{conditions}
 
 -- A refusal is that of a question which gets a no after all before it got a yes.
-abbrev pub AskRefuses : Type 0
-AskRefuses = (qs : List Question) (i p : ℕ) → ask qs ≡ refused i p → (before : List Question) × (x : Question) × (after : List Question)
+abbrev pub FirstNo : List Question → ℕ → ℕ → Type 0
+FirstNo qs i p = (before : List Question) × (x : Question) × (after : List Question)
     × (qs ≡ before ++ (x ∷ after)) × (allYes before ≡ true) × (x .yes? ≡ false) × (x .number ≡ i) × (x .place ≡ p)
+
+abbrev pub AskRefuses : Type 0
+AskRefuses = (qs : List Question) (i p : ℕ) → ask qs ≡ refused i p → FirstNo qs i p
 
 abbrev pub AskFirstNo : Type 0
 AskFirstNo = (before : List Question) (x : Question) (after : List Question) → allYes before ≡ true → x .yes? ≡ false → ask (before ++ (x ∷ after)) ≡ refused (x .number) (x .place)
@@ -40,6 +43,10 @@ AskAccepts = (qs : List Question) → (ask qs ≡ accepted) ↔ (allYes qs ≡ t
 -- the word of a published answer tells the answer
 abbrev pub WordInjective : Type 0
 WordInjective = (s : Shape) → s .m ≤ 65536 → s .τ ≤ 65536 → (a b : Answer) → Published s a → Published s b → word a ≡ word b → a ≡ b
+
+-- e is the first of τ repetitions in which a check does not hold
+abbrev pub FirstFailing : ℕ → (ℕ → Bool) → ℕ → Type 0
+FirstFailing τ holds e = (e < τ) × (holds e ≡ false) × ((i : ℕ) → i < e → holds i ≡ true)
 
 module _ (A : Alphabet) where
   open Alphabet A using (K)
@@ -109,9 +116,9 @@ module _ (A : Alphabet) where
 
   pub record FirstNamed : Type 0 where
     pub fourteen : (key Δ H′ χ opened proof : List ℕ) (e : ℕ) → verifyAnswer A key Δ H′ χ opened proof ≡ refused 14 e
-        → (e < shapeOf key .τ) × (consistentIn A (shapeOf key) Δ H′ opened proof e ≡ false) × ((i : ℕ) → i < e → consistentIn A (shapeOf key) Δ H′ opened proof i ≡ true)
+        → FirstFailing (shapeOf key .τ) (consistentIn A (shapeOf key) Δ H′ opened proof) e
     pub fifteen : (key Δ H′ χ opened proof : List ℕ) (e : ℕ) → verifyAnswer A key Δ H′ χ opened proof ≡ refused 15 e
-        → (e < shapeOf key .τ) × (productIn A (shapeOf key) key Δ χ opened proof e ≡ false) × ((i : ℕ) → i < e → productIn A (shapeOf key) key Δ χ opened proof i ≡ true)
+        → FirstFailing (shapeOf key .τ) (productIn A (shapeOf key) key Δ χ opened proof) e
         × ((i : ℕ) → i < shapeOf key .τ → consistentIn A (shapeOf key) Δ H′ opened proof i ≡ true)
 
   -- The steps' bytes, one after the other, are the whole proof's; and a proof reads back as its six sections, with nothing after them.

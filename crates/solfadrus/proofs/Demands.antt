@@ -26,8 +26,8 @@ use Rattle.protocol.proofs.Theorems.{steps-are-whole, first-named}
 use Rattle.protocol.proofs.Demands.{accepts-exactly-when, honest-proof-accepted}
 use Rattle.sections.specs.Reading.{Reads}
 use Rattle.sections.proofs.ReadingLaws.{proof-read}
-use Rattle.solfadrus.specs.Demands.{CommitWrites, HashWrites, BatchWrites, ProveWrites, VerifyTold, RefusedByEleven, EveryAnswerListed, PlacesNamed, RefusedKeeps, AcceptedWrites, RefusedWhenFails, VerifierAcceptsExactly, WrittenIsAccepted, StepsMakeWhole, StepsAreAccepted, ReadsBack}
-use Rattle.solfadrus.proofs.ToldLaws.{word-accepted, only-accepted, not-zero, kept, wrote, refusal-told, number-told, eleven-told}
+use Rattle.solfadrus.specs.Demands.{CommitWrites, HashWrites, BatchWrites, ProveWrites, VerifyTold, RefusedByEleven, EveryAnswerListed, EveryQuestionPut, PlacesNamed, RefusedKeeps, AcceptedWrites, RefusedWhenFails, VerifierAcceptsExactly, WrittenIsAccepted, StepsMakeWhole, StepsAreAccepted, ReadsBack}
+use Rattle.solfadrus.proofs.ToldLaws.{word-accepted, only-accepted, not-zero, kept, wrote, asked-told, refusal-told, number-told, eleven-told}
 
 hash-published : (key leaves H′ out : List ℕ) (a : Answer) → a ≡ hashAnswer bits256 key leaves H′ out → Published (shapeOf key) a
 hash-published key leaves H′ out a h = subst (Published (shapeOf key)) (sym h) (all-published bits256 .hash-published key leaves H′ out)
@@ -40,6 +40,20 @@ every-answer-listed = record {
   batch-listed = λ key leaves x χ before after r t. (t .0, (t .1 .0, all-published bits256 .batch-published key leaves x χ before (t .0) (t .1 .1)));
   prove-listed = λ key leaves x H′ χ before after r t. (t .0, (t .1 .0, all-published bits256 .prove-published key leaves x H′ χ before (t .0) (t .1 .1)));
   verify-listed = λ key Δ H′ χ opened proof r t. (verifyAnswer bits256 key Δ H′ χ opened proof, (t, all-published bits256 .verify-published key Δ H′ χ opened proof));
+}
+
+pub every-question-put : EveryQuestionPut
+unfolding testAnswer commitAnswer hashAnswer batchAnswer proveAnswer verifyAnswer
+every-question-put = record {
+  test-put = λ key x r t. asked-told (shapeOf key) _ _ (t .0) (t .1 .1 .answers) (all-published bits256 .test-published key x (t .0) (t .1 .1)) r _ (t .1 .0) (t .1 .1 .answers);
+  commit-put = λ key leaves x before after r t.
+      asked-told (shapeOf key) _ _ (t .0) (t .1 .1 .answers) (all-published bits256 .commit-published key leaves x before (t .0) (t .1 .1)) r _ (t .1 .0) (t .1 .1 .answers);
+  hash-put = λ key leaves H′ before after r t. asked-told (shapeOf key) _ _ (t .0) (t .1 .1) (hash-published key leaves H′ before (t .0) (t .1 .1)) r _ (t .1 .0) (t .1 .1);
+  batch-put = λ key leaves x χ before after r t.
+      asked-told (shapeOf key) _ _ (t .0) (t .1 .1 .answers) (all-published bits256 .batch-published key leaves x χ before (t .0) (t .1 .1)) r _ (t .1 .0) (t .1 .1 .answers);
+  prove-put = λ key leaves x H′ χ before after r t.
+      asked-told (shapeOf key) _ _ (t .0) (t .1 .1 .answers) (all-published bits256 .prove-published key leaves x H′ χ before (t .0) (t .1 .1)) r _ (t .1 .0) (t .1 .1 .answers);
+  verify-put = λ key Δ H′ χ opened proof r t. asked-told (shapeOf key) _ _ _ refl (all-published bits256 .verify-published key Δ H′ χ opened proof) r _ t refl;
 }
 
 pub refused-keeps : RefusedKeeps
@@ -66,8 +80,7 @@ places-named = record {
   fourteen = λ key Δ H′ χ opened proof e l t.
       first-named bits256 .fourteen key Δ H′ χ opened proof e (refusal-told (shapeOf key) _ _ _ refl (all-published bits256 .verify-published key Δ H′ χ opened proof) 13 e l t);
   fifteen = λ key Δ H′ χ opened proof e l t.
-      let k = first-named bits256 .fifteen key Δ H′ χ opened proof e (refusal-told (shapeOf key) _ _ _ refl (all-published bits256 .verify-published key Δ H′ χ opened proof) 14 e l t) in
-      ((k .0, k .1, k .2), k .3);
+      first-named bits256 .fifteen key Δ H′ χ opened proof e (refusal-told (shapeOf key) _ _ _ refl (all-published bits256 .verify-published key Δ H′ χ opened proof) 14 e l t);
 }
 
 -- a refusal exactly when some equation fails, by the number of the answer

@@ -1,18 +1,19 @@
 -- What the number that C receives tells of the answer: whether it accepts, its number and its place.
 -- Assumes nothing.
 use mathlib.Core.Path.{_≡_, refl, sym, ap, _∙_, subst}
-use mathlib.Core.Logic.{_↔_, _≢_}
-use mathlib.Core.Bool.{Bool, true, false}
+use mathlib.Core.Logic.{_⊎_, inl, inr, _↔_, _≢_}
+use mathlib.Core.Bool.{Bool, true, false, true≢false}
 use mathlib.Core.List.{List, _∷_}
 use Prim.Native.Nat.{ℕ, suc, _+_, _*_, _/_, _<_}
 use native.Mathlib.Nat.{div-eq-of-lt-le}
 use native.Mathlib.Omega.{arith}
 use Rattle.protocol.specs.Binary.{bits256}
 use Rattle.protocol.specs.Shape.{Shape, limits}
-use Rattle.protocol.specs.Answers.{Answer, accepted, refused, numberOf, placeOf, word, written, Question, question, ask, Reply, Published, taken, header-short, size-out-of-range, key-length, key-spare-bit, challenge-length, hash-spare-bit, leaf-length, leaf-spare-bit, witness-form, output-length, equation-fails, proof-length, proof-spare-bit, inconsistent, product-differs}
+use Rattle.protocol.specs.Answers.{Answer, accepted, refused, numberOf, placeOf, word, isAccepted, written, Question, question, ask, Reply, Published, taken, header-short, size-out-of-range, key-length, key-spare-bit, challenge-length, hash-spare-bit, leaf-length, leaf-spare-bit, witness-form, output-length, equation-fails, proof-length, proof-spare-bit, inconsistent, product-differs}
 use Rattle.protocol.specs.Questions.{q2}
-use Rattle.protocol.proofs.AnswerLaws.{ask-no, ask-yes, place-lt, word-tells}
+use Rattle.protocol.proofs.AnswerLaws.{ask-no, ask-yes, ask-accepts, ask-refuses, place-lt, word-tells}
 use Rattle.protocol.proofs.LimitLaws.{bounds-of}
+use Rattle.solfadrus.specs.Demands.{Asked}
 
 pub word-accepted : word accepted ≡ 0
 unfolding word
@@ -65,6 +66,18 @@ module _ (s : Shape) (b : Bool) (qs : List Question) (a : Answer) (is : a ≡ as
       go false d e f = none 1 (is ∙ ask-no (question b 1 0) (q2 bits256 s ∷ qs) e)
       go true false e f = none 2 (is ∙ ask-yes (question b 1 0) (q2 bits256 s ∷ qs) e ∙ ask-no (q2 bits256 s) qs f)
       go true true e f = let k = bounds-of s f in place-lt s (omega (arith, k .m≤)) (omega (arith, k .τ≤)) a listed
+
+  -- taken or refused, as the questions say
+  pub asked-told : (r : ℕ) (rs : ℕ → List Question) → r ≡ word a → a ≡ ask (rs (placeOf a)) → Asked rs r
+  unfolding word
+  asked-told r rs w h = go a refl
+    where
+      go : (c : Answer) → a ≡ c → Asked rs r
+      go accepted e = inl (w ∙ ap word e ∙ word-accepted, ask-accepts (rs 0) .0 (sym (subst (λ (c : Answer). c ≡ ask (rs (placeOf c))) e h)))
+      go (refused i p) e =
+          let q : p < 65536 = subst (λ (c : Answer). placeOf c < 65536) e place-fits in
+          let n : r ≢ 0 = λ z. true≢false (ap isAccepted (sym (only-accepted s a listed (sym w ∙ z)) ∙ e)) in
+          inr (n, i, p, q, w ∙ ap word e, ask-refuses (rs p) i p (sym (subst (λ (c : Answer). c ≡ ask (rs (placeOf c))) e h)))
 
   pub refusal-told : (i p : ℕ) → p < 65536 → suc i * 65536 + p ≡ word a → a ≡ refused (suc i) p
   refusal-told i p l h = word-tells s a listed place-fits i p l h

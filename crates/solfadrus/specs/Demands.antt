@@ -1,13 +1,13 @@
 -- Demand 1 and demand 2 of the exports, over what their contracts promise. Demand 3 is in Forgery.
 --   Listed s r == r is 0, or number × 65,536 + place of a refusal in the published list, for a key of sizes s
---   FirstFailing τ holds e == e is the first of τ repetitions in which a check does not hold
+--   Asked qs r == r is 0 and every question of qs gets a yes, or r is number × 65,536 + place of the first that gets a no; qs p has p for the place of 11
 --   RefusedByEleven key x r == r is a refusal exactly when some equation of the key fails at x, and then its number is 11
 --   TestTold, CommitWrites, HashWrites, BatchWrites, ProveWrites == the promises of mq_test, mq_commit, mq_hash, mq_batch, mq_prove: their inputs, the output before and after, the number
 --   VerifyTold == the promise of mq_verify, which writes nothing: its inputs, the number
 -- Assumes nothing.
 use mathlib.Core.Path.{_≡_}
-use mathlib.Core.Logic.{_↔_, _≢_}
-use mathlib.Core.Bool.{Bool, true, false}
+use mathlib.Core.Logic.{_⊎_, _↔_, _≢_}
+use mathlib.Core.Bool.{true}
 use mathlib.Core.List.{List, [], _∷_, _++_}
 use Prim.Native.Nat.{ℕ, _+_, _*_, _/_, _<_}
 use lib.ListN.{length}
@@ -16,11 +16,11 @@ use Rattle.protocol.specs.Binary.{bits256}
 use Rattle.protocol.specs.Shape.{Shape, shapeOf}
 use Rattle.protocol.specs.Prover.{sectionsOf, commitBytes, hashBytes, batchBytes, proofOf}
 use Rattle.protocol.specs.Sections.{lengths}
-use Rattle.protocol.specs.Answers.{Answer, word, Published}
-use Rattle.protocol.specs.Questions.{fails, consistentIn, productIn}
-use Rattle.protocol.specs.Calls.{hashAnswer, verifyAnswer, TestReply, CommitReply, BatchReply, ProveReply, testForm, commitForm, batchForm, proveForm, verifyForm}
+use Rattle.protocol.specs.Answers.{Answer, Question, allYes, word, Published}
+use Rattle.protocol.specs.Questions.{fails, consistentIn, productIn, q11, q14, q15}
+use Rattle.protocol.specs.Calls.{testQuestions, commitQuestions, hashQuestions, batchQuestions, proveQuestions, verifyQuestions, hashAnswer, verifyAnswer, TestReply, CommitReply, BatchReply, ProveReply, testForm, commitForm, batchForm, proveForm, verifyForm}
 use Rattle.protocol.specs.Counting.{opening}
-use Rattle.protocol.specs.Statements.{SomeFails}
+use Rattle.protocol.specs.Statements.{FirstNo, FirstFailing, SomeFails}
 use Rattle.sections.specs.Reading.{Reads}
 use Rattle.solfadrus.specs.Told.{Told, Writes}
 
@@ -46,8 +46,8 @@ module _ (key : List ℕ) where
   abbrev pub VerifyTold : List ℕ → List ℕ → List ℕ → List ℕ → List ℕ → ℕ → Type 0
   VerifyTold Δ H′ χ opened proof r = r ≡ word (verifyAnswer bits256 key Δ H′ χ opened proof)
 
-abbrev pub FirstFailing : ℕ → (ℕ → Bool) → ℕ → Type 0
-FirstFailing τ holds e = (e < τ) × (holds e ≡ false) × ((i : ℕ) → i < e → holds i ≡ true)
+abbrev pub Asked : (ℕ → List Question) → ℕ → Type 0
+Asked qs r = ((r ≡ 0) × (allYes (qs 0) ≡ true)) ⊎ ((r ≢ 0) × (i : ℕ) × (p : ℕ) × (p < 65536) × (r ≡ i * 65536 + p) × FirstNo (qs p) i p)
 
 abbrev pub RefusedByEleven : List ℕ → List ℕ → ℕ → Type 0
 RefusedByEleven key x r = ((r ≢ 0) ↔ SomeFails bits256 key x) × (r ≢ 0 → r / 65536 ≡ 11)
@@ -60,6 +60,16 @@ pub record EveryAnswerListed : Type 0 where
   pub batch-listed : (key leaves x χ before after : List ℕ) (r : ℕ) → BatchWrites key leaves x χ before after r → Listed (shapeOf key) r
   pub prove-listed : (key leaves x H′ χ before after : List ℕ) (r : ℕ) → ProveWrites key leaves x H′ χ before after r → Listed (shapeOf key) r
   pub verify-listed : (key Δ H′ χ opened proof : List ℕ) (r : ℕ) → VerifyTold key Δ H′ χ opened proof r → Listed (shapeOf key) r
+
+-- "Each call puts those that concern its inputs, in this order. A no ends the call with that number."
+pub record EveryQuestionPut : Type 0 where
+  pub test-put : (key x : List ℕ) (r : ℕ) → TestTold key x r → Asked (λ p. testQuestions bits256 key x ++ (q11 bits256 (shapeOf key) key x p ∷ [])) r
+  pub commit-put : (key leaves x before after : List ℕ) (r : ℕ) → CommitWrites key leaves x before after r → Asked (λ p. commitQuestions bits256 key leaves x before ++ (q11 bits256 (shapeOf key) key x p ∷ [])) r
+  pub hash-put : (key leaves H′ before after : List ℕ) (r : ℕ) → HashWrites key leaves H′ before after r → Asked (λ p. hashQuestions bits256 key leaves H′ before) r
+  pub batch-put : (key leaves x χ before after : List ℕ) (r : ℕ) → BatchWrites key leaves x χ before after r → Asked (λ p. batchQuestions bits256 key leaves x χ before ++ (q11 bits256 (shapeOf key) key x p ∷ [])) r
+  pub prove-put : (key leaves x H′ χ before after : List ℕ) (r : ℕ) → ProveWrites key leaves x H′ χ before after r → Asked (λ p. proveQuestions bits256 key leaves x H′ χ before ++ (q11 bits256 (shapeOf key) key x p ∷ [])) r
+  pub verify-put : (key Δ H′ χ opened proof : List ℕ) (r : ℕ) → VerifyTold key Δ H′ χ opened proof r
+      → Asked (λ p. verifyQuestions bits256 key Δ H′ χ opened proof ++ (q14 bits256 (shapeOf key) Δ H′ opened proof ∷ q15 bits256 (shapeOf key) key Δ χ opened proof ∷ [])) r
 
 -- Each place of that list means what the list says: no call names an equation that holds or a repetition in which the check holds.
 pub record PlacesNamed : Type 0 where
