@@ -8,7 +8,11 @@ ghost use Rattle.protocol.specs.Shape.{kOf, wOf};
 ghost use Rattle.protocol.specs.Key.{keyLengths};
 ghost use Rattle.protocol.specs.Sections.{lengths, commitLengths, hashLengths, batchLengths};
 ghost use Rattle.solfadrus.specs.Sized.{shape, sized};
+use field::Gf256;
 use format::Sizes;
+
+// All leaves of a tree but one.
+const OPENED: usize = Gf256::SIZE - 1;
 
 #[no_mangle]
 pub extern "C" fn mq_key_size(n: usize, m: usize, tau: usize, t: usize) -> usize
@@ -40,7 +44,7 @@ pub extern "C" fn mq_leaves_size(n: usize, m: usize, tau: usize, t: usize) -> us
 {
     let s = Sizes { n, m, tau, t };
     if format::sizes::in_limits(s) {
-        format::sizes::leaves_bytes(s, 256)
+        format::sizes::leaves_bytes(s, Gf256::SIZE)
     } else {
         0
     }
@@ -52,7 +56,7 @@ pub extern "C" fn mq_opened_size(n: usize, m: usize, tau: usize, t: usize) -> us
 {
     let s = Sizes { n, m, tau, t };
     if format::sizes::in_limits(s) {
-        format::sizes::leaves_bytes(s, 255)
+        format::sizes::leaves_bytes(s, OPENED)
     } else {
         0
     }
