@@ -4,7 +4,7 @@ use mathlib.Core.Path.{_≡_, sym, ap, ap₂, _∙_}
 use mathlib.Core.Bool.{cond}
 use mathlib.Core.List.{List, _++_}
 use mathlib.Core.Logic.{⊎-elim}
-use Prim.Native.Nat.{ℕ, _+_, _*_, _-_, _/_, _%_, _≤_, _<_}
+use Prim.Native.Nat.{ℕ, suc, _+_, _*_, _-_, _/_, _%_, _≤_, _<_}
 use native.Mathlib.Nat.{eq-or-lt-of-le, le-of-suc-le-suc, add-mul, mul-le-mul}
 use native.Mathlib.Decide.{decLt}
 use native.Mathlib.Numerals.{add-one}
@@ -18,6 +18,7 @@ use Rattle.protocol.specs.Strings.{bytesFor}
 use Rattle.protocol.specs.Lists.{blockAt}
 use Rattle.strings.specs.Sums.{byteAt, bitOf}
 use Rattle.strings.proofs.Meaning.{bitOf-xor}
+use Rattle.strings.proofs.LeastLaws.{under-least}
 use Rattle.strings.proofs.Rows.{row-end}
 use Rattle.chunks.specs.Chunks.{chunk, cellAt}
 use Rattle.folds.specs.Folds.{entry, foldedBit, before, Folded, FoldedSet}
@@ -28,14 +29,6 @@ use Rattle.folds.proofs.PlaceLaws.{beside-rows, beside-panel, beside-ma
 -- what holds below n, and of n, holds below n + 1
 pub below-next : (P : ℕ → Type 0) (n : ℕ) → P n → ((k : ℕ) → k < n → P k) → (k : ℕ) → k < n + 1 → P k
 below-next P n own done k h = ⊎-elim (λ (e : k ≡ n). rw e own) (λ (lt : k < n). done k lt) (eq-or-lt-of-le (le-of-suc-le-suc (rw add-one at h)))
-
--- what is below two bounds is below their least
-pub below-least : (a b r x : ℕ) → (r < a → r ≡ b) → x < a → x < b → x < r
-below-least a b r x least ha hb = go (decLt r a)
-  where
-    go : Dec (r < a) → x < r
-    go (yes lt) = omega (arith, least lt)
-    go (no ge) = omega arith
 
 -- ---- sixteen rows
 
@@ -126,7 +119,7 @@ size n w end wide few most =
 
 -- the panels of a set that begin before n end before the least of two bounds
 pub set-ends : (first n end : ℕ) → (end < first + 4 → end ≡ (n + 15) / 16) → (p : ℕ) → p < 4 → (first + p) * 16 < n → first + p < end
-set-ends first n end least p hp h = below-least (first + 4) ((n + 15) / 16) end (first + p) least (omega arith) (omega arith)
+set-ends first n end least p hp h = under-least (suc (first + p)) end (first + 4) ((n + 15) / 16) least (omega arith) (omega arith)
 
 -- a column below n stands in a byte of the row
 column-byte : (n w c : ℕ) → w ≡ bytesFor n → c < n → c / 8 < w

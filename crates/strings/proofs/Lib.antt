@@ -8,3 +8,4 @@ pub mod BitLaws
 pub mod TopLaws
 pub mod ProductLaws
 pub mod WordLaws
+pub mod LeastLaws

@@ -100,3 +100,10 @@ pub fn word_at(s: &[u8], at: usize) -> u64
         | wide(s[at + 6]) << 48
         | wide(s[at + 7]) << 56
 }
+
+// The lesser of two numbers.
+pub fn least(a: usize, b: usize) -> usize
+    ensures { λ r. ⌜ (r ≤ a) × (r ≤ b) × ((r < a) → r ≡ b) ⌝ }
+{
+    if a < b { a } else { b }
+}

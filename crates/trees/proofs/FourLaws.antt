@@ -147,13 +147,6 @@ first-least m a b le other lt = go (decLt m a)
     go (yes below) = absurd (omega (arith, other below))
     go (no above) = omega arith
 
-pub under-least : (k m a b : ℕ) → k ≤ a → k ≤ b → m ≤ a → (m < a → m ≡ b) → k ≤ m
-under-least k m a b ha hb le other = go (decLt m a)
-  where
-    go : Dec (m < a) → k ≤ m
-    go (yes below) = omega (arith, other below)
-    go (no above) = omega arith
-
 -- where leaves are left after the four that are cut out, the leaf that is left out is among these
 pub cut-out : (δ count m next : ℕ) → m ≤ δ → (m < δ → m ≡ count) → next ≤ m / 4 * 4 + 4 → (next < m / 4 * 4 + 4 → next ≡ count) → next < count → (next % 4 ≡ 0) × (δ < next)
 cut-out δ count m next le other le′ other′ lt =

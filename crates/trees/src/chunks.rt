@@ -16,6 +16,7 @@ ghost use Rattle.trees.specs.Trees.{leafByte, TreeFits, Summed};
 ghost use Rattle.trees.specs.Partial.{Running, heldPlane};
 use super::fours::hold_fours;
 use super::opened_leaf;
+use strings::least;
 
 pub const CHUNK: usize = 16;
 
@@ -106,12 +107,6 @@ fn hold_leaves(
         add_held(held, held_row(j, r), sum);
         j += 1;
     }
-}
-
-fn least(a: usize, b: usize) -> usize
-    ensures { λ r. ⌜ (r ≤ a) × (r ≤ b) × (r < a → r ≡ b) ⌝ }
-{
-    if a < b { a } else { b }
 }
 
 // The running sum of all leaves, and what is held for the planes, from 0: by four before the leaf that is left out and after it, and one by one the

@@ -1,15 +1,16 @@
 -- `folds::mirrors::reflect_all` meets its contract. The invariant: the columns below k are reflected.
 -- Assumes nothing.
 use borrow.Author.Needs.{needs}
-use Prim.Native.Nat.{ℕ, _+_, _*_, _-_, _≤_, _<_}
+use Prim.Native.Nat.{ℕ, suc, _+_, _*_, _-_, _≤_, _<_}
 use mathlib.Core.Path.{_≡_, _∙_}
 use native.Mathlib.Nat.{mul-le-mul-right}
 use native.Mathlib.Omega.{arith}
 use denote.Ref.{now}
 use lib.ListN.{length, drop}
+use Rattle.strings.proofs.LeastLaws.{under-least}
 use Rattle.folds.specs.Sets.{Reflected}
 use Rattle.folds.proofs.MirrorLaws.{reflected-stays}
-use Rattle.folds.proofs.SetLaws.{below-next, below-least}
+use Rattle.folds.proofs.SetLaws.{below-next}
 use Rattle.folds.proofs.mirrors.reflect_all.Statement.{statement}
 use Rattle.folds.proofs.mirrors.reflect_all.Tie as tie
 
@@ -74,7 +75,7 @@ returns : tie.Need-returns Inv-loop μ-loop
 returns c =
     let a = c .before .before .before .before .before .args in
     let least = c .before .before .least in
-    λ k h w. c .before .loop .inv .2 k (omega (arith, below-least (2 * a .end) (a .width) (least .result) (2 * a .first + k) (least .ensures .2) h w)) h
+    λ k h w. c .before .loop .inv .2 k (omega (arith, under-least (suc (2 * a .first + k)) (least .result) (2 * a .end) (a .width) (least .ensures .2) h w)) h
 
 pub reflect-all-spec : {M : Type 1} → statement M
 reflect-all-spec =

@@ -9,7 +9,8 @@ use Rattle.strings.proofs.SumLaws.{sum-same, sum-none}
 use Rattle.trees.specs.Trees.{leafByte}
 use Rattle.trees.specs.Partial.{heldPlane}
 use Rattle.trees.proofs.PartialLaws.{running-none, running-all}
-use Rattle.trees.proofs.FourLaws.{below-byte, above-byte, before-fits, after-fits, under-least, cut-out}
+use Rattle.strings.proofs.LeastLaws.{under-least}
+use Rattle.trees.proofs.FourLaws.{below-byte, above-byte, before-fits, after-fits, cut-out}
 use borrow.Author.Needs.{needs}
 use Rattle.trees.proofs.chunks.hold.Statement.{statement}
 use Rattle.trees.proofs.chunks.hold.Tie as tie
@@ -50,7 +51,7 @@ hold-leaves-requires c κs =
     let m = c .before .before .before .before .before .before .least in
     let next = c .before .before .before .before .before .least2 in
     let fours = c .before .before .hold-fours in
-    (fours .ensures .0 .0, fours .ensures .0 .1, omega arith, under-least (m .result / 4 * 4) (next .result) (m .result / 4 * 4 + 4) (start .args .count) (omega arith) (omega arith) (next .ensures .0) (next .ensures .2), omega arith, omega arith, λ j lt other. start .pre .0 .5 j (omega arith) other)
+    (fours .ensures .0 .0, fours .ensures .0 .1, omega arith, under-least (m .result / 4 * 4) (next .result) (m .result / 4 * 4 + 4) (start .args .count) (next .ensures .2) (omega arith) (omega arith), omega arith, omega arith, λ j lt other. start .pre .0 .5 j (omega arith) other)
 
 hold-fours-requires-2 : tie.Need-hold-fours-requires-2
 hold-fours-requires-2 c κs =
