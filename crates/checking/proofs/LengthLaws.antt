@@ -4,22 +4,15 @@ use mathlib.Core.Path.{_≡_, refl, sym, ap, ap₂, _∙_}
 use mathlib.Core.Bool.{false}
 use mathlib.Core.List.{List, [], _∷_, _++_}
 use Prim.Native.Nat.{ℕ, zero, suc, _+_, _-_, _≤_, _<_}
-use native.Mathlib.Nat.{add-assoc}
 use native.Mathlib.Numerals.{add-one}
 use native.Mathlib.Omega.{arith}
 use lib.Dec.{eqb}
-use lib.ListN.{length, getD, set, take, drop}
-use lib.Seq.{drop-drop, getD-drop, take-suc-set}
-use Rattle.protocol.specs.Frames.{num2, num4, framed, framedLength}
+use lib.ListN.{length, set, take, drop}
+use lib.Seq.{drop-drop, take-suc-set}
+use Rattle.protocol.specs.Frames.{num4, framed, framedLength}
 use Rattle.protocol.specs.Reader.{between, missing, sectionAt}
 use Rattle.protocol.specs.Check.{lengthsIn}
-use Rattle.sections.proofs.SectionLaws.{section-is, follow-missing, follow-next, follow-end}
-
-num4-drop : (s : List ℕ) (d k : ℕ) → num4 (drop d s) k ≡ num4 s (d + k)
-unfolding num4 num2
-num4-drop s d k =
-    let b : (i : ℕ) → getD (drop d s) i 0 ≡ getD s (d + i) 0 = λ i. getD-drop d s i 0 in
-    simp (b, add-assoc)
+use Rattle.sections.proofs.SectionLaws.{num4-drop, section-is, follow-missing, follow-next, follow-end}
 
 -- ---- what is left to be read
 

@@ -1,7 +1,7 @@
 -- Six strings, each after its count, are read back; too much, too little and more after them is unread.
 -- Assumes nothing.
 use mathlib.Core.Path.{_≡_, refl, sym, ap, ap₂, _∙_}
-use mathlib.Core.Bool.{Bool, true, false, _&&_}
+use mathlib.Core.Bool.{true, _&&_}
 use mathlib.Core.List.{List, [], _∷_, _++_, map, append-assoc, append-nil}
 use Prim.Native.Nat.{ℕ, zero, suc, _+_, _≤_, _<_}
 use native.Mathlib.Omega.{arith}
@@ -15,7 +15,7 @@ use Rattle.protocol.specs.Calls.{verifyAnswer}
 use Rattle.protocol.specs.Check.{answered, lengthsIn, checkOf}
 use Rattle.protocol.proofs.TestLaws.{leb-le}
 use Rattle.protocol.proofs.FrameLaws.{Short, count-back, frame-skip, frame-framed, frame-section, length-frame}
-use Rattle.sections.proofs.SectionLaws.{framed-length}
+use Rattle.sections.proofs.SectionLaws.{framed-length, decided}
 use Rattle.checking.specs.ReadBack.{six, ReadBack, TooLong, LeftOver, CutShort}
 use Rattle.checking.proofs.OutcomeLaws.{too-long, not-framed, read-whole, same-answer}
 
@@ -57,10 +57,6 @@ short-by : (ss : List (List ℕ)) → framedLength (map length ss) ≤ 65536 →
 unfolding framedLength
 short-by [] h = tt
 short-by (s ∷ ss) h = (omega arith, short-by ss (omega arith))
-
-decided : (b : Bool) → (b ≡ true → ⊥) → b ≡ false
-decided true f = absurd (f refl)
-decided false f = refl
 
 module _ (k d h x o p : List ℕ) (small : length (six k d h x o p) ≤ 65536) where
   abbrev ss : List (List ℕ)

@@ -31,6 +31,7 @@ use Rattle.vole.proofs.SectionLaws.{in-width}
 use Rattle.opened.proofs.OpenedMeaning.{table-w}
 use Rattle.steps.specs.Hashed.{hashLane}
 use Rattle.steps.specs.Loaded.{HashForm}
+use Rattle.steps.proofs.FitLaws.{k-below}
 use Rattle.repetitions.specs.Repetitions.{rowConsistent, firstInconsistent, firstDiffering}
 use Rattle.repetitions.proofs.FirstLaws.{first-congr}
 use Rattle.product.specs.Product.{productByte}
@@ -72,10 +73,6 @@ module _ (s : Shape) (Δ opened proof T : List ℕ) (is : Opened s Δ opened pro
   module _ (challenge T′ : List ℕ) (same : (e : ℕ) → e < s .τ → byteAt challenge e ≡ byteAt Δ e) (lane : (e : ℕ) → e < s .τ → e < lanes)
       (changed : (c e : ℕ) → c < s .n → e < lanes → laneAt T′ c e ≡ bitXor (laneAt T c e) (bit (p .d) c * byteAt challenge e))
       (stays : (c e : ℕ) → s .n ≤ c → e < lanes → laneAt T′ c e ≡ laneAt T c e) where
-    in-l : (c : ℕ) → c < kOf bits256 s → c < lOf bits256 s
-    unfolding lOf
-    in-l c h = omega (arith, h)
-
     in-k : (c : ℕ) → c < s .n → c < kOf bits256 s
     unfolding kOf
     in-k c h = omega (arith, h)
@@ -84,7 +81,7 @@ module _ (s : Shape) (Δ opened proof T : List ℕ) (is : Opened s Δ opened pro
     unfolding keyAt symbol
     front e l c h =
         changed c e h (lane e l)
-        ∙ ap₂ bitXor (holds e c l (in-l c (in-k c h)))
+        ∙ ap₂ bitXor (holds e c l (k-below s c (in-k c h)))
         (ap (λ z. bit (p .d) c * z) (same e l) ∙ mul-comm (bit (p .d) c) (byteAt Δ e) ∙ sym (byte-times gf256 (byteAt Δ e) (bit (p .d) c) (challenges e) (bit-lt (p .d) c)))
         ∙ sym (bits256 .K .byte-add _ _)
 
@@ -96,7 +93,7 @@ module _ (s : Shape) (Δ opened proof T : List ℕ) (is : Opened s Δ opened pro
         ap (λ n. firstNot n (λ e. eqb (byteAt left e) (bitXor (byteAt (p .QS0) e) (mulByte gf256 (byteAt (p .QS1) e) (byteAt Δ e))))) long
         ∙ first-congr (s .τ) _ _
         (λ e l.
-        holds-is s p e (byteAt Δ e) (challenges e) (w e) key χ T′ (front e l) (λ c low h. stays c e low (lane e l) ∙ holds e c l (in-l c h)) bytes left
+        holds-is s p e (byteAt Δ e) (challenges e) (w e) key χ T′ (front e l) (λ c low h. stays c e low (lane e l) ∙ holds e c l (k-below s c h)) bytes left
         (lefts e l ∙ ap (λ z. productByte (s .n) (s .m) (sectionA bits256 s key) (sectionB bits256 s key) (sectionY bits256 s key) χ z T′ e) (same e l)) (sent e))
 
 take-lt : (l : List ℕ) (n j : ℕ) → ((k : ℕ) → byteAt l k < 256) → byteAt (take n l) j < 256

@@ -11,7 +11,7 @@ use Rattle.algebra.specs.Field.{Field}
 use Rattle.algebra.specs.Coded.{Coded, mulByte, powByte}
 use Rattle.algebra.specs.BitField.{computing}
 use Rattle.algebra.specs.Sum.{power}
-use Rattle.algebra.proofs.RingLaws.{ring}
+use Rattle.algebra.proofs.RingLaws.{mul-zero, mul-left-comm}
 use Rattle.algebra.proofs.SumLaws.{sum-mul}
 use Rattle.algebra.proofs.TestLaws.{everyBelow, every-at}
 use Rattle.field.specs.Gf256.{gf256}
@@ -25,7 +25,7 @@ use Rattle.columns.specs.Stacks.{alpha, product}
 module _ (C : Coded) where
   open Coded C using (base, elem, byte)
   open Field base using (R)
-  open Ring R using (F, 𝟘, 𝟙, add as _⊕_, mul as _⊗_)
+  open Ring R using (F, 𝟙, add as _⊕_, mul as _⊗_)
 
   infixl 65 _⊕_
   infixl 70 _⊗_
@@ -33,13 +33,10 @@ module _ (C : Coded) where
   coded-sum a n g =
       ap (λ y. byte (elem a ⊗ y)) (elem-sum C n g) ∙ ap byte (sym (sum-mul R n (elem a) (λ i. elem (g i)))) ∙ byte-sum C n (λ i. elem a ⊗ elem (g i))
 
-  nothing : (a : F) → a ⊗ 𝟘 ≡ 𝟘
-  nothing a = simp ring
-
   coded-bit : (a q x : ℕ) → q < 2 → mulByte C a (q * x) ≡ q * mulByte C a x
   coded-bit a zero x h =
       ap (mulByte C a) (zero-mul x)
-      ∙ ap byte (ap (λ y. elem a ⊗ y) (C .elem-zero) ∙ nothing (elem a) ∙ sym (C .elem-zero))
+      ∙ ap byte (ap (λ y. elem a ⊗ y) (C .elem-zero) ∙ mul-zero R (elem a) ∙ sym (C .elem-zero))
       ∙ C .byte-elem 0 (omega (arith, base .four≤size)) ∙ sym (zero-mul (mulByte C a x))
   coded-bit a (suc zero) x h = ap (mulByte C a) (one-mul x) ∙ sym (one-mul (mulByte C a x))
   coded-bit a (suc (suc q)) x h = absurd (omega arith)
@@ -47,13 +44,10 @@ module _ (C : Coded) where
   coded-comm : (a b : ℕ) → mulByte C a b ≡ mulByte C b a
   coded-comm a b = ap byte (R .mul-comm (elem a) (elem b))
 
-  third : (a x y : F) → a ⊗ (x ⊗ y) ≡ x ⊗ (a ⊗ y)
-  third a x y = simp ring
-
   power-add : (a : F) (p i : ℕ) → power R a (p + i) ≡ power R a p ⊗ power R a i
   unfolding power
   power-add a p zero = ap (power R a) (add-zero p) ∙ sym (R .mul-one (power R a p))
-  power-add a p (suc i) = ap (power R a) (add-suc p i) ∙ ap (λ y. a ⊗ y) (power-add a p i) ∙ third a (power R a p) (power R a i)
+  power-add a p (suc i) = ap (power R a) (add-suc p i) ∙ ap (λ y. a ⊗ y) (power-add a p i) ∙ mul-left-comm R a (power R a p) (power R a i)
 
   coded-power : (x p i : ℕ) → powByte C x (p + i) ≡ mulByte C (powByte C x p) (powByte C x i)
   coded-power x p i =

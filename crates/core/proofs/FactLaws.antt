@@ -19,6 +19,7 @@ use Rattle.protocol.specs.Questions.{hExact, χExact, witnessForm}
 use Rattle.protocol.specs.Calls.{testQuestions, commitQuestions, hashQuestions, batchQuestions, proveQuestions}
 use Rattle.protocol.proofs.TestLaws.{eqb-eq, leb-le, all-true}
 use Rattle.protocol.proofs.AnswerLaws.{ask-accepts, all-yes}
+use Rattle.steps.proofs.FitLaws.{batching-of}
 use Rattle.steps.specs.Facts.{KeyFacts, WitnessForm, TestFacts, CommitFacts, HashFacts, BatchFacts, ProveFacts}
 
 witness-of : (s : Shape) (x : List ℕ) → witnessForm bits256 s x ≡ true → WitnessForm s x
@@ -28,10 +29,6 @@ witness-of s x h =
       witness-length = eqb-eq _ _ (and-left (eqb (length x) (bytesFor (s .n))) (spareZero x (s .n)) h);
       witness-spare = and-right (eqb (length x) (bytesFor (s .n))) (spareZero x (s .n)) h;
     }
-
-batching-of : (s : Shape) (χ : List ℕ) → χExact bits256 s χ ≡ true → length χ ≡ s .τ * s .m
-unfolding χExact
-batching-of s χ h = eqb-eq _ _ h
 
 commit-out : (s : Shape) (out : List ℕ) → eqb (length out) (framedLength (commitLengths bits256 s)) ≡ true → length out ≡ 8 + (s .τ - 1) * wOf bits256 s + bytesFor (s .n)
 unfolding framedLength commitLengths

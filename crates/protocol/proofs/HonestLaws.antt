@@ -12,7 +12,7 @@ use Rattle.algebra.specs.Ring.{Ring}
 use Rattle.algebra.specs.Field.{Field}
 use Rattle.algebra.specs.Coded.{Coded}
 use Rattle.algebra.specs.Roots.{isZero, lineAt, passing}
-use Rattle.algebra.proofs.RingLaws.{ring}
+use Rattle.algebra.proofs.RingLaws.{ring, add-self-left}
 use Rattle.algebra.proofs.FieldLaws.{eqb-true}
 use Rattle.protocol.specs.Lists.{table, blockAt}
 use Rattle.protocol.specs.Frames.{frame, framed, sectionNo}
@@ -33,6 +33,10 @@ use Rattle.protocol.proofs.CoefficientLaws.{all-lines}
 use Rattle.protocol.proofs.LimitLaws.{Bounds}
 use Rattle.protocol.proofs.SymbolLaws.{pack-sym, spare-pack, hash-symbol, correction-symbol, d-symbol}
 
+pub n-below : (A : Alphabet) (s : Shape) (c : ℕ) → c < s .n → c < lOf A s
+unfolding lOf kOf
+n-below A s c l = omega arith
+
 module _ (A : Alphabet) (laws : Lawful A) where
   open Alphabet A using (K, symbolOf, width, pack, spareZero)
   open Coded K using (base, elem, byte)
@@ -42,10 +46,6 @@ module _ (A : Alphabet) (laws : Lawful A) where
   infixl 65 _⊕_
   infixl 70 _⊗_
   module _ (s : Shape) (leaves : List ℕ) where
-    n-below : (c : ℕ) → c < s .n → c < lOf A s
-    unfolding lOf kOf
-    n-below c l = omega arith
-
     -- ---- the sections, by rows
 
     unfoldable rowC : ℕ → List ℕ
@@ -86,10 +86,7 @@ module _ (A : Alphabet) (laws : Lawful A) where
       shift-is (suc e) l c k =
           ap (λ z. u A s leaves (suc e) c ⊕ z)
           (ap (λ z. symbol A z c) (C-block e (omega arith)) ∙ pack-sym A laws (lOf A s) (correction A s leaves (suc e)) (correction-symbol A laws s leaves (suc e)) c k)
-          ∙ cancel (u A s leaves (suc e) c) (u A s leaves 0 c)
-        where
-          cancel : (a b : F) → a ⊕ (a ⊕ b) ≡ b
-          cancel a b = simp ring
+          ∙ add-self-left R (u A s leaves (suc e) c) (u A s leaves 0 c)
 
       d-is : (c : ℕ) → c < s .n → symbol A (P .d) c ≡ symbol A x c ⊕ u A s leaves 0 c
       unfolding dOf dSection
@@ -98,7 +95,7 @@ module _ (A : Alphabet) (laws : Lawful A) where
       candidate-is : (e : ℕ) → e < s .τ → (c : ℕ) → c < s .n → candidate A s leaves P e c ≡ symbol A x c
       unfolding candidate
       candidate-is e le c l =
-          ap₂ _⊕_ (shift-is e le c (n-below c l)) (d-is c l) ∙ cancel (u A s leaves 0 c) (symbol A x c)
+          ap₂ _⊕_ (shift-is e le c (n-below A s c l)) (d-is c l) ∙ cancel (u A s leaves 0 c) (symbol A x c)
         where
           cancel : (a b : F) → a ⊕ (b ⊕ a) ≡ b
           cancel a b = simp ring

@@ -61,11 +61,19 @@ section-is s at a e h = go (decLe (at + 4 + num4 s at) (length s))
         (ap startOf p, i, omega arith)
     go (no n) = absurd (false≢true (ap isMissing (sym h ∙ sym (section-cut s at (omega arith)))))
 
-num4-drop : (s : List ℕ) (at : ℕ) → num4 (drop at s) 0 ≡ num4 s at
+pub num4-drop : (s : List ℕ) (d k : ℕ) → num4 (drop d s) k ≡ num4 s (d + k)
 unfolding num4 num2
-num4-drop s at =
-    let b : (i : ℕ) → getD (drop at s) i 0 ≡ getD s (at + i) 0 = λ i. getD-drop at s i 0 in
-    simp (b, add-zero, add-assoc)
+num4-drop s d k =
+    let b : (i : ℕ) → getD (drop d s) i 0 ≡ getD s (d + i) 0 = λ i. getD-drop d s i 0 in
+    simp (b, add-assoc)
+
+num4-first : (s : List ℕ) (at : ℕ) → num4 (drop at s) 0 ≡ num4 s at
+num4-first s at = num4-drop s at 0 ∙ ap (num4 s) (add-zero at)
+
+-- a test that cannot be true is false
+pub decided : (b : Bool) → (b ≡ true → ⊥) → b ≡ false
+decided true f = absurd (f refl)
+decided false f = refl
 
 -- ---- a string of sections, from an index on
 
@@ -77,14 +85,10 @@ module _ (l : ℕ) (ls s : List ℕ) (at : ℕ) where
       let count? = eqb (num4 (drop at s) 0) l in
       let rest? = framed ls (drop (4 + l) (drop at s)) in
       let a : 4 + l ≤ length (drop at s) = leb-le (4 + l) (length (drop at s)) (and-left fits? (count? && rest?) h) in
-      (omega (arith, length-drop at s), sym (num4-drop s at) ∙ eqb-eq (num4 (drop at s) 0) l (and-left count? rest? (and-right fits? (count? && rest?) h)))
+      (omega (arith, length-drop at s), sym (num4-first s at) ∙ eqb-eq (num4 (drop at s) 0) l (and-left count? rest? (and-right fits? (count? && rest?) h)))
 
   not-framed : (framed (l ∷ ls) (drop at s) ≡ true → ⊥) → framed (l ∷ ls) (drop at s) ≡ false
-  not-framed f = go (framed (l ∷ ls) (drop at s)) f
-    where
-      go : (b : Bool) → (b ≡ true → ⊥) → b ≡ false
-      go true f = absurd (f refl)
-      go false f = refl
+  not-framed f = decided (framed (l ∷ ls) (drop at s)) f
 
   pub whole : framed (l ∷ ls) (drop at s) ≡ true → between (at + 4) (at + 4 + l) ≡ sectionAt s at
   whole h =
@@ -112,7 +116,7 @@ module _ (l : ℕ) (ls s : List ℕ) (at : ℕ) where
       let c : num4 s at ≡ l = omega arith in
       let q : at + (4 + l) ≡ e = omega arith in
       let f : 4 + l ≤ length (drop at s) = omega (arith, length-drop at s) in
-      rw (leb-yes (4 + l) (length (drop at s)) f, eqb-same (num4 (drop at s) 0) l (num4-drop s at ∙ c), drop-drop, q)
+      rw (leb-yes (4 + l) (length (drop at s)) f, eqb-same (num4 (drop at s) 0) l (num4-first s at ∙ c), drop-drop, q)
 
 pub follow-end : (s : List ℕ) (at : ℕ) → at ≤ length s → framed [] (drop at s) ≡ eqb at (length s)
 unfolding framed

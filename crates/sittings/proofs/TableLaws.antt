@@ -17,7 +17,7 @@ use Rattle.protocol.specs.Lists.{table, concat, allBelow}
 use Rattle.protocol.specs.Strings.{bytesFor, fromBits, pack}
 use Rattle.protocol.specs.Alphabet.{Alphabet, sym as symbol, elemAt}
 use Rattle.protocol.specs.Binary.{binary}
-use Rattle.protocol.specs.Shape.{Shape, kOf, lOf}
+use Rattle.protocol.specs.Shape.{Shape, lOf}
 use Rattle.protocol.specs.Sections.{Sections}
 use Rattle.protocol.specs.Forms.{quad, lin, yOf, middle, error, hash, maskOf, batch}
 use Rattle.protocol.specs.Prover.{u, v, correction, dOf, a₀, a₁, qs0, qs1, cSection, dSection, ũSection, ṼSection, qs0Section, qs1Section}
@@ -26,6 +26,7 @@ use Rattle.protocol.specs.Coefficients.{shift, conditions}
 use Rattle.protocol.proofs.ListLaws.{table-at, table-congr}
 use Rattle.protocol.proofs.StringLaws.{pack-congr}
 use Rattle.protocol.proofs.FormLaws.{hash-congr, mask-congr, quad-congr, lin-congr}
+use Rattle.protocol.proofs.HonestLaws.{n-below}
 
 module _ (K : Coded) (s : Shape) where
   open Coded K using (base, elem, byte)
@@ -45,10 +46,6 @@ module _ (K : Coded) (s : Shape) where
 
   pub near : (f : ℕ → F) (l : List ℕ) → table (lOf (binary K) s) (λ c. byte (f c)) ≡ l → Near f (entry l)
   near f l h c k = sym (ap (λ r. elem (getD r c 0)) (sym h) ∙ ap elem (table-at (lOf A s) (λ c. byte (f c)) 0 c k) ∙ K .elem-byte (f c))
-
-  below-n : (c : ℕ) → c < s .n → c < lOf A s
-  unfolding lOf kOf
-  below-n c l = omega arith
 
   module _ (leaves : List ℕ) (û v̂ : ℕ → ℕ → F) where
     abbrev pub cOf : List ℕ
@@ -78,7 +75,7 @@ module _ (K : Coded) (s : Shape) where
 
       pub d-is : (x : List ℕ) → dSection (binary K) s leaves x ≡ maskedOf x
       unfolding dSection dOf
-      d-is x = pack-congr (s .n) _ _ (λ c l. ap (λ y. byte (symbol A x c ⊕ y) % 2) (hu 0 one c (below-n c l)))
+      d-is x = pack-congr (s .n) _ _ (λ c l. ap (λ y. byte (symbol A x c ⊕ y) % 2) (hu 0 one c (n-below A s c l)))
 
       pub ũ-is : (H′ : List ℕ) → ũSection (binary K) s leaves H′ ≡ ũOf H′
       unfolding ũSection
@@ -92,14 +89,14 @@ module _ (K : Coded) (s : Shape) where
       unfolding qs0Section qs0 a₀
       qs0-is key χ =
           table-congr (s .τ) _ _
-          (λ e l. let n : (c : ℕ) → c < s .n → v A s leaves e c ≡ v̂ e c = λ c k. hv e l c (below-n c k) in
+          (λ e l. let n : (c : ℕ) → c < s .n → v A s leaves e c ≡ v̂ e c = λ c k. hv e l c (n-below A s c k) in
           ap₂ (λ x y. byte (x ⊕ y)) (ap (batch A s χ e) (λ j i. quad-congr A s key i _ (v̂ e) _ (v̂ e) n n j)) (mask-congr A s e _ (v̂ e) (hv e l)))
 
       pub qs1-is : (key x χ : List ℕ) → qs1Section (binary K) s leaves key x χ ≡ qs1Of key x χ
       unfolding qs1Section qs1 a₁ middle
       qs1-is key x χ =
           table-congr (s .τ) _ _
-          (λ e l. let n : (c : ℕ) → c < s .n → v A s leaves e c ≡ v̂ e c = λ c k. hv e l c (below-n c k) in
+          (λ e l. let n : (c : ℕ) → c < s .n → v A s leaves e c ≡ v̂ e c = λ c k. hv e l c (n-below A s c k) in
           let w = symbol A x in
           let m : (i : ℕ) → middle A s key i (v A s leaves e) w ≡ middle A s key i (v̂ e) w = λ i.
           ap₂ _⊕_ (ap₂ _⊕_ (quad-congr A s key i _ (v̂ e) w w n (λ c k. refl)) (quad-congr A s key i w w _ (v̂ e) (λ c k. refl) n)) (lin-congr A s key i _ (v̂ e) n) in
@@ -114,7 +111,7 @@ module _ (K : Coded) (s : Shape) where
 
   key-congr : (p : Sections) (δ : F) (f g : ℕ → F) → Near f g → (c : ℕ) → c < s .n → keyAt A s p δ f c ≡ keyAt A s p δ g c
   unfolding keyAt
-  key-congr p δ f g k c l = ap (λ z. z ⊕ δ ⊗ symbol A (p .d) c) (k c (below-n c l))
+  key-congr p δ f g k c l = ap (λ z. z ⊕ δ ⊗ symbol A (p .d) c) (k c (n-below A s c l))
 
   pub product-is : (key χ : List ℕ) (p : Sections) (e : ℕ) (δ : F) (f g : ℕ → F) → Near f g → productHolds (binary K) s key χ p e δ f ≡ productHolds (binary K) s key χ p e δ g
   unfolding productHolds productLeft
@@ -146,10 +143,10 @@ module _ (K : Coded) (s : Shape) where
 
       near-candidate : (c : ℕ) → c < s .n → candidate A s leaves p e c ≡ candidateOf c
       unfolding candidate
-      near-candidate c l = ap (λ z. z ⊕ correctionAt A s p e c ⊕ symbol A (p .d) c) (hu c (below-n c l))
+      near-candidate c l = ap (λ z. z ⊕ correctionAt A s p e c ⊕ symbol A (p .d) c) (hu c (n-below A s c l))
 
       n-v : (c : ℕ) → c < s .n → v A s leaves e c ≡ v̂ c
-      n-v c l = hv c (below-n c l)
+      n-v c l = hv c (n-below A s c l)
 
       pub conditions-is : conditions (binary K) s key leaves H′ χ p e ≡ conditionsOf
       unfolding middle error batchedError

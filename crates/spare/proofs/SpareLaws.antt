@@ -17,7 +17,7 @@ use Rattle.protocol.specs.Lists.{allBelow, part, blockAt}
 use Rattle.protocol.specs.Strings.{bytesFor, bit, fromBits, spareZero}
 use Rattle.protocol.specs.Binary.{bits256}
 use Rattle.protocol.specs.Key.{rowsSpare}
-use Rattle.protocol.proofs.TestLaws.{eqb-same, eqb-eq, both-true, bool-iff, all-at, all-of}
+use Rattle.protocol.proofs.TestLaws.{eqb-same, eqb-eq, and-true, both-true, bool-iff, all-at, all-of}
 use Rattle.protocol.proofs.ListLaws.{row-end, length-block, block-getD}
 use Rattle.protocol.proofs.StringLaws.{bits-of, bits-congr, spare-at}
 
@@ -34,11 +34,7 @@ or-zero a b =
 
 pub all-more : (n : ℕ) (p : ℕ → Bool) → allBelow (suc n) p ≡ (allBelow n p && p n)
 unfolding allBelow
-all-more zero p = and-one (p 0)
-  where
-    and-one : (b : Bool) → (b && true) ≡ b
-    and-one true = refl
-    and-one false = refl
+all-more zero p = and-true (p 0)
 all-more (suc n) p = ap (λ b. p 0 && b) (all-more n (λ i. p (suc i))) ∙ assoc (p 0) _ _
   where
     assoc : (a b c : Bool) → (a && (b && c)) ≡ (a && b && c)

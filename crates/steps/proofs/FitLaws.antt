@@ -3,7 +3,7 @@
 use mathlib.Core.Path.{_≡_}
 use mathlib.Core.Bool.{true}
 use mathlib.Core.List.{List, _++_}
-use Prim.Native.Nat.{ℕ, _+_, _*_, _-_, _≤_}
+use Prim.Native.Nat.{ℕ, _+_, _*_, _-_, _≤_, _<_}
 use native.Mathlib.Nat.{mul-le-mul}
 use native.Mathlib.Omega.{arith}
 use lib.ListN.{length, length-append}
@@ -11,6 +11,8 @@ use Rattle.field.specs.Gf256.{gf256}
 use Rattle.protocol.specs.Strings.{bytesFor}
 use Rattle.protocol.specs.Binary.{bits256}
 use Rattle.protocol.specs.Shape.{Shape, limits, kOf, lOf, wOf}
+use Rattle.protocol.specs.Questions.{χExact}
+use Rattle.protocol.proofs.TestLaws.{eqb-eq}
 use Rattle.format.proofs.SizeLaws.{in-limits, k-most, w-most, bytes-most, hashed-most, corrections-most, row-most}
 
 module _ (s : Shape) where
@@ -32,6 +34,11 @@ module _ (s : Shape) where
   pub mask-fits : s .n + gf256 .degree ≤ 8 * wOf bits256 s
   unfolding wOf lOf kOf bytesFor
   mask-fits = omega arith
+
+  -- and so is each of the first k among all
+  pub k-below : (c : ℕ) → c < kOf bits256 s → c < lOf bits256 s
+  unfolding lOf
+  k-below c h = omega arith
 
 -- the buffers of a call, made for the largest key, hold this one
 pub record Room (s : Shape) : Type 0 where
@@ -56,9 +63,10 @@ room s h =
       entries-room = omega (arith, bytes-most (kOf bits256 s) (k-most s h));
     }
 
-pub bits-fit : (L : ℕ) → L ≤ bytesFor L * 8
-unfolding bytesFor
-bits-fit L = omega arith
+-- a batching challenge of the right form has a byte for each repetition and equation
+pub batching-of : (s : Shape) (χ : List ℕ) → χExact bits256 s χ ≡ true → length χ ≡ s .τ * s .m
+unfolding χExact
+batching-of s χ h = eqb-eq _ _ h
 
 -- the front of a buffer is in it
 pub front-fits : (p q : List ℕ) (n : ℕ) → length p ≡ n → n ≤ length (p ++ q)

@@ -30,7 +30,9 @@ use Rattle.strings.proofs.Meaning.{byte-sum}
 use Rattle.lanes.specs.Lanes.{lanes}
 use Rattle.strings.proofs.Meaning.{byte-times}
 use Rattle.tables.proofs.SumsMeaning.{byteOf}
+use Rattle.equations.proofs.BlockLaws.{bytes-enough}
 use Rattle.steps.specs.Hashed.{hashLane}
+use Rattle.steps.proofs.FitLaws.{k-below}
 
 abbrev F : Type 0
 F = bits256 .K .base .R .F
@@ -69,25 +71,17 @@ module _ (s : Shape) (H′ table : List ℕ) (f : ℕ → F) (ρ e : ℕ) (exact
   row-spare c low high =
       spare-at k row (all-at (s .t) (λ i. spareZero (blockAt H′ (bytesFor k) i) k) spare ρ l) c low (rw row-length high)
 
-  k≤ : kOf bits256 s ≤ bytesFor (kOf bits256 s) * 8
-  unfolding bytesFor
-  k≤ = omega arith
-
-  in-L : (c : ℕ) → c < kOf bits256 s → c < lOf bits256 s
-  unfolding lOf
-  in-L c h = omega arith
-
   identity-in : kOf bits256 s + ρ < lOf bits256 s
   unfolding lOf
   identity-in = omega (arith, l)
 
   selected-is : selected (bytesFor k * 8) row table lanes e ≡ byteOf (sum (bits256 .K .base .R) k (λ c. bits256 .K .base .R .mul (symbol bits256 row c) (f c)))
   selected-is =
-      let n : bytesFor k * 8 ≡ k + (bytesFor k * 8 - k) = omega (arith, k≤) in
+      let n : bytesFor k * 8 ≡ k + (bytesFor k * 8 - k) = omega (arith, bytes-enough k) in
       ap (λ m. selected m row table lanes e) n
       ∙ sum-cut k (bytesFor k * 8 - k) (λ c. bit row c * byteAt table (c * lanes + e))
-      (λ i h. ap (λ (b : ℕ). b * byteAt table ((k + i) * lanes + e)) (row-spare (k + i) (omega arith) (omega (arith, k≤))) ∙ zero-mul (byteAt table ((k + i) * lanes + e)))
-      ∙ sum-same k _ _ (λ c h. ap (λ (y : ℕ). bit row c * y) (is c (in-L c h)))
+      (λ i h. ap (λ (b : ℕ). b * byteAt table ((k + i) * lanes + e)) (row-spare (k + i) (omega arith) (omega (arith, bytes-enough k))) ∙ zero-mul (byteAt table ((k + i) * lanes + e)))
+      ∙ sum-same k _ _ (λ c h. ap (λ (y : ℕ). bit row c * y) (is c (k-below s c h)))
       ∙ sym (bits-sum k row f)
 
   pub hash-lane-is : hashLane H′ (bytesFor (kOf bits256 s)) (kOf bits256 s) table ρ e ≡ byteOf (hash bits256 s H′ ρ f)

@@ -12,7 +12,7 @@ use Rattle.algebra.specs.Ring.{Ring}
 use Rattle.algebra.specs.Field.{Field}
 use Rattle.algebra.specs.Coded.{Coded, mulByte}
 use Rattle.algebra.specs.Sum.{sum}
-use Rattle.algebra.proofs.RingLaws.{ring}
+use Rattle.algebra.proofs.RingLaws.{mul-zero as times-zero}
 use Rattle.protocol.specs.Strings.{bit}
 use Rattle.strings.specs.Sums.{byteAt, bitOf, xorSum}
 
@@ -54,7 +54,7 @@ bit-place s b p h = bit-is s (b * 8 + p) ∙ ap₂ (λ (q r : ℕ). bitOf (byteA
 module _ (C : Coded) where
   open Coded C using (base, elem, byte)
   open Field base using (R)
-  open Ring R using (F, 𝟘, 𝟙, add as _⊕_, mul as _⊗_)
+  open Ring R using (F, 𝟙, add as _⊕_, mul as _⊗_)
 
   infixl 65 _⊕_
   infixl 70 _⊗_
@@ -76,10 +76,7 @@ module _ (C : Coded) where
 
   -- an element times a bit
   pub byte-times : (x q : ℕ) → x < base .size → q < 2 → byte (elem x ⊗ elem q) ≡ x * q
-  byte-times x zero h k = ap byte (ap (λ y. elem x ⊗ y) (C .elem-zero) ∙ none (elem x) ∙ sym (C .elem-zero)) ∙ byte-bit 0 (lit< tt) ∙ sym (mul-zero x)
-    where
-      none : (a : F) → a ⊗ 𝟘 ≡ 𝟘
-      none a = simp ring
+  byte-times x zero h k = ap byte (ap (λ y. elem x ⊗ y) (C .elem-zero) ∙ times-zero R (elem x) ∙ sym (C .elem-zero)) ∙ byte-bit 0 (lit< tt) ∙ sym (mul-zero x)
   byte-times x (suc zero) h k = ap byte (ap (λ y. elem x ⊗ y) (C .elem-one) ∙ R .mul-one (elem x)) ∙ C .byte-elem x h ∙ sym (mul-one x)
   byte-times x (suc (suc q)) h k = absurd (omega arith)
 

@@ -8,14 +8,11 @@ use lib.Bits.{bitXor, xor-self, xor-comm, xor-zero-r}
 use Rattle.strings.specs.Sums.{bitOf, xorSum}
 use Rattle.strings.proofs.SumLaws.{sum-more}
 use Rattle.strings.proofs.Meaning.{bitOf-lt, bitOf-xor, bitOf-zero}
-use Rattle.strings.proofs.XorLaws.{xor-assoc}
+use Rattle.strings.proofs.XorLaws.{xor-assoc, xor-cancel}
 use Rattle.trees.specs.Partial.{Running}
 
 left-comm : (a b c : ℕ) → bitXor a (bitXor b c) ≡ bitXor b (bitXor a c)
 left-comm a b c = sym (xor-assoc a b c) ∙ ap (λ (x : ℕ). bitXor x c) (xor-comm a b) ∙ xor-assoc b a c
-
-cancel : (a b : ℕ) → bitXor a (bitXor a b) ≡ b
-cancel a b = sym (xor-assoc a a b) ∙ ap (λ (x : ℕ). bitXor x b) (xor-self a)
 
 -- q and q′ are bit p of k and of k + 1, s the sum of k leaves, l leaf k, and x the plane's sum
 partial-step : (q q′ s l x : ℕ) → q < 2 → q′ < 2
@@ -24,7 +21,7 @@ partial-step zero zero s l x h h′ = simp zero-mul
 partial-step zero (suc zero) s l x h h′ =
     simp (zero-mul, one-mul) (xor-comm x (bitXor s l) ∙ ap (bitXor (bitXor s l)) (sym (xor-zero-r x)))
 partial-step (suc zero) zero s l x h h′ =
-    simp (zero-mul, one-mul) (xor-assoc s x (bitXor s l) ∙ ap (bitXor s) (left-comm x s l) ∙ cancel s (bitXor x l))
+    simp (zero-mul, one-mul) (xor-assoc s x (bitXor s l) ∙ ap (bitXor s) (left-comm x s l) ∙ xor-cancel s (bitXor x l))
 partial-step (suc zero) (suc zero) s l x h h′ =
     simp (zero-mul, one-mul) (xor-zero-r (bitXor s x)
     ∙ sym (xor-assoc s l (bitXor x l) ∙ ap (bitXor s) (left-comm l x l ∙ ap (bitXor x) (xor-self l) ∙ xor-zero-r x)))

@@ -8,7 +8,7 @@ use native.Mathlib.Nat.{mul-mod-left, mod-lt, eq-or-lt-of-le, le-of-suc-le-suc}
 use native.Mathlib.Decide.{decLt, ℕ-discrete}
 use native.Mathlib.Numerals.{add-one}
 use native.Mathlib.Omega.{arith}
-use lib.Bits.{bitXor, bitAnd, and-shr, and-mod, and-zero-r, xor-zero-l, xor-zero-r, xor-comm, xor-self}
+use lib.Bits.{bitXor, bitAnd, and-shr, and-mod, and-zero-r, xor-zero-r, xor-comm}
 use lib.Dec.{lit<}
 use lib.ListN.{length, set, length-set}
 use lib.Pow.{shr-shr, shl-shr}
@@ -16,7 +16,7 @@ use lib.Seq.{getD-set-same, getD-set-other}
 use Rattle.strings.specs.Sums.{byteAt, bitOf}
 use Rattle.strings.proofs.Meaning.{bitOf-lt, bitOf-xor, bitOf-zero}
 use Rattle.strings.proofs.BitLaws.{kept-bit}
-use Rattle.strings.proofs.XorLaws.{xor-assoc}
+use Rattle.strings.proofs.XorLaws.{xor-cancel}
 use Rattle.turns.specs.Turns.{Step, moved, Exchanged, Spread}
 
 -- ---- bits under a mask, and moved
@@ -99,9 +99,6 @@ halves s mask (inr (inr e)) = rw (e .0, e .1) halves-1
 -- ---- the two bytes that a pass makes of a and b
 
 -- where the second of two equal bits was added
-cancel : (a b : ℕ) → bitXor a (bitXor a b) ≡ b
-cancel a b = sym (xor-assoc a a b) ∙ ap (λ z. bitXor z b) (xor-self a) ∙ xor-zero-l b
-
 module _ (s mask a b x : ℕ) (of : Halves s mask) (h : x < 8) where
   even-parts : bitOf (bitXor a (moved s mask a b * 2 ^ s % 2 ^ 8)) x ≡ bitXor (bitOf a x) (bitOf (moved s mask a b * 2 ^ s) x)
   even-parts = bitOf-xor a (moved s mask a b * 2 ^ s % 2 ^ 8) x ∙ ap (bitXor (bitOf a x)) (kept-bit (moved s mask a b * 2 ^ s) 8 x h)
@@ -124,12 +121,12 @@ module _ (s mask a b x : ℕ) (of : Halves s mask) (h : x < 8) where
       let at : 1 * s + (x - s) ≡ x = omega arith in
       even-parts
       ∙ ap (bitXor (bitOf a x)) (up (moved s mask a b) s x le ∙ moved-one (x - s) (omega (arith, of .bits (x - s) (omega arith), of .below x le)) ∙ ap (λ p. bitXor (bitOf a p) (bitOf b (x - s))) at)
-      ∙ cancel (bitOf a x) (bitOf b (x - s))
+      ∙ xor-cancel (bitOf a x) (bitOf b (x - s))
 
   odd-first : x / s % 2 ≡ 0 → bitOf (bitXor b (moved s mask a b)) x ≡ bitOf a (1 * s + x)
   odd-first e =
       bitOf-xor b (moved s mask a b) x ∙ ap (bitXor (bitOf b x)) (moved-one x (omega (arith, of .bits x h)) ∙ xor-comm (bitOf a (1 * s + x)) (bitOf b x))
-      ∙ cancel (bitOf b x) (bitOf a (1 * s + x))
+      ∙ xor-cancel (bitOf b x) (bitOf a (1 * s + x))
 
   odd-last : x / s % 2 ≡ 1 → bitOf (bitXor b (moved s mask a b)) x ≡ bitOf b x
   odd-last e =

@@ -15,16 +15,13 @@ use Rattle.protocol.proofs.TestLaws.{eqb-eq, leb-le, all-true}
 use Rattle.protocol.proofs.AnswerLaws.{ask-accepts, all-yes}
 use Rattle.lanes.specs.Lanes.{lanes}
 use Rattle.opened.specs.Opened.{OpenedTableIs}
+use Rattle.steps.proofs.FitLaws.{batching-of}
 use Rattle.checks.specs.Given.{Opened}
 use Rattle.verifier.specs.Given.{VerifyFacts}
 
 challenge-of : (s : Shape) (Δ : List ℕ) → ΔExact bits256 s Δ ≡ true → length Δ ≡ s .τ
 unfolding ΔExact
 challenge-of s Δ h = eqb-eq _ _ h
-
-batching-of : (s : Shape) (χ : List ℕ) → χExact bits256 s χ ≡ true → length χ ≡ s .τ * s .m
-unfolding χExact
-batching-of s χ h = eqb-eq _ _ h
 
 opened-of : (s : Shape) (opened : List ℕ) → leavesExact bits256 s (perOpened bits256) opened ≡ true → length opened ≡ s .τ * 255 * wOf bits256 s
 unfolding leavesExact perOpened perTree

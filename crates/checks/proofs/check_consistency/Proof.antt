@@ -11,7 +11,7 @@ use lib.ListN.{length}
 use Rattle.protocol.specs.Binary.{bits256}
 use Rattle.protocol.specs.Sections.{lengths, sectionsIn}
 use Rattle.format.specs.Sizes.{shapeFor}
-use Rattle.steps.proofs.FitLaws.{bits-fit}
+use Rattle.equations.proofs.BlockLaws.{bytes-enough}
 use Rattle.repetitions.specs.Repetitions.{firstInconsistent}
 use Rattle.checks.proofs.GivenLaws.{section-lengths, section-bytes, first-inconsistent-is}
 use Rattle.checks.proofs.check_consistency.Statement.{statement}
@@ -33,7 +33,7 @@ first-inconsistent-requires c κs =
     let s = c .before .before .before .before .before .before .before .before .before .before .before .before .before in
     let shape = shapeFor (s .args .s) in
     let sections = section-lengths shape in
-    (c .before .before .before .before .before .hash-all .kept .0 ∙ s .pre .1 ∙ ap (λ (n : ℕ). n * s .args .s .t) (sym (s .pre .0 .3)), c .before .proof-section .ensures .1 ∙ sections .v-length ∙ ap (λ (n : ℕ). n * s .args .s .t) (sym (s .pre .0 .3)), omega (arith, c .proof-section2 .ensures .1, sections .u-length, bits-fit (s .args .s .t)))
+    (c .before .before .before .before .before .hash-all .kept .0 ∙ s .pre .1 ∙ ap (λ (n : ℕ). n * s .args .s .t) (sym (s .pre .0 .3)), c .before .proof-section .ensures .1 ∙ sections .v-length ∙ ap (λ (n : ℕ). n * s .args .s .t) (sym (s .pre .0 .3)), omega (arith, c .proof-section2 .ensures .1, sections .u-length, bytes-enough (s .args .s .t)))
 
 same-length : tie.Need-same-length
 same-length c = search needs

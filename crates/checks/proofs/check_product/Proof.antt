@@ -21,7 +21,8 @@ use Rattle.strings.specs.Sums.{byteAt}
 use Rattle.lanes.specs.Lanes.{lanes, laneAt}
 use Rattle.format.specs.Sizes.{shapeFor}
 use Rattle.format.proofs.SizeLaws.{in-limits}
-use Rattle.steps.proofs.FitLaws.{n-fits, mask-fits, bits-fit}
+use Rattle.equations.proofs.BlockLaws.{bytes-enough}
+use Rattle.steps.proofs.FitLaws.{n-fits, mask-fits}
 use Rattle.repetitions.specs.Repetitions.{firstDiffering}
 use Rattle.product.specs.Product.{productByte}
 use Rattle.checks.proofs.GivenLaws.{section-lengths, section-bytes, first-differing-is}
@@ -50,7 +51,7 @@ add-difference-requires : tie.Need-add-difference-requires
 add-difference-requires c κs =
     let s = c .before .before .before .before .before .before .before .before .before .before .before .before in
     let shape = shapeFor (s .args .s) in
-    (omega (arith, s .pre .5 .table-length, mask-fits shape), omega (arith, c .before .proof-section .ensures .1, section-lengths shape .d-length, bits-fit (s .args .s .n)), c .before .before .before .before .load-challenge .kept .0)
+    (omega (arith, s .pre .5 .table-length, mask-fits shape), omega (arith, c .before .proof-section .ensures .1, section-lengths shape .d-length, bytes-enough (s .args .s .n)), c .before .before .before .before .load-challenge .kept .0)
 
 slice-aggregate-product-lanes : tie.Need-slice-aggregate-product-lanes
 slice-aggregate-product-lanes c = search needs
@@ -83,7 +84,7 @@ product-lanes-requires c κs =
       in-limits shape within .τ-most,
       a ∙ mul-assoc (shape .m) (shape .n) (bytesFor (shape .n)),
       b,
-      omega (arith, y, bits-fit (shape .m)),
+      omega (arith, y, bytes-enough (shape .m)),
       s .pre .4,
       omega (arith, c .before .before .before .before .before .before .before .before .add-difference .kept .0, s .pre .5 .table-length, mask-fits shape),
       in-limits shape within .m-least,

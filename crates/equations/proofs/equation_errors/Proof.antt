@@ -3,17 +3,14 @@
 use borrow.Author.Needs.{needs}
 use Prim.Native.Nat.{ℕ, _+_, _*_, _/_, _≤_, _<_}
 use mathlib.Core.Path.{_≡_, refl, sym, _∙_}
-use mathlib.Core.List.{List}
 use native.Mathlib.Omega.{arith}
 use denote.Ref.{now}
-use lib.ListN.{length, take, length-take}
+use lib.ListN.{length}
+use lib.Seq.{length-take-le}
 use Rattle.protocol.specs.Strings.{bytesFor}
 use Rattle.equations.proofs.RowLaws.{zeros}
 use Rattle.equations.proofs.equation_errors.Statement.{statement}
 use Rattle.equations.proofs.equation_errors.Tie as tie
-
-prefix : (l : List ℕ) (n : ℕ) → n ≤ length l → length (take n l) ≡ n
-prefix l n h = simp length-take (omega arith)
 
 narrow : (n w : ℕ) → n ≤ 160 → w ≡ bytesFor n → w ≤ 20
 unfolding bytesFor
@@ -35,14 +32,14 @@ array-borrow-prefix-space c =
 
 slice-aggregate-fill-errors : tie.Need-slice-aggregate-fill-errors
 slice-aggregate-fill-errors c =
-    sym (prefix _ (length (now (c .before .before .before .before .before .before .before .before .before .before .before .before .args .x))) (narrow (c .before .before .before .before .before .before .before .before .before .before .before .before .args .n) (length (now (c .before .before .before .before .before .before .before .before .before .before .before .before .args .x))) (c .before .before .before .before .before .before .before .before .before .before .before .before .pre .0) (c .before .before .before .before .before .before .before .before .before .before .before .before .pre .1)))
+    sym (length-take-le (length (now (c .before .before .before .before .before .before .before .before .before .before .before .before .args .x))) _ (narrow (c .before .before .before .before .before .before .before .before .before .before .before .before .args .n) (length (now (c .before .before .before .before .before .before .before .before .before .before .before .before .args .x))) (c .before .before .before .before .before .before .before .before .before .before .before .before .pre .0) (c .before .before .before .before .before .before .before .before .before .before .before .before .pre .1)))
 
 slice-aggregate-fill-errors-2 : tie.Need-slice-aggregate-fill-errors-2
 slice-aggregate-fill-errors-2 c = search needs
 
 fill-errors-requires : tie.Need-fill-errors-requires
 fill-errors-requires c κs =
-    (c .before .before .before .before .before .before .before .before .before .before .before .before .before .pre, (prefix _ (length (now (c .before .before .before .before .before .before .before .before .before .before .before .before .before .args .x))) (narrow (c .before .before .before .before .before .before .before .before .before .before .before .before .before .args .n) (length (now (c .before .before .before .before .before .before .before .before .before .before .before .before .before .args .x))) (c .before .before .before .before .before .before .before .before .before .before .before .before .before .pre .0) (c .before .before .before .before .before .before .before .before .before .before .before .before .before .pre .1)), omega (arith, c .before .before .before .before .before .prepare .kept .1 .0, c .before .before .before .before .before .before .before .before .before .before .before .before .before .pre .0)))
+    (c .before .before .before .before .before .before .before .before .before .before .before .before .before .pre, (length-take-le (length (now (c .before .before .before .before .before .before .before .before .before .before .before .before .before .args .x))) _ (narrow (c .before .before .before .before .before .before .before .before .before .before .before .before .before .args .n) (length (now (c .before .before .before .before .before .before .before .before .before .before .before .before .before .args .x))) (c .before .before .before .before .before .before .before .before .before .before .before .before .before .pre .0) (c .before .before .before .before .before .before .before .before .before .before .before .before .before .pre .1)), omega (arith, c .before .before .before .before .before .prepare .kept .1 .0, c .before .before .before .before .before .before .before .before .before .before .before .before .before .pre .0)))
 
 same-length : tie.Need-same-length
 same-length c = search needs

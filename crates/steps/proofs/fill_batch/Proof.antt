@@ -25,7 +25,8 @@ use Rattle.equations.specs.Equations.{errorOf}
 use Rattle.equations.proofs.BlockLaws.{spare-past}
 use Rattle.quadratic.specs.Batch.{qs0Byte, qs1Byte}
 use Rattle.steps.specs.Solved.{ErrorsAs}
-use Rattle.steps.proofs.FitLaws.{mask-fits, bits-fit, front-fits}
+use Rattle.equations.proofs.BlockLaws.{bytes-enough}
+use Rattle.steps.proofs.FitLaws.{mask-fits, front-fits}
 use Rattle.steps.proofs.BatchSections.{qs0-are, qs1-are}
 use Rattle.steps.proofs.SolvedLaws.{solved-as}
 use borrow.Author.Needs.{needs}
@@ -90,7 +91,7 @@ batch-lanes-requires c κs =
       in-limits shape within .m-least,
       in-limits shape within .τ-least,
       prefix-length (s .args .s .m) 160 (in-limits shape within .m-most),
-      omega (arith, right, bits-fit (shape .m)),
+      omega (arith, right, bytes-enough (shape .m)),
       λ k h. spare-past (now (s .args .witness)) (shape .n) k (s .pre .0 .2 .witness-spare) h,
     )
 

@@ -14,7 +14,7 @@ use Rattle.format.specs.Verdict.{answerOf}
 use Rattle.format.proofs.SizeLaws.{in-limits}
 use Rattle.strings.specs.Sums.{byteAt}
 use Rattle.equations.specs.Equations.{errorOf}
-use Rattle.steps.proofs.FitLaws.{bits-fit}
+use Rattle.equations.proofs.BlockLaws.{bytes-enough}
 use Rattle.steps.proofs.SolvedLaws.{solved-as}
 use borrow.Author.Needs.{needs}
 use Rattle.steps.proofs.witness.test_equations.Statement.{statement}
@@ -42,7 +42,7 @@ equation-errors-requires c κs =
       s .pre .1 .witness-length,
       c .before .before .section-a .ensures .1 ∙ mul-assoc (shape .m) (shape .n) (bytesFor (shape .n)) ∙ ap (λ (k : ℕ). k * (shape .n * bytesFor (shape .n))) (sym (s .pre .2)),
       c .before .section-b .ensures .1 ∙ ap (λ (k : ℕ). k * bytesFor (shape .n)) (sym (s .pre .2)),
-      omega (arith, s .pre .2, c .section-y .ensures .1, bits-fit (shape .m)),
+      omega (arith, s .pre .2, c .section-y .ensures .1, bytes-enough (shape .m)),
     )
 
 answer-requires : tie.Need-answer-requires
