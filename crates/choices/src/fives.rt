@@ -12,7 +12,7 @@ use super::picks::ROWS;
 use super::picks::choose_all;
 use super::picks::fill_rows;
 use chunks::cells::copy_front;
-use chunks::cells::least;
+use strings::least;
 
 // The words of a row.
 pub const ROW_WORDS: usize = 4;

@@ -5,7 +5,6 @@ ghost use lib.ListN.{length};
 ghost use Rattle.strings.specs.Sums.{byteAt};
 ghost use Rattle.chunks.specs.Chunks.{chunk};
 use super::CHUNK;
-pub use strings::least;
 
 // The first bytes of dst become those of src from `from` on.
 pub fn copy_front(dst: &mut [u8], src: &[u8], from: usize, len: usize)

@@ -11,12 +11,12 @@ ghost use Rattle.folds.specs.Folds.{Folded, FoldedSet};
 ghost use Rattle.folds.specs.Sets.{Mirrors, SetFolded, MatrixFolded, Kept};
 use chunks::CHUNK;
 use chunks::cells::copy_front;
-use chunks::cells::least;
 use mirrors::ROWS;
 use mirrors::reflect_all;
 use rows::COLUMNS;
 use rows::begin;
 use rows::fold_rows;
+use strings::least;
 use turns::SIXTEEN;
 
 mod mirrors;

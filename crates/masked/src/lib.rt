@@ -61,7 +61,7 @@ fn add_last(acc: &mut [u8], matrix: &[u8], at: usize, wide: usize, mask: &[u8])
     ensures { λ _. ⌜ ((f : ℕ) → f < wide → byteAt (now (acc .exit)) f ≡ bitXor (byteAt (now (acc .entry)) f) (bitAnd (byteAt (now (matrix .entry)) (at + f)) (byteAt (now (mask .entry)) f))) ⌝ }
 {
     let mut part = [0u8; FOURS];
-    let len = chunks::cells::least(wide, matrix.len() - at);
+    let len = strings::least(wide, matrix.len() - at);
     chunks::cells::copy_front(&mut part, matrix, at, len);
     xor_and(acc, &part, mask);
 }

@@ -98,6 +98,6 @@ pub fn first_inconsistent(hashed: &[u8], v: &[u8], u: &[u8], delta: &[u8], t: us
     ensures { λ r. ⌜ r ≡ firstInconsistent (now (hashed .entry)) (now (v .entry)) (now (u .entry)) (now (delta .entry)) t ⌝ }
 {
     let mut masks = [0u8; MASKS];
-    let count = chunks::cells::least(t, MASKS);
+    let count = strings::least(t, MASKS);
     first_masked(&mut masks[..count], hashed, v, u, delta, t)
 }

@@ -9,7 +9,8 @@ use mathlib.Core.List.{List}
 use native.Mathlib.Decide.{decLt}
 use native.Mathlib.Omega.{arith}
 use denote.Ref.{now}
-use lib.ListN.{length, take, length-take}
+use lib.ListN.{length, take}
+use lib.Seq.{length-take-le}
 use lib.Bits.{bitXor, xor-zero-l}
 use lib.Dec.{lit<}
 use Rattle.protocol.specs.Strings.{bytesFor, bit}
@@ -26,9 +27,6 @@ use Rattle.quadratic.proofs.BatchLaws.{batch-same, middle-bits}
 use Rattle.quadratic.proofs.ErrorLaws.{error-is}
 use Rattle.quadratic.proofs.batch.batch_lanes.Statement.{statement}
 use Rattle.quadratic.proofs.batch.batch_lanes.Tie as tie
-
-prefix : (l : List ℕ) (n : ℕ) → n ≤ length l → length (take n l) ≡ n
-prefix l n h = simp length-take (omega arith)
 
 -- the bits of x, and zeros past them
 module _ (n : ℕ) (x xs : List ℕ) (is : (c : ℕ) → c < n → byteAt xs c ≡ bit x c) (past : (c : ℕ) → n ≤ c → byteAt xs c ≡ 0) where
@@ -52,7 +50,7 @@ mul-front c = search needs
 slice-aggregate-front : tie.Need-slice-aggregate-front
 slice-aggregate-front c =
     let a = c .before .before .before .before .before .before .before .before .before .before .before .args in
-    sym (prefix (now (a .table)) (a .n * lanes) (omega (arith, c .before .before .before .before .before .before .before .before .before .before .before .pre .8)))
+    sym (length-take-le (a .n * lanes) (now (a .table)) (omega (arith, c .before .before .before .before .before .before .before .before .before .before .before .pre .8)))
 
 slice-aggregate-unpack : tie.Need-slice-aggregate-unpack
 slice-aggregate-unpack c = search needs
@@ -80,7 +78,7 @@ batch-forms-requires c κs =
     let a = c .before .before .before .before .before .before .before .before .before .before .before .before .before .before .before .before .before .before .before .before .before .before .before .before .before .before .args in
     let unpacked = c .before .before .before .before .before .before .before .before .before .before .before .before .before .unpack in
     let past : (k : ℕ) → a .n ≤ k → byteAt (unpacked .last .0) k ≡ 0 = λ k h. unpacked .ensures .1 k h ∙ zeros 160 k in
-    (c .before .before .before .before .before .before .before .before .before .before .clear .kept .0 ∙ pre .0, c .before .before .before .before .before .before .clear2 .kept .0 ∙ pre .1, pre .2, pre .10, pre .3, pre .4, pre .5, pre .7, prefix (now (a .table)) (a .n * lanes) (omega (arith, pre .8)), unpacked .kept .0, bits-lt (a .n) (now (a .x)) (unpacked .last .0) (unpacked .ensures .0) past, past, pre .11, pre .12, (λ e. absurd (false≢true (sym e))), omega (arith, pre .10))
+    (c .before .before .before .before .before .before .before .before .before .before .clear .kept .0 ∙ pre .0, c .before .before .before .before .before .before .clear2 .kept .0 ∙ pre .1, pre .2, pre .10, pre .3, pre .4, pre .5, pre .7, length-take-le (a .n * lanes) (now (a .table)) (omega (arith, pre .8)), unpacked .kept .0, bits-lt (a .n) (now (a .x)) (unpacked .last .0) (unpacked .ensures .0) past, past, pre .11, pre .12, (λ e. absurd (false≢true (sym e))), omega (arith, pre .10))
 
 slice-aggregate-line-errors : tie.Need-slice-aggregate-line-errors
 slice-aggregate-line-errors c = search needs
