@@ -5,7 +5,7 @@ use mathlib.Core.Path.{_≡_, sym, ap, ap₂, _∙_}
 use mathlib.Core.Bool.{Bool, true, false, cond}
 use mathlib.Core.List.{List}
 use Prim.Native.Nat.{ℕ, _+_, _*_, _/_, _%_, _≤_, _<_}
-use native.Mathlib.Nat.{zero-mul, one-mul, mul-zero, mul-comm, mul-assoc}
+use native.Mathlib.Nat.{zero-mul, one-mul, mul-zero}
 use native.Mathlib.Decide.{decLt}
 use native.Mathlib.Omega.{arith}
 use lib.Arith.{digits-div}
@@ -16,12 +16,11 @@ use Rattle.protocol.specs.Lists.{blockAt}
 use Rattle.strings.specs.Sums.{byteAt, xorSum}
 use Rattle.strings.proofs.SumLaws.{sum-same, sum-both, sum-none, sum-short, xor-scale, scale-xor}
 use Rattle.strings.proofs.Meaning.{bitOf-lt}
-use Rattle.chunks.proofs.BitSumLaws.{sum-swap, sum-blocks, bit-sum}
+use Rattle.chunks.proofs.BitSumLaws.{sum-swap, sum-blocks}
 use Rattle.folds.specs.Folds.{entry, foldedBit}
 use Rattle.columns.specs.Stacks.{product}
 use Rattle.columns.proofs.ProductLaws.{product-comm, product-zero}
 use Rattle.batching.specs.Batched.{batchedByte, leftSum, formSum}
-use Rattle.batching.specs.Lines.{leftOf}
 use Rattle.batching.proofs.FormLaws.{product-outer, product-rows}
 
 -- ---- one matrix
@@ -96,36 +95,6 @@ module _ (E φ : ℕ → ℕ → ℕ) (bits : (ρ c : ℕ) → E ρ c < 2) (even
       ∙ sum-same Z _ (λ c. xorSum Z (λ ρ. a ρ c))
       (λ c l. sym (sum-both Z (λ ρ. inTime ρ c * a ρ c) (λ ρ. earlier c ρ * a ρ c)) ∙ sum-same Z _ _ (λ ρ k. one-of-two (ltb (c / 16) (ρ / 16)) (a ρ c)))
       ∙ sum-swap Z Z (λ c ρ. a ρ c)
-
--- ---- one matrix, at bits
-
--- the form xᵀ·A·x is the row xᵀ·F times x, F the folded matrix
-pub left-form : (N n w size i : ℕ) (A : List ℕ) (x : ℕ → ℕ) → n ≤ N * 16 → ((c : ℕ) → x c < 2) → ((c : ℕ) → n ≤ c → x c ≡ 0)
-    → xorSum n (λ c. leftOf w size A x i c * x c) ≡ xorSum n (λ ρ. x ρ * xorSum n (λ c. entry w (blockAt A size i) ρ c * x c))
-unfolding leftOf foldedBit
-left-form N n w size i A x most bit none =
-    let Z = N * 16 in
-    let E = entry w (blockAt A size i) in
-    sym (sum-short n Z (λ c. leftOf w size A x i c * x c) most (λ c j h. ap (λ q. leftOf w size A x i c * q) (none c j) ∙ mul-zero _))
-    ∙ sum-same Z _ (λ c. xorSum ((c / 16 + 1) * 16) (λ ρ. folded E ρ c * (x ρ * x c)))
-    (λ c l.
-    mul-comm (leftOf w size A x i c) (x c)
-    ∙ bit-sum (x c) ((c / 16 + 1) * 16) (λ ρ. x ρ * folded E ρ c) (bit c)
-    ∙ sum-same ((c / 16 + 1) * 16) _ _ (λ ρ k. to-last (x c) (x ρ) (folded E ρ c)))
-    ∙ sym (panels-columns N (λ ρ c. folded E ρ c * (x ρ * x c)))
-    ∙ fold-sum E (λ ρ c. x ρ * x c) (λ ρ c. bitOf-lt _ (c % 8)) (λ ρ c. mul-comm (x ρ) (x c)) N
-    ∙ sum-same Z _ (λ ρ. x ρ * xorSum n (λ c. E ρ c * x c))
-    (λ ρ l.
-    sum-short n Z (λ c. E ρ c * (x ρ * x c)) most (λ c j h. ap (λ q. E ρ c * (x ρ * q)) (none c j) ∙ ap (λ q. E ρ c * q) (mul-zero (x ρ)) ∙ mul-zero (E ρ c))
-    ∙ sum-same n _ _ (λ c k. to-middle (E ρ c) (x ρ) (x c))
-    ∙ sym (bit-sum (x ρ) n (λ c. E ρ c * x c) (bit ρ)))
-    ∙ sum-short n Z (λ ρ. x ρ * xorSum n (λ c. E ρ c * x c)) most (λ ρ j h. ap (λ q. q * xorSum n (λ c. E ρ c * x c)) (none ρ j) ∙ zero-mul _)
-  where
-    to-last : (p q r : ℕ) → p * (q * r) ≡ r * (q * p)
-    to-last p q r = ap (λ y. p * y) (mul-comm q r) ∙ sym (mul-assoc p r q) ∙ ap (λ y. y * q) (mul-comm p r) ∙ mul-assoc r p q ∙ ap (λ y. r * y) (mul-comm p q)
-
-    to-middle : (p q r : ℕ) → p * (q * r) ≡ q * (p * r)
-    to-middle p q r = sym (mul-assoc p q r) ∙ ap (λ y. y * r) (mul-comm p q) ∙ mul-assoc q p r
 
 -- ---- all matrices, batched
 

@@ -1,4 +1,4 @@
--- What is added to the lines, xᵀ·F for each equation: panel by panel, at the vectors, batched; and a line times the bits x themselves.
+-- What is added to the lines, xᵀ·F for each equation: panel by panel, at the vectors, batched.
 -- Assumes nothing.
 use mathlib.Core.Path.{_≡_, sym, ap, ap₂, _∙_}
 use mathlib.Core.List.{List}
@@ -17,13 +17,13 @@ use Rattle.strings.proofs.ProductLaws.{bit-times-lt}
 use Rattle.strings.proofs.Meaning.{bitOf-lt}
 use Rattle.chunks.specs.Chunks.{chunk, cellAt}
 use Rattle.chunks.proofs.BitSumLaws.{sum-swap, sum-blocks, bits-lt, times-sum, bit-sum}
-use Rattle.folds.specs.Folds.{entry, foldedBit, Folded}
+use Rattle.folds.specs.Folds.{foldedBit, Folded}
 use Rattle.columns.specs.Stacks.{product}
 use Rattle.columns.proofs.ProductLaws.{product-zero}
 use Rattle.batching.specs.Batched.{batchedByte, leftSum}
 use Rattle.batching.specs.Lines.{lineBit, leftBit, lineSum, leftOf}
 use Rattle.batching.proofs.FormLaws.{product-scale, product-xor}
-use Rattle.batching.proofs.FoldLaws.{folded-bit-lt, left-form}
+use Rattle.batching.proofs.FoldLaws.{folded-bit-lt}
 use Rattle.batching.proofs.StackLaws.{scaled-lt}
 
 -- ---- the lines, panel by panel
@@ -37,11 +37,6 @@ pub left-none : (w size : ℕ) (A : List ℕ) (x : ℕ → ℕ) (i c : ℕ) → 
 unfolding leftOf
 left-none w size A x i c none =
     sum-same ((c / 16 + 1) * 16) _ (λ ρ. 0) (λ ρ l. ap (λ v. v * foldedBit w (blockAt A size i) ρ c) (none ρ) ∙ zero-mul (foldedBit w (blockAt A size i) ρ c)) ∙ sum-none ((c / 16 + 1) * 16)
-
--- the bits may be given another way
-pub left-same : (w size : ℕ) (A : List ℕ) (x x′ : ℕ → ℕ) (i c : ℕ) → ((ρ : ℕ) → x ρ ≡ x′ ρ) → leftOf w size A x i c ≡ leftOf w size A x′ i c
-unfolding leftOf
-left-same w size A x x′ i c same = sum-same ((c / 16 + 1) * 16) _ _ (λ ρ l. ap (λ v. v * foldedBit w (blockAt A size i) ρ c) (same ρ))
 
 module _ (n w m : ℕ) (A cells : List ℕ) (J : ℕ) (loaded : Folded n w m A J cells) (x : ℕ → ℕ) (none : (ρ : ℕ) → n ≤ ρ → x ρ ≡ 0) where
   -- there are no rows from n on
@@ -92,15 +87,6 @@ module _ (w size : ℕ) (A : List ℕ) (x : ℕ → ℕ) (bits : (c : ℕ) → x
   left-lt : (i c : ℕ) → leftOf w size A x i c < 2
   unfolding leftOf
   left-lt i c = bits-lt ((c / 16 + 1) * 16) _ (λ ρ. term-lt i ρ c)
-
-  -- a line b + xᵀ·F times the bits x: the linear form and the quadratic one
-  pub line-times : (N n i : ℕ) (b line : ℕ → ℕ) → n ≤ N * 16 → ((c : ℕ) → n ≤ c → x c ≡ 0) → ((c : ℕ) → b c < 2) → ((c : ℕ) → c < n → line c ≡ bitXor (b c) (leftOf w size A x i c))
-      → xorSum n (λ c. line c * x c) ≡ bitXor (xorSum n (λ ρ. x ρ * xorSum n (λ c. entry w (blockAt A size i) ρ c * x c))) (xorSum n (λ c. b c * x c))
-  line-times N n i b line enough none small are =
-      sum-same n _ (λ c. bitXor (b c * x c) (leftOf w size A x i c * x c)) (λ c l. ap (λ v. v * x c) (are c l) ∙ xor-scale (b c) (leftOf w size A x i c) (x c) (small c) (left-lt i c))
-      ∙ sum-both n (λ c. b c * x c) (λ c. leftOf w size A x i c * x c)
-      ∙ ap (bitXor (xorSum n (λ c. b c * x c))) (left-form N n w size i A x enough bits none)
-      ∙ xor-comm (xorSum n (λ c. b c * x c)) _
 
 module _ (w size m : ℕ) (A χ : List ℕ) (e : ℕ) (small : (k : ℕ) → byteAt χ k < 256) (x : ℕ → ℕ) (bits : (c : ℕ) → x c < 2) where
   batched-lt : (ρ c : ℕ) → batchedByte w size m A χ e ρ c < 256

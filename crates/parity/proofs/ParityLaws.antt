@@ -3,18 +3,18 @@
 use mathlib.Core.Path.{_≡_, refl, sym, ap, ap₂, _∙_}
 use mathlib.Core.List.{List}
 use Prim.Native.Nat.{ℕ, zero, suc, _+_, _*_, _/_, _%_, _^_, _≤_, _<_}
-use native.Mathlib.Nat.{zero-mul, mod-lt, mod-mod, pow-suc, div-lt-iff-lt-mul}
+use native.Mathlib.Nat.{le-refl, zero-mul, mod-lt, mod-mod, pow-suc, div-lt-iff-lt-mul}
 use native.Mathlib.Numerals.{add-one}
 use native.Mathlib.Omega.{arith}
 use lib.Arith.{lt-one}
-use lib.Bits.{bitAnd, bitXor, and-shr, and-mod, and-le-l, xor-add-and, xor-mod}
+use lib.Bits.{bitAnd, bitXor, and-shr, and-mod, and-le-l, xor-add-and, xor-mod, xor-shr}
 use lib.Count.{ones, ones-step, ones-le}
 use lib.Dec.{lit<}
 use lib.ListN.{length}
 use Rattle.protocol.specs.Strings.{bit}
 use Rattle.strings.specs.Sums.{byteAt, bitOf, xorSum}
 use Rattle.strings.specs.Products.{product}
-use Rattle.strings.proofs.SumLaws.{sum-same, sum-parts}
+use Rattle.strings.proofs.SumLaws.{sum-same, sum-parts, four}
 use Rattle.strings.proofs.Meaning.{bit-place}
 use Rattle.strings.proofs.ProductLaws.{bit-first, bit-next}
 use Rattle.parity.specs.Shared.{shared, RowProduct}
@@ -24,15 +24,35 @@ parity-add a b =
     let e : (a + b) % 2 ≡ bitXor a b % 2 = omega (arith, xor-add-and a b) in
     e ∙ xor-mod a b 1
 
-and-low : (a b : ℕ) → bitAnd a b % 2 ≡ a % 2 * (b % 2)
-and-low a b = and-mod a b 1 ∙ go (a % 2) (b % 2) (mod-lt a (lit< tt)) (mod-lt b (lit< tt))
+parity-ones : (a : ℕ) → ones a % 2 ≡ bitXor (a % 2) (ones (a / 2) % 2)
+parity-ones a = ap (λ z. z % 2) (ones-step a) ∙ parity-add (a % 2) (ones (a / 2)) ∙ ap (λ z. bitXor z (ones (a / 2) % 2)) (mod-mod a 2)
+
+-- the parity of the ones of an exclusive or is the sum of the parities
+pub ones-xor : (a b : ℕ) → ones (bitXor a b) % 2 ≡ bitXor (ones a % 2) (ones b % 2)
+unfolding ones
+ones-xor a b = go (a + b) a b (le-refl (a + b))
   where
-    go : (x y : ℕ) → x < 2 → y < 2 → bitAnd x y ≡ x * y
-    go zero y h k = sym (zero-mul y)
-    go (suc zero) zero h k = refl
-    go (suc zero) (suc zero) h k = refl
-    go (suc zero) (suc (suc y)) h k = absurd (omega arith)
-    go (suc (suc x)) y h k = absurd (omega arith)
+    go : (k a b : ℕ) → a + b ≤ k → ones (bitXor a b) % 2 ≡ bitXor (ones a % 2) (ones b % 2)
+    go zero a b h =
+        let p : a ≡ 0 = omega arith in
+        let q : b ≡ 0 = omega arith in
+        ap₂ (λ x y. ones (bitXor x y) % 2) p q ∙ sym (ap₂ (λ x y. bitXor (ones x % 2) (ones y % 2)) p q)
+    go (suc k) a b h =
+        parity-ones (bitXor a b)
+        ∙ ap₂ bitXor (xor-mod a b 1) (ap (λ z. ones z % 2) (xor-shr a b 1) ∙ go k (a / 2) (b / 2) (omega arith))
+        ∙ four (a % 2) (b % 2) (ones (a / 2) % 2) (ones (b / 2) % 2)
+        ∙ sym (ap₂ bitXor (parity-ones a) (parity-ones b))
+
+-- the product of two bits
+pub and-bits : (x y : ℕ) → x < 2 → y < 2 → bitAnd x y ≡ x * y
+and-bits zero y h k = sym (zero-mul y)
+and-bits (suc zero) zero h k = refl
+and-bits (suc zero) (suc zero) h k = refl
+and-bits (suc zero) (suc (suc y)) h k = absurd (omega arith)
+and-bits (suc (suc x)) y h k = absurd (omega arith)
+
+and-low : (a b : ℕ) → bitAnd a b % 2 ≡ a % 2 * (b % 2)
+and-low a b = and-mod a b 1 ∙ and-bits (a % 2) (b % 2) (mod-lt a (lit< tt)) (mod-lt b (lit< tt))
 
 sum-front : (n : ℕ) (f : ℕ → ℕ) → xorSum (suc n) f ≡ bitXor (f 0) (xorSum n (λ i. f (suc i)))
 unfolding xorSum

@@ -9,7 +9,6 @@ ghost use Rattle.lanes.specs.Lanes.{lanes};
 ghost use Rattle.product.specs.Product.{valueByte, productByte};
 use equations::VARIABLES;
 use lanes::LANES;
-use quadratic::batch::LINES;
 
 // Σ_i row_i·y_i, the y_i being bits.
 fn weigh(row: &[u8], y: &[u8]) -> u8
@@ -57,13 +56,11 @@ pub fn product_lanes(
     let mut values = [0u8; LANES];
     let mut square = [0u8; LANES];
     let zeros = [0u8; VARIABLES];
-    let mut lines = [0u8; LINES];
     let front = &table[..n * LANES];
     strings::clear(left);
     quadratic::batch::batch_forms(
         left,
         &mut linear,
-        &mut lines,
         a,
         b,
         &zeros,

@@ -7,16 +7,12 @@ ghost use Rattle.protocol.specs.Strings.{bytesFor};
 ghost use Rattle.protocol.specs.Binary.{bits256};
 ghost use Rattle.protocol.specs.Shape.{shapeOf, limits, wOf};
 ghost use Rattle.protocol.specs.Prover.{sectionsOf};
-ghost use Rattle.protocol.specs.Answers.{written};
 ghost use Rattle.protocol.specs.Sections.{bytesOf};
 ghost use Rattle.lanes.specs.Lanes.{lanes};
 ghost use Rattle.format.specs.Sizes.{shapeFor};
-ghost use Rattle.format.specs.Verdict.{answerOf};
 ghost use Rattle.steps.specs.Loaded.{LeavesForm, HashForm};
 ghost use Rattle.steps.specs.Facts.{KeyFacts, WitnessForm};
-ghost use Rattle.steps.specs.Solved.{SolvedAs};
 use format::Sizes;
-use format::Verdict;
 use format::sizes::MOST_HASH_ROWS;
 use frames::put_six;
 use lanes::LANES;
@@ -26,7 +22,7 @@ use steps::fill_batch;
 use steps::fill_commit;
 use steps::fill_hash;
 
-// A whole proof in buffers of exact length. Question 11 is answered by the lines of the batch step: a refusal writes nothing.
+// A whole proof in buffers of exact length.
 fn prove_sections(
     out: &mut [u8],
     table: &mut [u8],
@@ -43,28 +39,23 @@ fn prove_sections(
     matrix: &[u8],
     batching: &[u8],
     s: Sizes,
-) -> Verdict
+)
     requires { ⌜ KeyFacts (shapeOf (now key)) (now key) × (shapeFor s ≡ shapeOf (now key)) × WitnessForm (shapeFor s) (now witness) × (length (now batching) ≡ s .tau * s .m) × (limits (shapeFor s) ≡ true) × LeavesForm (shapeFor s) (now leaves) × HashForm (shapeFor s) (now matrix) ⌝ }
     requires { ⌜ (length (now table) ≡ 8 * wOf bits256 (shapeFor s) * lanes) × (length (now sums) ≡ s .tau * wOf bits256 (shapeFor s)) ⌝ }
     requires { ⌜ (length (now c) ≡ (s .tau - 1) * wOf bits256 (shapeFor s)) × (length (now d) ≡ bytesFor (s .n)) × (length (now ut) ≡ bytesFor (s .t)) × (length (now vt) ≡ s .tau * s .t) × (length (now qs0) ≡ lanes) × (length (now qs1) ≡ lanes) ⌝ }
     requires { ⌜ length (now out) ≡ 24 + (s .tau - 1) * wOf bits256 (shapeFor s) + bytesFor (s .n) + bytesFor (s .t) + s .tau * s .t + s .tau + s .tau ⌝ }
-    ensures { λ r. ⌜ SolvedAs (now (key .entry)) (now (witness .entry)) (answerOf r) ⌝ }
-    ensures { λ r. ⌜ now (out .exit) ≡ written (answerOf r) (now (out .entry)) (bytesOf (sectionsOf bits256 (shapeFor s) (now (leaves .entry)) (now (key .entry)) (now (witness .entry)) (now (matrix .entry)) (now (batching .entry)))) ⌝ }
+    ensures { λ _. ⌜ now (out .exit) ≡ bytesOf (sectionsOf bits256 (shapeFor s) (now (leaves .entry)) (now (key .entry)) (now (witness .entry)) (now (matrix .entry)) (now (batching .entry))) ⌝ }
 {
     let w = format::sizes::leaf_bytes(s);
     let tau = s.tau;
     tables::load_trees(table, sums, leaves, tau, w);
     fill_commit(c, d, witness, leaves, table, sums, s);
     fill_hash(ut, vt, matrix, leaves, table, sums, s);
-    let answer = fill_batch(qs0, qs1, key, witness, batching, leaves, table, sums, s);
-    let Verdict::Accepted = answer else {
-        return answer;
-    };
+    fill_batch(qs0, qs1, key, witness, batching, leaves, table, sums, s);
     put_six(out, c, d, ut, vt, &qs0[..tau], &qs1[..tau]);
-    answer
 }
 
-// A whole proof, or the refusal of question 11.
+// A whole proof.
 pub fn write_proof(
     out: &mut [u8],
     key: &[u8],
@@ -73,10 +64,9 @@ pub fn write_proof(
     matrix: &[u8],
     batching: &[u8],
     s: Sizes,
-) -> Verdict
+)
     requires { ⌜ KeyFacts (shapeOf (now key)) (now key) × (shapeFor s ≡ shapeOf (now key)) × WitnessForm (shapeFor s) (now witness) × (length (now batching) ≡ s .tau * s .m) × (limits (shapeFor s) ≡ true) × LeavesForm (shapeFor s) (now leaves) × HashForm (shapeFor s) (now matrix) × (length (now out) ≡ 24 + (s .tau - 1) * wOf bits256 (shapeFor s) + bytesFor (s .n) + bytesFor (s .t) + s .tau * s .t + s .tau + s .tau) ⌝ }
-    ensures { λ r. ⌜ SolvedAs (now (key .entry)) (now (witness .entry)) (answerOf r) ⌝ }
-    ensures { λ r. ⌜ now (out .exit) ≡ written (answerOf r) (now (out .entry)) (bytesOf (sectionsOf bits256 (shapeFor s) (now (leaves .entry)) (now (key .entry)) (now (witness .entry)) (now (matrix .entry)) (now (batching .entry)))) ⌝ }
+    ensures { λ _. ⌜ now (out .exit) ≡ bytesOf (sectionsOf bits256 (shapeFor s) (now (leaves .entry)) (now (key .entry)) (now (witness .entry)) (now (matrix .entry)) (now (batching .entry))) ⌝ }
 {
     let w = format::sizes::leaf_bytes(s);
     let tau = s.tau;
@@ -107,5 +97,5 @@ pub fn write_proof(
         matrix,
         batching,
         s,
-    )
+    );
 }

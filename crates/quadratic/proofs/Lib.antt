@@ -1,4 +1,3 @@
 pub mod BatchLaws
 pub mod PrefixLaws
 pub mod FormsMeaning
-pub mod ErrorLaws

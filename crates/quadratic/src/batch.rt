@@ -1,17 +1,16 @@
 // QS0 and QS1 of all repetitions at once (01, prover's rules). The key and the batching bytes are public; the table, the witness and the
 // string u are secret.
 ghost use mathlib.Core.Path.{_≡_};
-ghost use mathlib.Core.Bool.{true, false};
+ghost use mathlib.Core.Bool.{false};
 ghost use Prim.Native.Nat.{ℕ, _+_, _*_, _<_, _≤_};
 ghost use lib.ListN.{length};
 ghost use lib.Bits.{bitXor};
 ghost use Rattle.field.specs.Gf256.{gf256};
-ghost use Rattle.protocol.specs.Strings.{bytesFor, bit};
+ghost use Rattle.protocol.specs.Strings.{bytesFor};
 ghost use Rattle.strings.specs.Sums.{byteAt};
 ghost use Rattle.lanes.specs.Lanes.{lanes, maskLane, maskBits};
 ghost use Rattle.chunks.specs.Chunks.{chunk, cellAt};
-ghost use Rattle.batching.specs.Lines.{lineBit, leftOf};
-ghost use Rattle.equations.specs.Equations.{rowOf, matrixOf, errorOf};
+ghost use Rattle.equations.specs.Equations.{rowOf, matrixOf};
 ghost use Rattle.quadratic.specs.Forms.{formByte, middleByte};
 ghost use Rattle.quadratic.specs.Batch.{batchByte, qs0Byte, qs1Byte};
 use super::EQUATIONS;
@@ -24,7 +23,7 @@ use lanes::LANES;
 const WORDS: usize = 8 * LANES * ROW_WORDS;
 
 // The bytes of as many lines as a key may have equations.
-pub const LINES: usize = EQUATIONS * CHUNK;
+const LINES: usize = EQUATIONS * CHUNK;
 
 // Line i becomes row i of b, of `width` bytes.
 fn put_line(lines: &mut [u8], i: usize, b: &[u8], width: usize)
@@ -50,11 +49,10 @@ fn put_lines(lines: &mut [u8], b: &[u8], width: usize, m: usize)
 
 // The batched forms of a key, added to what stands there: fᵀ·A·f to quad, and xᵀ·A·f + (A·x)ᵀ·f + b·f to lin, where f is the vector of
 // repetition e, which the table holds. The bits of x are lent one to a byte, 0 from n on. Where `polar` is
-// not asked for they are all 0, and lin gets b·f. Where it is, the lines b + xᵀ·F are left in `lines`, F the folded matrix of an equation.
+// not asked for they are all 0, and lin gets b·f.
 pub fn batch_forms(
     quad: &mut [u8],
     lin: &mut [u8],
-    lines: &mut [u8],
     a: &[u8],
     b: &[u8],
     xs: &[u8],
@@ -65,20 +63,20 @@ pub fn batch_forms(
     table: &[u8],
     polar: bool,
 )
-    requires { ⌜ (length (now quad) ≡ lanes) × (length (now lin) ≡ lanes) × (n ≤ 160) × (m ≤ 160) × (tau ≤ lanes) × (length (now a) ≡ m * (n * bytesFor n)) × (length (now b) ≡ m * bytesFor n) × (length (now chi) ≡ tau * m) × (length (now table) ≡ n * lanes) × (length (now xs) ≡ 160) × ((c : ℕ) → byteAt (now xs) c < 2) × ((c : ℕ) → n ≤ c → byteAt (now xs) c ≡ 0) × (0 < m) × (0 < tau) × (polar ≡ false → (c : ℕ) → byteAt (now xs) c ≡ 0) × (m * chunk ≤ length (now lines)) ⌝ }
+    requires { ⌜ (length (now quad) ≡ lanes) × (length (now lin) ≡ lanes) × (n ≤ 160) × (m ≤ 160) × (tau ≤ lanes) × (length (now a) ≡ m * (n * bytesFor n)) × (length (now b) ≡ m * bytesFor n) × (length (now chi) ≡ tau * m) × (length (now table) ≡ n * lanes) × (length (now xs) ≡ 160) × ((c : ℕ) → byteAt (now xs) c < 2) × ((c : ℕ) → n ≤ c → byteAt (now xs) c ≡ 0) × (0 < m) × (0 < tau) × (polar ≡ false → (c : ℕ) → byteAt (now xs) c ≡ 0) ⌝ }
     ensures { λ _. ⌜ ((e : ℕ) → e < tau → byteAt (now (quad .exit)) e ≡ bitXor (byteAt (now (quad .entry)) e) (batchByte m (now (chi .entry)) e (λ i. formByte n (matrixOf n (now (a .entry)) i) (now (table .entry)) e))) ⌝ }
     ensures { λ _. ⌜ ((e : ℕ) → e < tau → byteAt (now (lin .exit)) e ≡ bitXor (byteAt (now (lin .entry)) e) (batchByte m (now (chi .entry)) e (λ i. middleByte n (matrixOf n (now (a .entry)) i) (rowOf n (now (b .entry)) i) (byteAt (now (xs .entry))) (now (table .entry)) e))) ⌝ }
-    ensures { λ _. ⌜ (polar ≡ true → (i c : ℕ) → i < m → c < n → lineBit (now (lines .exit)) i c ≡ bitXor (bit (rowOf n (now (b .entry)) i) c) (leftOf (bytesFor n) (n * bytesFor n) (now (a .entry)) (byteAt (now (xs .entry))) i c)) ⌝ }
 {
     let groups = choices::fives::groups_for(m);
     let width = (n + 7) / 8;
     let mut words = [0u64; WORDS];
+    let mut lines = [0u8; LINES];
     choices::fives::fill_words(&mut words, chi, m, tau);
-    put_lines(lines, b, width, m);
+    put_lines(&mut lines, b, width, m);
     batching::forms::add_forms(
         quad,
         lin,
-        lines,
+        &mut lines,
         a,
         n,
         width,
@@ -104,15 +102,12 @@ fn add_masks(qs0: &mut [u8], qs1: &mut [u8], table: &[u8], u: &[u8], n: usize)
 }
 
 // QS0 and QS1 of the tau repetitions: the batched coefficients of the sections a and b of a key, with the masks. The table holds the
-// vectors, with their mask coordinates, and the string u the bits of the mask of QS1. The errors of the equations at the witness (question 11) are
-// told beside them, from the same lines: no matrix is read again. (Bits of x from n on would count in them, so there must be none: question 9.)
+// vectors, with their mask coordinates, and the string u the bits of the mask of QS1.
 pub fn batch_lanes(
     qs0: &mut [u8],
     qs1: &mut [u8],
-    errors: &mut [u8],
     a: &[u8],
     b: &[u8],
-    y: &[u8],
     x: &[u8],
     chi: &[u8],
     u: &[u8],
@@ -121,18 +116,15 @@ pub fn batch_lanes(
     tau: usize,
     table: &[u8],
 )
-    requires { ⌜ (length (now qs0) ≡ lanes) × (length (now qs1) ≡ lanes) × (n ≤ 160) × (tau ≤ lanes) × (length (now a) ≡ m * (n * bytesFor n)) × (length (now b) ≡ m * bytesFor n) × (length (now x) ≡ bytesFor n) × (length (now chi) ≡ tau * m) × ((n + gf256 .degree) * lanes ≤ length (now table)) × (n + gf256 .degree ≤ length (now u) * 8) × (m ≤ 160) × (0 < m) × (0 < tau) × (length (now errors) ≡ m) × (m ≤ length (now y) * 8) × ((c : ℕ) → n ≤ c → bit (now x) c ≡ 0) ⌝ }
+    requires { ⌜ (length (now qs0) ≡ lanes) × (length (now qs1) ≡ lanes) × (n ≤ 160) × (tau ≤ lanes) × (length (now a) ≡ m * (n * bytesFor n)) × (length (now b) ≡ m * bytesFor n) × (length (now x) ≡ bytesFor n) × (length (now chi) ≡ tau * m) × ((n + gf256 .degree) * lanes ≤ length (now table)) × (n + gf256 .degree ≤ length (now u) * 8) × (m ≤ 160) × (0 < m) × (0 < tau) ⌝ }
     ensures { λ _. ⌜ ((e : ℕ) → e < tau → byteAt (now (qs0 .exit)) e ≡ qs0Byte n m (now (a .entry)) (now (chi .entry)) (now (table .entry)) e) ⌝ }
     ensures { λ _. ⌜ ((e : ℕ) → e < tau → byteAt (now (qs1 .exit)) e ≡ qs1Byte n m (now (a .entry)) (now (b .entry)) (now (x .entry)) (now (chi .entry)) (now (u .entry)) (now (table .entry)) e) ⌝ }
-    ensures { λ _. ⌜ ((i : ℕ) → i < m → byteAt (now (errors .exit)) i ≡ errorOf n (now (a .entry)) (now (b .entry)) (now (y .entry)) (now (x .entry)) i) ⌝ }
 {
     let mut xs = [0u8; VARIABLES];
-    let mut lines = [0u8; LINES];
     let front = &table[..n * LANES];
     equations::unpack(&mut xs, x, n);
     strings::clear(qs0);
     strings::clear(qs1);
-    batch_forms(qs0, qs1, &mut lines, a, b, &xs, chi, n, m, tau, front, true);
-    super::errors::line_errors(errors, &lines, y, x);
+    batch_forms(qs0, qs1, a, b, &xs, chi, n, m, tau, front, true);
     add_masks(qs0, qs1, table, u, n);
 }

@@ -19,8 +19,7 @@ use format::sizes::Sizes;
 use format::sizes::leaf_bits;
 use format::sizes::proof_lengths;
 use reader::read_section;
-use sections::framed_length;
-use sections::sections_form;
+use reader::read_sections;
 use spare::row_spare;
 use spare::rows_spare;
 
@@ -37,13 +36,12 @@ pub const QS0: usize = 4;
 
 pub const QS1: usize = 5;
 
-// Section i of a proof whose sections are exact, as part of the lent bytes: the reader takes it from where the lengths say that it stands.
+// Section i of a proof whose sections are exact, as part of the lent bytes: the one that the reader gives back, after those before it.
 pub fn proof_section<'a>(proof: &'a [u8], s: Sizes, i: usize) -> &'a [u8]
     requires { ⌜ (limits (shapeFor s) ≡ true) × (framed (lengths bits256 (shapeFor s)) (now proof) ≡ true) × (i < 6) ⌝ }
     ensures { λ r. ⌜ (now r ≡ sectionNo (lengths bits256 (shapeFor s)) i (now (proof .entry))) × (length (now r) ≡ getD (lengths bits256 (shapeFor s)) i 0) ⌝ }
 {
-    let expected = proof_lengths(s);
-    read_section(proof, framed_length(&expected[..i]))
+    read_section(proof, i)
 }
 
 // Question 13: are the spare bits of C, d, ũ 0?
@@ -67,7 +65,7 @@ pub fn proof_form(so_far: Verdict, proof: &[u8], s: Sizes) -> Verdict
         return so_far;
     };
     let expected = proof_lengths(s);
-    let exact = sections_form(proof, 0, &expected, Reason::ProofLength);
+    let exact = read_sections(proof, &expected);
     let Verdict::Accepted = exact else {
         return exact;
     };

@@ -2,11 +2,11 @@
 -- Assumes nothing.
 use mathlib.Core.Path.{_≡_}
 use mathlib.Core.Bool.{true}
-use mathlib.Core.List.{List, _++_}
+use mathlib.Core.List.{List}
 use Prim.Native.Nat.{ℕ, _+_, _*_, _-_, _≤_, _<_}
 use native.Mathlib.Nat.{mul-le-mul}
 use native.Mathlib.Omega.{arith}
-use lib.ListN.{length, length-append}
+use lib.ListN.{length}
 use Rattle.field.specs.Gf256.{gf256}
 use Rattle.protocol.specs.Strings.{bytesFor}
 use Rattle.protocol.specs.Binary.{bits256}
@@ -67,7 +67,3 @@ room s h =
 pub batching-of : (s : Shape) (χ : List ℕ) → χExact bits256 s χ ≡ true → length χ ≡ s .τ * s .m
 unfolding χExact
 batching-of s χ h = eqb-eq _ _ h
-
--- the front of a buffer is in it
-pub front-fits : (p q : List ℕ) (n : ℕ) → length p ≡ n → n ≤ length (p ++ q)
-front-fits p q n e = rw (length-append p q) (omega (arith, e))

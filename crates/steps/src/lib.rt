@@ -12,14 +12,10 @@ ghost use Rattle.protocol.specs.Shape.{shapeOf, limits, wOf};
 ghost use Rattle.protocol.specs.Prover.{cSection, dSection, ũSection, ṼSection, qs0Section, qs1Section};
 ghost use Rattle.lanes.specs.Lanes.{lanes};
 ghost use Rattle.format.specs.Sizes.{shapeFor};
-ghost use Rattle.format.specs.Verdict.{answerOf};
 ghost use Rattle.steps.specs.Loaded.{LeavesForm, HashForm, Loaded};
 ghost use Rattle.steps.specs.Facts.{KeyFacts, WitnessForm};
-ghost use Rattle.steps.specs.Solved.{SolvedAs};
 use format::Sizes;
-use format::Verdict;
 use hash::hash_all;
-use witness::MOST_EQUATIONS;
 
 // Room for the largest key: bytes of a leaf, bytes of a row of bits. Its repetitions are the lanes.
 pub const MOST_LEAF: usize = 41;
@@ -70,7 +66,7 @@ pub fn fill_hash(
     hash_all(vt, matrix, table, s);
 }
 
-// QS0 and QS1, in the first lanes of two rows; and the answer to question 11, which the same lines tell.
+// QS0 and QS1, in the first lanes of two rows.
 pub fn fill_batch(
     qs0: &mut [u8],
     qs1: &mut [u8],
@@ -81,25 +77,21 @@ pub fn fill_batch(
     table: &[u8],
     sums: &[u8],
     s: Sizes,
-) -> Verdict
+)
     requires { ⌜ KeyFacts (shapeOf (now key)) (now key) × (shapeFor s ≡ shapeOf (now key)) × WitnessForm (shapeFor s) (now witness) × (length (now batching) ≡ s .tau * s .m) × Loaded (shapeFor s) (now leaves) (now table) (now sums) ⌝ }
     requires { ⌜ (length (now qs0) ≡ lanes) × (length (now qs1) ≡ lanes) ⌝ }
     ensures { λ _. ⌜ take (s .tau) (now (qs0 .exit)) ≡ qs0Section bits256 (shapeFor s) (now (leaves .entry)) (now (key .entry)) (now (batching .entry)) ⌝ }
     ensures { λ _. ⌜ take (s .tau) (now (qs1 .exit)) ≡ qs1Section bits256 (shapeFor s) (now (leaves .entry)) (now (key .entry)) (now (witness .entry)) (now (batching .entry)) ⌝ }
-    ensures { λ r. ⌜ SolvedAs (now (key .entry)) (now (witness .entry)) (answerOf r) ⌝ }
 {
     let w = format::sizes::leaf_bytes(s);
     let n = s.n;
     let m = s.m;
     let tau = s.tau;
-    let mut errors = [0u8; MOST_EQUATIONS];
     quadratic::batch::batch_lanes(
         qs0,
         qs1,
-        &mut errors[..m],
         questions::key::section_a(key),
         questions::key::section_b(key),
-        questions::key::section_y(key),
         witness,
         batching,
         strings::row_at(sums, w, 0),
@@ -108,5 +100,4 @@ pub fn fill_batch(
         tau,
         table,
     );
-    witness::answer(&errors[..m])
 }

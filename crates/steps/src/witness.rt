@@ -11,11 +11,11 @@ use format::Reason;
 use format::Verdict;
 
 // Room for the largest key.
-pub const MOST_EQUATIONS: usize = 160;
+const MOST_EQUATIONS: usize = 160;
 
 // The answer that the errors of the equations give: accepted, or refused 11 with the first that fails.
-pub fn answer(errors: &[u8]) -> Verdict
-    requires { ⌜ length (now errors) ≤ 160 ⌝ }
+fn answer(errors: &[u8]) -> Verdict
+    requires { ⌜ length (now errors) ≤ 65536 ⌝ }
     ensures { λ r. ⌜ ErrorsAs (now (errors .entry)) (answerOf r) ⌝ }
 {
     let found = equations::first_failing(errors);

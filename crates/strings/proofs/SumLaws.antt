@@ -52,7 +52,7 @@ unfolding xorSum
 sum-lt k zero f pos h = pos
 sum-lt k (suc n) f pos h = xor-lt k (xorSum n f) (f n) (sum-lt k n f pos (λ i l. h i (omega arith))) (h n (omega arith))
 
-four : (a b c d : ℕ) → bitXor (bitXor a b) (bitXor c d) ≡ bitXor (bitXor a c) (bitXor b d)
+pub four : (a b c d : ℕ) → bitXor (bitXor a b) (bitXor c d) ≡ bitXor (bitXor a c) (bitXor b d)
 four a b c d =
     xor-assoc a b (bitXor c d)
     ∙ ap (bitXor a) (sym (xor-assoc b c d) ∙ ap (λ (x : ℕ). bitXor x d) (xor-comm b c) ∙ xor-assoc c b d)

@@ -1,11 +1,11 @@
 -- Leaves by four: which planes take the running sum after each of them, and where the leaves stand that come before and after the one left out.
---   Fits j to skip w n == four leaves from j on are below `to`, and end within n bytes, where leaf i stands at place i - skip
+--   Fits j to skip w n == four leaves from j on are below `to`, and all below `to` end within n bytes, where leaf i stands at place i - skip
 -- Assumes nothing.
 use Prim.Native.Nat.{ℕ, zero, suc, _+_, _*_, _-_, _/_, _%_, _≤_, _<_}
 use mathlib.Core.Path.{_≡_, refl, sym, ap, ap₂, _∙_}
 use mathlib.Core.Bool.{cond}
 use mathlib.Core.List.{List}
-use native.Mathlib.Nat.{add-mul, one-mul, mul-zero, mul-le-mul-right}
+use native.Mathlib.Nat.{add-mul, one-mul, mul-zero}
 use native.Mathlib.Decide.{decLt}
 use native.Mathlib.Omega.{arith}
 use lib.Bits.{bitXor, xor-comm, xor-zero-r}
@@ -20,7 +20,7 @@ use Rattle.strings.proofs.Meaning.{bitOf-lt}
 use Rattle.strings.proofs.SumLaws.{scale-xor, xor-swap}
 use Rattle.strings.proofs.XorLaws.{xor-assoc}
 use Rattle.trees.specs.Trees.{leafByte, TreeFits}
-use Rattle.trees.specs.Partial.{Running, withLow, Stands, Placed}
+use Rattle.trees.specs.Partial.{Running, withLow}
 use Rattle.trees.proofs.PartialLaws.{running-more}
 use Rattle.trees.proofs.ChunkLaws.{differing, first-differs, even-rest, odd-rest}
 
@@ -84,48 +84,31 @@ running-same f r j u u′ planes planes′ su sp run = (λ b h. su b h ∙ run .
 
 -- ---- where leaves stand
 
--- leaf j + i, by names of its number and of where it stands
-pub leaf-at : (f : ℕ → ℕ → ℕ) (j n : ℕ) (tree : List ℕ) (w from : ℕ) → Stands f j n tree w from → (i k at b : ℕ) → i < n → b < 16 → j + i ≡ k → from + i * w ≡ at → byteAt tree (at + b) ≡ f k b
-leaf-at f j n tree w from stands i k at b hi hb number place =
-    ap (λ x. byteAt tree (x + b)) (sym place) ∙ sym (stands i b hi hb) ∙ ap (λ x. f x b) number
-
--- i places on are i·w bytes on
-pub stands-at : (f : ℕ → ℕ → ℕ) (j to skip : ℕ) (tree : List ℕ) (w at i b : ℕ) → skip ≤ j → j + i < to → b < 16 → (from : ℕ) → from ≤ j → Placed f from to skip tree w at
-    → f (j + i) b ≡ byteAt tree ((j - skip) * w + at + i * w + b)
-stands-at f j to skip tree w at i b low high hb from le placed =
-    let e : j + i - skip ≡ (j - skip) + i = omega arith in
-    let place : (j + i - skip) * w + (at + b) ≡ (j - skip) * w + at + i * w + b = ap (λ k. k * w + (at + b)) e ∙ ap (λ k. k + (at + b)) (add-mul (j - skip) i w) ∙ omega arith in
-    placed (j + i) b (omega arith) high hb ∙ ap (byteAt tree) place
-
 abbrev pub Fits : ℕ → ℕ → ℕ → ℕ → ℕ → Type 0
-Fits j to skip w n = (j % 4 ≡ 0) × (skip ≤ j) × (j + 4 ≤ to) × ((j - skip) * w + 4 * w ≤ n)
+Fits j to skip w n = (j % 4 ≡ 0) × (skip ≤ j) × (j + 4 ≤ to) × ((to - skip) * w ≤ n)
 
 -- four leaves that begin below `to` end within the tree
 pub four-fits : (from to skip j w n : ℕ) → from ≤ j → (to - j) % 4 ≡ 0 → (j - from) % 4 ≡ 0 → (from < to → (from % 4 ≡ 0) × (skip ≤ from) × ((to - skip) * w ≤ n)) → j < to → Fits j to skip w n
 four-fits from to skip j w n le rest passed known lt =
     let all = known (omega arith) in
-    let within : (j - skip) + 4 ≤ to - skip = omega arith in
-    let rows : (j - skip) * w + 4 * w ≤ (to - skip) * w = rw (← add-mul) (mul-le-mul-right w within) in
-    (omega arith, omega arith, omega arith, omega arith)
+    (omega arith, omega arith, omega arith, all .2)
 
--- a leaf before the one that is left out, or of a full tree, stands at its number
-pub full-byte : (leaves : List ℕ) (w count j b : ℕ) → j < count → b < w → leafByte leaves w count j b ≡ byteAt leaves (j * w + b)
+-- a leaf that is not left out, by its place
+at-place : (tree : List ℕ) (w δ j i : ℕ) → (j ≡ δ → ⊥) → place δ j ≡ i → (b : ℕ) → leafByte tree w δ j b ≡ byteAt (blockAt tree w i) b
 unfolding openedLeaf
-full-byte leaves w count j b h l =
-    ap (λ q. cond q 0 (byteAt (openedLeaf w count leaves j) b)) (eqb-other j count (λ e. omega arith))
-    ∙ ap (λ i. byteAt (blockAt leaves w i) b) (place-below count j h)
-    ∙ row-byte leaves w j b l
+at-place tree w δ j i other is b =
+    ap (λ q. cond q 0 (byteAt (openedLeaf w δ tree j) b)) (eqb-other j δ other) ∙ ap (λ k. byteAt (blockAt tree w k) b) is
 
 -- a leaf below the one that is left out, and one above it
-pub below-byte : (tree : List ℕ) (w δ j b : ℕ) → j < δ → b < w → leafByte tree w δ j b ≡ byteAt tree ((j - 0) * w + b)
-below-byte tree w δ j b h l = let e : j ≡ j - 0 = omega arith in full-byte tree w δ j b h l ∙ ap (λ i. byteAt tree (i * w + b)) e
+pub below-leaf : (tree : List ℕ) (w δ j : ℕ) → j < δ → (b : ℕ) → leafByte tree w δ j b ≡ byteAt (blockAt tree w (j - 0)) b
+below-leaf tree w δ j h = at-place tree w δ j (j - 0) (λ e. omega arith) (place-below δ j h ∙ omega arith)
 
-pub above-byte : (tree : List ℕ) (w δ j b : ℕ) → δ < j → b < w → leafByte tree w δ j b ≡ byteAt tree ((j - 1) * w + b)
-unfolding openedLeaf
-above-byte tree w δ j b h l =
-    ap (λ q. cond q 0 (byteAt (openedLeaf w δ tree j) b)) (eqb-other j δ (λ e. omega arith))
-    ∙ ap (λ i. byteAt (blockAt tree w i) b) (place-above δ j (omega arith))
-    ∙ row-byte tree w (j - 1) b l
+pub above-leaf : (tree : List ℕ) (w δ j : ℕ) → δ < j → (b : ℕ) → leafByte tree w δ j b ≡ byteAt (blockAt tree w (j - 1)) b
+above-leaf tree w δ j h = at-place tree w δ j (j - 1) (λ e. omega arith) (place-above δ j (omega arith))
+
+-- the same, of a full tree, in the whole string
+pub full-byte : (leaves : List ℕ) (w count j b : ℕ) → j < count → b < w → leafByte leaves w count j b ≡ byteAt leaves (j * w + b)
+full-byte leaves w count j b h l = at-place leaves w count j j (λ e. omega arith) (place-below count j h) b ∙ row-byte leaves w j b l
 
 -- ---- the fours before the leaf that is left out, and those after it
 

@@ -4,37 +4,39 @@ ghost use mathlib.Core.Path.{_≡_};
 ghost use Prim.Native.Nat.{ℕ, _+_, _*_, _-_, _%_, _<_, _≤_};
 ghost use lib.ListN.{length};
 ghost use Rattle.strings.specs.Sums.{byteAt};
-ghost use Rattle.trees.specs.Partial.{Running, heldPlane, withLow, Stands, Placed};
+ghost use Rattle.trees.specs.Partial.{Running, heldPlane, withLow, Handed, Placed};
 use super::chunks::CHUNK;
 use super::chunks::HELD;
 use super::chunks::add_chunk;
 use super::chunks::add_held;
 use super::chunks::held_row;
 use super::chunks::put_chunk;
+use strings::row_at;
 
-// The first three of four leaves, which stand w bytes apart: after the first and the third the running sum is due in plane 0, after the second in
-// planes 0 and 1.
+// The first three of four leaves, sixteen bytes of each from `at` on: after the first and the third the running sum is due in plane 0, after the
+// second in planes 0 and 1.
 fn add_three(
     sum: &mut [u8; CHUNK],
     first: &mut [u8; CHUNK],
     second: &mut [u8; CHUNK],
-    tree: &[u8],
-    from: usize,
-    w: usize,
+    leaf: &[u8],
+    next: &[u8],
+    third: &[u8],
+    at: usize,
 )
-    requires { ⌜ (length (now sum) ≡ 16) × (length (now first) ≡ 16) × (length (now second) ≡ 16) × (from + 2 * w + 16 ≤ length (now tree)) ⌝ }
+    requires { ⌜ (length (now sum) ≡ 16) × (length (now first) ≡ 16) × (length (now second) ≡ 16) × (at + 16 ≤ length (now leaf)) × (at + 16 ≤ length (now next)) × (at + 16 ≤ length (now third)) ⌝ }
     ensures { λ _. ⌜ (length (now (sum .exit)) ≡ 16) × (length (now (first .exit)) ≡ 16) × (length (now (second .exit)) ≡ 16) ⌝ }
-    ensures { λ _. ⌜ ((f a : ℕ → ℕ → ℕ) (r j : ℕ) → j % 4 ≡ 0 → Stands f j 3 (now (tree .entry)) w from → Running f r 16 (byteAt (now (sum .entry))) (withLow a (byteAt (now (first .entry))) (byteAt (now (second .entry)))) j → Running f r 16 (byteAt (now (sum .exit))) (withLow a (byteAt (now (first .exit))) (byteAt (now (second .exit)))) (j + 3)) ⌝ }
+    ensures { λ _. ⌜ ((f a : ℕ → ℕ → ℕ) (r j : ℕ) → j % 4 ≡ 0 → Handed f j (now (leaf .entry)) at → Handed f (j + 1) (now (next .entry)) at → Handed f (j + 2) (now (third .entry)) at → Running f r 16 (byteAt (now (sum .entry))) (withLow a (byteAt (now (first .entry))) (byteAt (now (second .entry)))) j → Running f r 16 (byteAt (now (sum .exit))) (withLow a (byteAt (now (first .exit))) (byteAt (now (second .exit)))) (j + 3)) ⌝ }
 {
-    add_chunk(sum, tree, from);
+    add_chunk(sum, leaf, at);
     add_chunk(first, sum, 0);
-    add_chunk(sum, tree, from + w);
+    add_chunk(sum, next, at);
     add_chunk(second, sum, 0);
-    add_chunk(sum, tree, from + 2 * w);
+    add_chunk(sum, third, at);
     add_chunk(first, sum, 0);
 }
 
-// The leaves from `from` on and below `to`, four by four. Leaf j stands at place j - skip.
+// The leaves from `from` on and below `to`, four by four, each handed on as that very part of the lent bytes (01). Leaf j stands at place j - skip.
 fn add_fours(
     sum: &mut [u8; CHUNK],
     held: &mut [u8; HELD],
@@ -55,9 +57,17 @@ fn add_fours(
 {
     let mut j = from;
     while j < to {
-        let place = (j - skip) * w + at;
-        add_three(sum, first, second, tree, place, w);
-        add_chunk(sum, tree, place + 3 * w);
+        let place = j - skip;
+        add_three(
+            sum,
+            first,
+            second,
+            row_at(tree, w, place),
+            row_at(tree, w, place + 1),
+            row_at(tree, w, place + 2),
+            at,
+        );
+        add_chunk(sum, row_at(tree, w, place + 3), at);
         add_held(held, held_row(j + 3, r), sum);
         j += 4;
     }

@@ -9,15 +9,11 @@ ghost use Rattle.protocol.specs.Frames.{frame};
 ghost use Rattle.protocol.specs.Binary.{bits256};
 ghost use Rattle.protocol.specs.Shape.{shapeOf, limits, wOf};
 ghost use Rattle.protocol.specs.Prover.{cSection, dSection, ũSection, ṼSection, qs0Section, qs1Section};
-ghost use Rattle.protocol.specs.Answers.{written};
 ghost use Rattle.lanes.specs.Lanes.{lanes};
 ghost use Rattle.format.specs.Sizes.{shapeFor};
-ghost use Rattle.format.specs.Verdict.{answerOf};
 ghost use Rattle.steps.specs.Loaded.{LeavesForm, HashForm};
 ghost use Rattle.steps.specs.Facts.{KeyFacts, WitnessForm};
-ghost use Rattle.steps.specs.Solved.{SolvedAs};
 use format::Sizes;
-use format::Verdict;
 use format::sizes::MOST_HASH_ROWS;
 use frames::put_two;
 use lanes::LANES;
@@ -122,7 +118,7 @@ pub fn write_commit(out: &mut [u8], leaves: &[u8], witness: &[u8], s: Sizes)
     );
 }
 
-// The third step in buffers of exact length. Question 11 is answered by the lines of the batch step: a refusal writes nothing.
+// The third step in buffers of exact length.
 fn batch_sections(
     out: &mut [u8],
     table: &mut [u8],
@@ -134,24 +130,19 @@ fn batch_sections(
     witness: &[u8],
     batching: &[u8],
     s: Sizes,
-) -> Verdict
+)
     requires { ⌜ KeyFacts (shapeOf (now key)) (now key) × (shapeFor s ≡ shapeOf (now key)) × WitnessForm (shapeFor s) (now witness) × (length (now batching) ≡ s .tau * s .m) × (limits (shapeFor s) ≡ true) × LeavesForm (shapeFor s) (now leaves) ⌝ }
     requires { ⌜ (length (now table) ≡ 8 * wOf bits256 (shapeFor s) * lanes) × (length (now sums) ≡ s .tau * wOf bits256 (shapeFor s)) × (length (now qs0) ≡ lanes) × (length (now qs1) ≡ lanes) × (length (now out) ≡ 8 + s .tau + s .tau) ⌝ }
-    ensures { λ r. ⌜ SolvedAs (now (key .entry)) (now (witness .entry)) (answerOf r) ⌝ }
-    ensures { λ r. ⌜ now (out .exit) ≡ written (answerOf r) (now (out .entry)) (frame (qs0Section bits256 (shapeFor s) (now (leaves .entry)) (now (key .entry)) (now (batching .entry)) ∷ qs1Section bits256 (shapeFor s) (now (leaves .entry)) (now (key .entry)) (now (witness .entry)) (now (batching .entry)) ∷ [])) ⌝ }
+    ensures { λ _. ⌜ now (out .exit) ≡ frame (qs0Section bits256 (shapeFor s) (now (leaves .entry)) (now (key .entry)) (now (batching .entry)) ∷ qs1Section bits256 (shapeFor s) (now (leaves .entry)) (now (key .entry)) (now (witness .entry)) (now (batching .entry)) ∷ []) ⌝ }
 {
     let w = format::sizes::leaf_bytes(s);
     let tau = s.tau;
     tables::load_trees(table, sums, leaves, tau, w);
-    let answer = fill_batch(qs0, qs1, key, witness, batching, leaves, table, sums, s);
-    let Verdict::Accepted = answer else {
-        return answer;
-    };
+    fill_batch(qs0, qs1, key, witness, batching, leaves, table, sums, s);
     put_two(out, &qs0[..tau], &qs1[..tau]);
-    answer
 }
 
-// The third step: QS0 and QS1, or the refusal of question 11.
+// The third step: QS0 and QS1.
 pub fn write_batch(
     out: &mut [u8],
     key: &[u8],
@@ -159,10 +150,9 @@ pub fn write_batch(
     witness: &[u8],
     batching: &[u8],
     s: Sizes,
-) -> Verdict
+)
     requires { ⌜ KeyFacts (shapeOf (now key)) (now key) × (shapeFor s ≡ shapeOf (now key)) × WitnessForm (shapeFor s) (now witness) × (length (now batching) ≡ s .tau * s .m) × (limits (shapeFor s) ≡ true) × LeavesForm (shapeFor s) (now leaves) × (length (now out) ≡ 8 + s .tau + s .tau) ⌝ }
-    ensures { λ r. ⌜ SolvedAs (now (key .entry)) (now (witness .entry)) (answerOf r) ⌝ }
-    ensures { λ r. ⌜ now (out .exit) ≡ written (answerOf r) (now (out .entry)) (frame (qs0Section bits256 (shapeFor s) (now (leaves .entry)) (now (key .entry)) (now (batching .entry)) ∷ qs1Section bits256 (shapeFor s) (now (leaves .entry)) (now (key .entry)) (now (witness .entry)) (now (batching .entry)) ∷ [])) ⌝ }
+    ensures { λ _. ⌜ now (out .exit) ≡ frame (qs0Section bits256 (shapeFor s) (now (leaves .entry)) (now (key .entry)) (now (batching .entry)) ∷ qs1Section bits256 (shapeFor s) (now (leaves .entry)) (now (key .entry)) (now (witness .entry)) (now (batching .entry)) ∷ []) ⌝ }
 {
     let w = format::sizes::leaf_bytes(s);
     let tau = s.tau;
@@ -181,5 +171,5 @@ pub fn write_batch(
         witness,
         batching,
         s,
-    )
+    );
 }

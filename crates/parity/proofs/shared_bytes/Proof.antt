@@ -1,8 +1,8 @@
--- `parity::shared_bytes` meets its contract. The invariant: with those below `from`, the count is that of the first i bytes.
+-- `parity::shared_bytes` meets its contract. The invariant: the count is that of the first i bytes.
 -- Assumes nothing.
 use borrow.Author.Needs.{needs}
 use Prim.Native.Nat.{_+_, _-_, _≤_}
-use mathlib.Core.Path.{_≡_}
+use mathlib.Core.Path.{_≡_, refl}
 use native.Mathlib.Omega.{arith}
 use denote.Ref.{now}
 use lib.ListN.{length}
@@ -12,13 +12,14 @@ use Rattle.parity.proofs.shared_bytes.Statement.{statement}
 use Rattle.parity.proofs.shared_bytes.Tie as tie
 
 abbrev Inv-loop : tie.InvT-loop
-Inv-loop row x from count₀ i₀ count i = (from ≤ i) × (i ≤ length row) × (count + shared from row x ≡ shared i row x)
+Inv-loop row x count₀ i₀ count i = (i ≤ length row) × (count ≡ shared i row x)
 
 abbrev μ-loop : tie.MeasureT-loop
-μ-loop row x from count₀ i₀ count i = length row - i
+μ-loop row x count₀ i₀ count i = length row - i
 
 loop-holds : tie.Need-loop-holds Inv-loop μ-loop
-loop-holds c = search needs
+unfolding shared
+loop-holds c = (search needs, refl)
 
 shared-slice-read-count : tie.Need-shared-slice-read-count Inv-loop μ-loop
 shared-slice-read-count c = search needs
@@ -42,14 +43,14 @@ loop-again : tie.Need-loop-again Inv-loop μ-loop
 loop-again c =
     let a = c .before .before .before .before .args in
     let l = c .before .before .before .loop in
-    (omega arith, omega arith, omega (arith, shared-more (l .i) (now (a .row)) (now (a .x))))
+    (omega arith, omega (arith, shared-more (l .i) (now (a .row)) (now (a .x))))
 
 returns : tie.Need-returns Inv-loop μ-loop
 returns c =
     let a = c .before .before .args in
     let l = c .before .loop in
     let e : l .i ≡ length (now (a .row)) = omega arith in
-    rw e at (l .inv .2)
+    rw e at (l .inv .1)
 
 pub shared-bytes-spec : {M : Type 1} → statement M
 shared-bytes-spec =

@@ -1,4 +1,4 @@
--- `proving::prove_sections` meets its contract: the answer to question 11, and where it is accepted the sections that were filled, framed.
+-- `proving::prove_sections` meets its contract: the sections that were filled, framed.
 -- Assumes nothing.
 use mathlib.Core.Path.{sym, ap, _∙_}
 use Prim.Native.Nat.{_-_, _≤_}
@@ -70,71 +70,38 @@ fill-batch-requires c κs =
       (s .pre .1 .1 .0 .4, s .pre .1 .1 .0 .5),
     )
 
-enum-told : tie.Need-enum-told
-enum-told c = search needs
-
-enum-told-2 : tie.Need-enum-told-2
-enum-told-2 c = search needs
-
-same-length : tie.Need-same-length
-same-length c = c .before .before .before .before .before .before .before .before .before .before .before .before .before .before .before .before .before .before .before .before .before .before .before .before .before .before .before .before .before .before .before .before .before .load-trees .kept .0
-
-same-length-2 : tie.Need-same-length-2
-same-length-2 c = c .before .before .before .before .before .before .before .before .before .before .before .before .before .before .before .before .before .before .before .before .before .before .before .before .before .before .before .before .before .before .before .before .before .load-trees .kept .1 .0
-
-same-length-3 : tie.Need-same-length-3
-same-length-3 c = c .before .before .before .before .before .before .before .before .before .before .before .before .before .before .before .before .before .before .before .before .before .before .before .before .fill-commit .kept .0
-
-same-length-4 : tie.Need-same-length-4
-same-length-4 c = c .before .before .before .before .before .before .before .before .before .before .before .before .before .before .before .before .before .before .before .before .before .before .before .before .fill-commit .kept .1 .0
-
-same-length-5 : tie.Need-same-length-5
-same-length-5 c = c .before .before .before .before .before .before .before .before .before .before .before .before .before .before .before .fill-hash .kept .0
-
-same-length-6 : tie.Need-same-length-6
-same-length-6 c = c .before .before .before .before .before .before .before .before .before .before .before .before .before .before .before .fill-hash .kept .1 .0
-
-same-length-7 : tie.Need-same-length-7
-same-length-7 c = c .before .before .before .before .before .before .fill-batch .kept .0
-
-same-length-8 : tie.Need-same-length-8
-same-length-8 c = c .before .before .before .before .before .before .fill-batch .kept .1 .0
-
-returns : tie.Need-returns
-returns c = (c .before .before .before .before .before .before .fill-batch .ensures .1 .1, rw (c .enum-told2 .given .1))
-
 slice-reshare-prefix-put-six : tie.Need-slice-reshare-prefix-put-six
 slice-reshare-prefix-put-six c =
-    let s = c .before .before .before .before .before .before .before .before .before .before .before .before .before .before .before .before .before .before .before .before .before .before .before .before .before .before .before .before .before .before .before .before .before .before .before .before .before .before .before .before .before .before .before .before .before .before .before .before .before .before .before .before .before .before .before .before in
-    omega (arith, c .before .before .before .before .before .before .before .before .before .before .before .fill-batch .kept .0, s .pre .1 .1 .0 .4, in-limits (shapeFor (s .args .s)) (s .pre .0 .4) .τ-most)
+    let s = c .before .before .before .before .before .before .before .before .before .before .before .before .before .before .before .before .before .before .before .before .before .before .before .before .before .before .before .before .before .before .before .before .before .before .before .before .before .before .before .before .before .before .before .before .before .before .before .before .before .before .before .before .before .before in
+    omega (arith, c .before .before .before .before .before .before .before .before .before .fill-batch .kept .0, s .pre .1 .1 .0 .4, in-limits (shapeFor (s .args .s)) (s .pre .0 .4) .τ-most)
 
 slice-aggregate-put-six : tie.Need-slice-aggregate-put-six
 slice-aggregate-put-six c =
-    let s = c .before .before .before .before .before .before .before .before .before .before .before .before .before .before .before .before .before .before .before .before .before .before .before .before .before .before .before .before .before .before .before .before .before .before .before .before .before .before .before .before .before .before .before .before .before .before .before .before .before .before .before .before .before .before .before .before .before in
-    let long : s .args .s .tau ≤ length (c .before .before .before .before .before .before .before .before .before .before .before .before .fill-batch .last .0) = omega (arith, c .before .before .before .before .before .before .before .before .before .before .before .before .fill-batch .kept .0, s .pre .1 .1 .0 .4, in-limits (shapeFor (s .args .s)) (s .pre .0 .4) .τ-most) in
-    sym (take-length (s .args .s .tau) (c .before .before .before .before .before .before .before .before .before .before .before .before .fill-batch .last .0) long)
+    let s = c .before .before .before .before .before .before .before .before .before .before .before .before .before .before .before .before .before .before .before .before .before .before .before .before .before .before .before .before .before .before .before .before .before .before .before .before .before .before .before .before .before .before .before .before .before .before .before .before .before .before .before .before .before .before .before in
+    let long : s .args .s .tau ≤ length (c .before .before .before .before .before .before .before .before .before .before .fill-batch .last .0) = omega (arith, c .before .before .before .before .before .before .before .before .before .before .fill-batch .kept .0, s .pre .1 .1 .0 .4, in-limits (shapeFor (s .args .s)) (s .pre .0 .4) .τ-most) in
+    sym (take-length (s .args .s .tau) (c .before .before .before .before .before .before .before .before .before .before .fill-batch .last .0) long)
 
 slice-reshare-prefix-put-six-2 : tie.Need-slice-reshare-prefix-put-six-2
 slice-reshare-prefix-put-six-2 c =
-    let s = c .before .before .before .before .before .before .before .before .before .before .before .before .before .before .before .before .before .before .before .before .before .before .before .before .before .before .before .before .before .before .before .before .before .before .before .before .before .before .before .before .before .before .before .before .before .before .before .before .before .before .before .before .before .before .before .before .before in
-    omega (arith, c .before .before .before .before .before .before .before .before .before .before .before .before .fill-batch .kept .1 .0, s .pre .1 .1 .0 .5, in-limits (shapeFor (s .args .s)) (s .pre .0 .4) .τ-most)
+    let s = c .before .before .before .before .before .before .before .before .before .before .before .before .before .before .before .before .before .before .before .before .before .before .before .before .before .before .before .before .before .before .before .before .before .before .before .before .before .before .before .before .before .before .before .before .before .before .before .before .before .before .before .before .before .before .before in
+    omega (arith, c .before .before .before .before .before .before .before .before .before .before .fill-batch .kept .1 .0, s .pre .1 .1 .0 .5, in-limits (shapeFor (s .args .s)) (s .pre .0 .4) .τ-most)
 
 slice-aggregate-put-six-2 : tie.Need-slice-aggregate-put-six-2
 slice-aggregate-put-six-2 c =
-    let s = c .before .before .before .before .before .before .before .before .before .before .before .before .before .before .before .before .before .before .before .before .before .before .before .before .before .before .before .before .before .before .before .before .before .before .before .before .before .before .before .before .before .before .before .before .before .before .before .before .before .before .before .before .before .before .before .before .before .before in
-    let long : s .args .s .tau ≤ length (c .before .before .before .before .before .before .before .before .before .before .before .before .before .fill-batch .last .1 .0) = omega (arith, c .before .before .before .before .before .before .before .before .before .before .before .before .before .fill-batch .kept .1 .0, s .pre .1 .1 .0 .5, in-limits (shapeFor (s .args .s)) (s .pre .0 .4) .τ-most) in
-    sym (take-length (s .args .s .tau) (c .before .before .before .before .before .before .before .before .before .before .before .before .before .fill-batch .last .1 .0) long)
+    let s = c .before .before .before .before .before .before .before .before .before .before .before .before .before .before .before .before .before .before .before .before .before .before .before .before .before .before .before .before .before .before .before .before .before .before .before .before .before .before .before .before .before .before .before .before .before .before .before .before .before .before .before .before .before .before .before .before in
+    let long : s .args .s .tau ≤ length (c .before .before .before .before .before .before .before .before .before .before .before .fill-batch .last .1 .0) = omega (arith, c .before .before .before .before .before .before .before .before .before .before .before .fill-batch .kept .1 .0, s .pre .1 .1 .0 .5, in-limits (shapeFor (s .args .s)) (s .pre .0 .4) .τ-most) in
+    sym (take-length (s .args .s .tau) (c .before .before .before .before .before .before .before .before .before .before .before .fill-batch .last .1 .0) long)
 
 put-six-requires : tie.Need-put-six-requires
 put-six-requires c κs =
-    let s = c .before .before .before .before .before .before .before .before .before .before .before .before .before .before .before .before .before .before .before .before .before .before .before .before .before .before .before .before .before .before .before .before .before .before .before .before .before .before .before .before .before .before .before .before .before .before .before .before .before .before .before .before .before .before .before .before .before .before in
+    let s = c .before .before .before .before .before .before .before .before .before .before .before .before .before .before .before .before .before .before .before .before .before .before .before .before .before .before .before .before .before .before .before .before .before .before .before .before .before .before .before .before .before .before .before .before .before .before .before .before .before .before .before .before .before .before .before .before in
     let shape = shapeFor (s .args .s) in
     let bounds = in-limits shape (s .pre .0 .4) in
-    let committed = c .before .before .before .before .before .before .before .before .before .before .before .before .before .before .before .before .before .before .before .before .before .before .before .before .before .before .before .before .before .before .before .fill-commit in
-    let hashed = c .before .before .before .before .before .before .before .before .before .before .before .before .before .before .before .before .before .before .before .before .before .before .fill-hash in
-    let batched = c .before .before .before .before .before .before .before .before .before .before .before .before .before .fill-batch in
-    let long : s .args .s .tau ≤ length (c .before .before .before .before .before .before .before .before .before .before .before .before .before .fill-batch .last .0) = omega (arith, batched .kept .0, s .pre .1 .1 .0 .4, bounds .τ-most) in
-    let long′ : s .args .s .tau ≤ length (c .before .before .before .before .before .before .before .before .before .before .before .before .before .fill-batch .last .1 .0) = omega (arith, batched .kept .1 .0, s .pre .1 .1 .0 .5, bounds .τ-most) in
+    let committed = c .before .before .before .before .before .before .before .before .before .before .before .before .before .before .before .before .before .before .before .before .before .before .before .before .before .before .before .before .before .fill-commit in
+    let hashed = c .before .before .before .before .before .before .before .before .before .before .before .before .before .before .before .before .before .before .before .before .fill-hash in
+    let batched = c .before .before .before .before .before .before .before .before .before .before .before .fill-batch in
+    let long : s .args .s .tau ≤ length (c .before .before .before .before .before .before .before .before .before .before .before .fill-batch .last .0) = omega (arith, batched .kept .0, s .pre .1 .1 .0 .4, bounds .τ-most) in
+    let long′ : s .args .s .tau ≤ length (c .before .before .before .before .before .before .before .before .before .before .before .fill-batch .last .1 .0) = omega (arith, batched .kept .1 .0, s .pre .1 .1 .0 .5, bounds .τ-most) in
     let first = committed .kept .0 ∙ s .pre .1 .1 .0 .0 in
     let second = committed .kept .1 .0 ∙ s .pre .1 .1 .0 .1 in
     let third = hashed .kept .0 ∙ s .pre .1 .1 .0 .2 in
@@ -152,43 +119,40 @@ put-six-requires c κs =
       ),
     )
 
+same-length : tie.Need-same-length
+same-length c = search needs
+
+same-length-2 : tie.Need-same-length-2
+same-length-2 c = c .before .before .before .before .before .before .before .before .before .before .before .before .before .before .before .before .before .before .before .before .before .before .before .before .before .before .before .before .before .before .before .before .before .before .before .before .before .before .before .before .before .load-trees .kept .0
+
+same-length-3 : tie.Need-same-length-3
+same-length-3 c = c .before .before .before .before .before .before .before .before .before .before .before .before .before .before .before .before .before .before .before .before .before .before .before .before .before .before .before .before .before .before .before .before .before .before .before .before .before .before .before .before .before .load-trees .kept .1 .0
+
+same-length-4 : tie.Need-same-length-4
+same-length-4 c = c .before .before .before .before .before .before .before .before .before .before .before .before .before .before .before .before .before .before .before .before .before .before .before .before .before .before .before .before .before .before .before .before .fill-commit .kept .0
+
+same-length-5 : tie.Need-same-length-5
+same-length-5 c = c .before .before .before .before .before .before .before .before .before .before .before .before .before .before .before .before .before .before .before .before .before .before .before .before .before .before .before .before .before .before .before .before .fill-commit .kept .1 .0
+
+same-length-6 : tie.Need-same-length-6
+same-length-6 c = c .before .before .before .before .before .before .before .before .before .before .before .before .before .before .before .before .before .before .before .before .before .before .before .fill-hash .kept .0
+
+same-length-7 : tie.Need-same-length-7
+same-length-7 c = c .before .before .before .before .before .before .before .before .before .before .before .before .before .before .before .before .before .before .before .before .before .before .before .fill-hash .kept .1 .0
+
+same-length-8 : tie.Need-same-length-8
+same-length-8 c = c .before .before .before .before .before .before .before .before .before .before .before .before .before .before .fill-batch .kept .0
+
 same-length-9 : tie.Need-same-length-9
-same-length-9 c = search needs
+same-length-9 c = c .before .before .before .before .before .before .before .before .before .before .before .before .before .before .fill-batch .kept .1 .0
 
-same-length-10 : tie.Need-same-length-10
-same-length-10 c = c .before .before .before .before .before .before .before .before .before .before .before .before .before .before .before .before .before .before .before .before .before .before .before .before .before .before .before .before .before .before .before .before .before .before .before .before .before .before .before .before .before .before .before .load-trees .kept .0
-
-same-length-11 : tie.Need-same-length-11
-same-length-11 c = c .before .before .before .before .before .before .before .before .before .before .before .before .before .before .before .before .before .before .before .before .before .before .before .before .before .before .before .before .before .before .before .before .before .before .before .before .before .before .before .before .before .before .before .load-trees .kept .1 .0
-
-same-length-12 : tie.Need-same-length-12
-same-length-12 c = c .before .before .before .before .before .before .before .before .before .before .before .before .before .before .before .before .before .before .before .before .before .before .before .before .before .before .before .before .before .before .before .before .before .before .fill-commit .kept .0
-
-same-length-13 : tie.Need-same-length-13
-same-length-13 c = c .before .before .before .before .before .before .before .before .before .before .before .before .before .before .before .before .before .before .before .before .before .before .before .before .before .before .before .before .before .before .before .before .before .before .fill-commit .kept .1 .0
-
-same-length-14 : tie.Need-same-length-14
-same-length-14 c = c .before .before .before .before .before .before .before .before .before .before .before .before .before .before .before .before .before .before .before .before .before .before .before .before .before .fill-hash .kept .0
-
-same-length-15 : tie.Need-same-length-15
-same-length-15 c = c .before .before .before .before .before .before .before .before .before .before .before .before .before .before .before .before .before .before .before .before .before .before .before .before .before .fill-hash .kept .1 .0
-
-same-length-16 : tie.Need-same-length-16
-same-length-16 c = c .before .before .before .before .before .before .before .before .before .before .before .before .before .before .before .before .fill-batch .kept .0
-
-same-length-17 : tie.Need-same-length-17
-same-length-17 c = c .before .before .before .before .before .before .before .before .before .before .before .before .before .before .before .before .fill-batch .kept .1 .0
-
-returns-2 : tie.Need-returns-2
+returns : tie.Need-returns
 unfolding bytesOf
-returns-2 c =
-    let committed = c .before .before .before .before .before .before .before .before .before .before .before .before .before .before .before .before .before .before .before .before .before .before .before .before .before .before .before .before .before .before .before .before .before .before .fill-commit in
-    let hashed = c .before .before .before .before .before .before .before .before .before .before .before .before .before .before .before .before .before .before .before .before .before .before .before .before .before .fill-hash in
-    let batched = c .before .before .before .before .before .before .before .before .before .before .before .before .before .before .before .before .fill-batch in (
-      batched .ensures .1 .1,
-      rw (c .before .before .before .before .before .before .before .before .before .before .enum-told .given .1)
-          (c .before .before .put-six .ensures ∙ ap frame (six-same (committed .ensures .0) (committed .ensures .1) (hashed .ensures .0) (hashed .ensures .1) (batched .ensures .0) (batched .ensures .1 .0))),
-    )
+returns c =
+    let committed = c .before .before .before .before .before .before .before .before .before .before .before .before .before .before .before .before .before .before .before .before .before .before .before .before .before .before .before .before .before .before .before .before .fill-commit in
+    let hashed = c .before .before .before .before .before .before .before .before .before .before .before .before .before .before .before .before .before .before .before .before .before .before .before .fill-hash in
+    let batched = c .before .before .before .before .before .before .before .before .before .before .before .before .before .before .fill-batch in
+    c .before .before .put-six .ensures ∙ ap frame (six-same (committed .ensures .0) (committed .ensures .1) (hashed .ensures .0) (hashed .ensures .1) (batched .ensures .0) (batched .ensures .1))
 
 pub prove-sections-spec : {M : Type 1} → statement M
 prove-sections-spec =
@@ -199,8 +163,11 @@ prove-sections-spec =
     fill-commit-requires
     fill-hash-requires
     fill-batch-requires
-    enum-told
-    enum-told-2
+    slice-reshare-prefix-put-six
+    slice-aggregate-put-six
+    slice-reshare-prefix-put-six-2
+    slice-aggregate-put-six-2
+    put-six-requires
     same-length
     same-length-2
     same-length-3
@@ -209,19 +176,5 @@ prove-sections-spec =
     same-length-6
     same-length-7
     same-length-8
-    returns
-    slice-reshare-prefix-put-six
-    slice-aggregate-put-six
-    slice-reshare-prefix-put-six-2
-    slice-aggregate-put-six-2
-    put-six-requires
     same-length-9
-    same-length-10
-    same-length-11
-    same-length-12
-    same-length-13
-    same-length-14
-    same-length-15
-    same-length-16
-    same-length-17
-    returns-2)
+    returns)

@@ -1,4 +1,4 @@
--- `writing::batch_sections` meets its contract: the answer to question 11, and where it is accepted the sections that were filled, framed.
+-- `writing::batch_sections` meets its contract: the sections that were filled, framed.
 -- Assumes nothing.
 use mathlib.Core.Path.{sym, ap₂, _∙_}
 use mathlib.Core.List.{List, [], _∷_}
@@ -41,11 +41,37 @@ fill-batch-requires c κs =
       (s .pre .1 .2, s .pre .1 .3),
     )
 
-enum-told : tie.Need-enum-told
-enum-told c = search needs
+slice-reshare-prefix-put-two : tie.Need-slice-reshare-prefix-put-two
+slice-reshare-prefix-put-two c =
+    let s = c .before .before .before .before .before .before .before .before .before .before .before .before .before .before .before .before .before .before .before .before .before .before .before .before .before .before .before in
+    omega (arith, c .before .before .before .before .before .fill-batch .kept .0, s .pre .1 .2, in-limits (shapeFor (s .args .s)) (s .pre .0 .4) .τ-most)
 
-enum-told-2 : tie.Need-enum-told-2
-enum-told-2 c = search needs
+slice-aggregate-put-two : tie.Need-slice-aggregate-put-two
+slice-aggregate-put-two c =
+    let s = c .before .before .before .before .before .before .before .before .before .before .before .before .before .before .before .before .before .before .before .before .before .before .before .before .before .before .before .before in
+    let long : s .args .s .tau ≤ length (c .before .before .before .before .before .before .fill-batch .last .0) = omega (arith, c .before .before .before .before .before .before .fill-batch .kept .0, s .pre .1 .2, in-limits (shapeFor (s .args .s)) (s .pre .0 .4) .τ-most) in
+    sym (take-length (s .args .s .tau) (c .before .before .before .before .before .before .fill-batch .last .0) long)
+
+slice-reshare-prefix-put-two-2 : tie.Need-slice-reshare-prefix-put-two-2
+slice-reshare-prefix-put-two-2 c =
+    let s = c .before .before .before .before .before .before .before .before .before .before .before .before .before .before .before .before .before .before .before .before .before .before .before .before .before .before .before .before in
+    omega (arith, c .before .before .before .before .before .before .fill-batch .kept .1 .0, s .pre .1 .3, in-limits (shapeFor (s .args .s)) (s .pre .0 .4) .τ-most)
+
+slice-aggregate-put-two-2 : tie.Need-slice-aggregate-put-two-2
+slice-aggregate-put-two-2 c =
+    let s = c .before .before .before .before .before .before .before .before .before .before .before .before .before .before .before .before .before .before .before .before .before .before .before .before .before .before .before .before .before in
+    let long : s .args .s .tau ≤ length (c .before .before .before .before .before .before .before .fill-batch .last .1 .0) = omega (arith, c .before .before .before .before .before .before .before .fill-batch .kept .1 .0, s .pre .1 .3, in-limits (shapeFor (s .args .s)) (s .pre .0 .4) .τ-most) in
+    sym (take-length (s .args .s .tau) (c .before .before .before .before .before .before .before .fill-batch .last .1 .0) long)
+
+put-two-requires : tie.Need-put-two-requires
+put-two-requires c κs =
+    let s = c .before .before .before .before .before .before .before .before .before .before .before .before .before .before .before .before .before .before .before .before .before .before .before .before .before .before .before .before .before in
+    let most = in-limits (shapeFor (s .args .s)) (s .pre .0 .4) .τ-most in
+    let long : s .args .s .tau ≤ length (c .before .before .before .before .before .before .before .fill-batch .last .0) = omega (arith, c .before .before .before .before .before .before .before .fill-batch .kept .0, s .pre .1 .2, most) in
+    let long′ : s .args .s .tau ≤ length (c .before .before .before .before .before .before .before .fill-batch .last .1 .0) = omega (arith, c .before .before .before .before .before .before .before .fill-batch .kept .1 .0, s .pre .1 .3, most) in
+    let first = take-length (s .args .s .tau) (c .before .before .before .before .before .before .before .fill-batch .last .0) long in
+    let second = take-length (s .args .s .tau) (c .before .before .before .before .before .before .before .fill-batch .last .1 .0) long′ in
+    (s .pre .1 .4 ∙ sym (ap₂ (λ (x y : ℕ). 8 + x + y) first second), omega (arith, first, most), omega (arith, second, most))
 
 same-length : tie.Need-same-length
 same-length c = search needs
@@ -59,62 +85,13 @@ same-length-3 c = search needs
 same-length-4 : tie.Need-same-length-4
 same-length-4 c = search needs
 
-returns : tie.Need-returns
-returns c = (c .before .before .before .before .before .before .fill-batch .ensures .1 .1, rw (c .enum-told2 .given .1))
-
-slice-reshare-prefix-put-two : tie.Need-slice-reshare-prefix-put-two
-slice-reshare-prefix-put-two c =
-    let s = c .before .before .before .before .before .before .before .before .before .before .before .before .before .before .before .before .before .before .before .before .before .before .before .before .before .before .before .before .before in
-    omega (arith, c .before .before .before .before .before .before .before .fill-batch .kept .0, s .pre .1 .2, in-limits (shapeFor (s .args .s)) (s .pre .0 .4) .τ-most)
-
-slice-aggregate-put-two : tie.Need-slice-aggregate-put-two
-slice-aggregate-put-two c =
-    let s = c .before .before .before .before .before .before .before .before .before .before .before .before .before .before .before .before .before .before .before .before .before .before .before .before .before .before .before .before .before .before in
-    let long : s .args .s .tau ≤ length (c .before .before .before .before .before .before .before .before .fill-batch .last .0) = omega (arith, c .before .before .before .before .before .before .before .before .fill-batch .kept .0, s .pre .1 .2, in-limits (shapeFor (s .args .s)) (s .pre .0 .4) .τ-most) in
-    sym (take-length (s .args .s .tau) (c .before .before .before .before .before .before .before .before .fill-batch .last .0) long)
-
-slice-reshare-prefix-put-two-2 : tie.Need-slice-reshare-prefix-put-two-2
-slice-reshare-prefix-put-two-2 c =
-    let s = c .before .before .before .before .before .before .before .before .before .before .before .before .before .before .before .before .before .before .before .before .before .before .before .before .before .before .before .before .before .before in
-    omega (arith, c .before .before .before .before .before .before .before .before .fill-batch .kept .1 .0, s .pre .1 .3, in-limits (shapeFor (s .args .s)) (s .pre .0 .4) .τ-most)
-
-slice-aggregate-put-two-2 : tie.Need-slice-aggregate-put-two-2
-slice-aggregate-put-two-2 c =
-    let s = c .before .before .before .before .before .before .before .before .before .before .before .before .before .before .before .before .before .before .before .before .before .before .before .before .before .before .before .before .before .before .before in
-    let long : s .args .s .tau ≤ length (c .before .before .before .before .before .before .before .before .before .fill-batch .last .1 .0) = omega (arith, c .before .before .before .before .before .before .before .before .before .fill-batch .kept .1 .0, s .pre .1 .3, in-limits (shapeFor (s .args .s)) (s .pre .0 .4) .τ-most) in
-    sym (take-length (s .args .s .tau) (c .before .before .before .before .before .before .before .before .before .fill-batch .last .1 .0) long)
-
-put-two-requires : tie.Need-put-two-requires
-put-two-requires c κs =
-    let s = c .before .before .before .before .before .before .before .before .before .before .before .before .before .before .before .before .before .before .before .before .before .before .before .before .before .before .before .before .before .before .before in
-    let most = in-limits (shapeFor (s .args .s)) (s .pre .0 .4) .τ-most in
-    let long : s .args .s .tau ≤ length (c .before .before .before .before .before .before .before .before .before .fill-batch .last .0) = omega (arith, c .before .before .before .before .before .before .before .before .before .fill-batch .kept .0, s .pre .1 .2, most) in
-    let long′ : s .args .s .tau ≤ length (c .before .before .before .before .before .before .before .before .before .fill-batch .last .1 .0) = omega (arith, c .before .before .before .before .before .before .before .before .before .fill-batch .kept .1 .0, s .pre .1 .3, most) in
-    let first = take-length (s .args .s .tau) (c .before .before .before .before .before .before .before .before .before .fill-batch .last .0) long in
-    let second = take-length (s .args .s .tau) (c .before .before .before .before .before .before .before .before .before .fill-batch .last .1 .0) long′ in
-    (s .pre .1 .4 ∙ sym (ap₂ (λ (x y : ℕ). 8 + x + y) first second), omega (arith, first, most), omega (arith, second, most))
-
 same-length-5 : tie.Need-same-length-5
 same-length-5 c = search needs
 
-same-length-6 : tie.Need-same-length-6
-same-length-6 c = search needs
-
-same-length-7 : tie.Need-same-length-7
-same-length-7 c = search needs
-
-same-length-8 : tie.Need-same-length-8
-same-length-8 c = search needs
-
-same-length-9 : tie.Need-same-length-9
-same-length-9 c = search needs
-
-returns-2 : tie.Need-returns-2
-returns-2 c =
-    let filled = c .before .before .before .before .before .before .before .before .before .before .before .before .fill-batch in (
-      filled .ensures .1 .1,
-      rw (c .before .before .before .before .before .before .enum-told .given .1) (c .before .before .put-two .ensures ∙ ap₂ (λ (x y : List ℕ). frame (x ∷ y ∷ [])) (filled .ensures .0) (filled .ensures .1 .0)),
-    )
+returns : tie.Need-returns
+returns c =
+    let filled = c .before .before .before .before .before .before .before .before .before .before .fill-batch in
+    c .before .before .put-two .ensures ∙ ap₂ (λ (x y : List ℕ). frame (x ∷ y ∷ [])) (filled .ensures .0) (filled .ensures .1)
 
 pub batch-sections-spec : {M : Type 1} → statement M
 batch-sections-spec =
@@ -123,21 +100,14 @@ batch-sections-spec =
     leaf-bytes-requires
     load-trees-requires
     fill-batch-requires
-    enum-told
-    enum-told-2
-    same-length
-    same-length-2
-    same-length-3
-    same-length-4
-    returns
     slice-reshare-prefix-put-two
     slice-aggregate-put-two
     slice-reshare-prefix-put-two-2
     slice-aggregate-put-two-2
     put-two-requires
+    same-length
+    same-length-2
+    same-length-3
+    same-length-4
     same-length-5
-    same-length-6
-    same-length-7
-    same-length-8
-    same-length-9
-    returns-2)
+    returns)

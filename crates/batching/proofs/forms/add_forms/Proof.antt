@@ -202,21 +202,18 @@ returns c =
     let added : (i k : ℕ) → i < a .m → k < a .n → Added (a .width) (a .n * a .width) A x L (l .lines) i k =
     λ i k hi hk. all-added (a .polar) (a .width) (a .n * a .width) A (now (a .xs)) L (l .lines) i k (λ on. l .inv .14 on i k hi hk (omega (arith, enough, hk))) (l .inv .16) (pre .15) in (
       (λ χ e small chosen he. l .inv .7 χ e small chosen he ∙ ap (bitXor (byteAt (now (a .quad)) e)) (form-is (l .panel) (a .n) (a .width) (a .m) A χ e enough (λ k. laneAt T k e) (gone e))),
-      (
-        (λ χ e small chosen he.
-            let y : ℕ → ℕ = λ k. laneAt T k e in
-            let columns = xorSum (l .panel) (half (a .n) (a .width) (a .m) A T (now (a .xs)) χ e) in
-            let given = xorSum (a .n) (λ k. product (y k) (lineSum L (a .m) χ e k)) in
-            let added-left = xorSum (l .panel) (λ J. xorSum 16 (λ s. product (y (J * 16 + s)) (leftSum (a .width) (a .n * a .width) (a .m) A χ e x J (J * 16 + s)))) in
-            c .before .before .before .add-lines .ensures χ e small chosen he
-            ∙ ap₂ bitXor (l .inv .8 χ e small chosen he)
-            (sum-same most _ (λ k. product (y k) (lineSum (l .lines) (a .m) χ e k)) (λ k h. ap (λ (v : ℕ). product v (lineSum (l .lines) (a .m) χ e k)) (l .inv .5 e k he h))
-            ∙ sum-short (a .n) most (λ k. product (y k) (lineSum (l .lines) (a .m) χ e k)) (pre .4) (λ k h b. ap (λ (v : ℕ). product v (lineSum (l .lines) (a .m) χ e k)) (gone e k h) ∙ product-zero _)
-            ∙ lines-added (a .width) (a .n * a .width) (a .m) A χ e small x (pre .13) (l .panel) (a .n) enough y (gone e) L (l .lines) added)
-            ∙ both-halves (byteAt (now (a .mid)) e) given added-left columns
-            ∙ ap (λ (v : ℕ). bitXor (bitXor (byteAt (now (a .mid)) e) v) given) (polar-is (l .panel) (a .n) (a .width) (a .m) A χ e enough y (gone e) x (pre .14))),
-        ((λ on i k hi hk. l .inv .14 on i k hi hk (omega (arith, enough, hk))), l .inv .16),
-      ),
+      (λ χ e small chosen he.
+          let y : ℕ → ℕ = λ k. laneAt T k e in
+          let columns = xorSum (l .panel) (half (a .n) (a .width) (a .m) A T (now (a .xs)) χ e) in
+          let given = xorSum (a .n) (λ k. product (y k) (lineSum L (a .m) χ e k)) in
+          let added-left = xorSum (l .panel) (λ J. xorSum 16 (λ s. product (y (J * 16 + s)) (leftSum (a .width) (a .n * a .width) (a .m) A χ e x J (J * 16 + s)))) in
+          c .before .before .before .add-lines .ensures χ e small chosen he
+          ∙ ap₂ bitXor (l .inv .8 χ e small chosen he)
+          (sum-same most _ (λ k. product (y k) (lineSum (l .lines) (a .m) χ e k)) (λ k h. ap (λ (v : ℕ). product v (lineSum (l .lines) (a .m) χ e k)) (l .inv .5 e k he h))
+          ∙ sum-short (a .n) most (λ k. product (y k) (lineSum (l .lines) (a .m) χ e k)) (pre .4) (λ k h b. ap (λ (v : ℕ). product v (lineSum (l .lines) (a .m) χ e k)) (gone e k h) ∙ product-zero _)
+          ∙ lines-added (a .width) (a .n * a .width) (a .m) A χ e small x (pre .13) (l .panel) (a .n) enough y (gone e) L (l .lines) added)
+          ∙ both-halves (byteAt (now (a .mid)) e) given added-left columns
+          ∙ ap (λ (v : ℕ). bitXor (bitXor (byteAt (now (a .mid)) e) v) given) (polar-is (l .panel) (a .n) (a .width) (a .m) A χ e enough y (gone e) x (pre .14))),
     )
 
 pub add-forms-spec : {M : Type 1} → statement M

@@ -1,4 +1,4 @@
--- `core::calls::batch` meets its contract: a refusal on form is its reply; else question 11's answer is, and the step's bytes are written where it is accepted.
+-- `core::calls::batch` meets its contract: a refusal on form, then question 11's, is its reply; and else the step's bytes are written.
 -- Assumes nothing.
 use mathlib.Core.Path.{refl, sym, ap, _∙_, subst}
 use mathlib.Core.List.{[], _∷_}
@@ -7,7 +7,6 @@ use Rattle.protocol.specs.Frames.{frame}
 use Rattle.protocol.specs.Binary.{bits256}
 use Rattle.protocol.specs.Shape.{Shape}
 use Rattle.protocol.specs.Prover.{qs0Section, qs1Section, batchBytes}
-use Rattle.protocol.specs.Answers.{written}
 use Rattle.format.specs.Verdict.{answerOf}
 use Rattle.steps.specs.Facts.{BatchFacts}
 use Rattle.core.proofs.FactLaws.{batch-facts}
@@ -30,28 +29,44 @@ returns c =
     let a = c .before .before .before .before .before .before .before .before .args in
     (batch-form-reply (now (a .key)) (now (a .leaves)) (now (a .witness)) (now (a .batching)) (now (a .out)) _ (c .before .before .batch-form .ensures (now (a .out)) refl) (rw (c .enum-told2 .given .1) (refused-not _ _)), rw (c .enum-told2 .given .1))
 
+solved-requires : tie.Need-solved-requires
+solved-requires c κs =
+    let a = c .before .before .before .before .before .before .before .before .args in
+    let f = batch-facts (now (a .key)) (now (a .leaves)) (now (a .witness)) (now (a .batching)) (now (a .out)) (sym (c .before .before .batch-form .ensures (now (a .out)) refl) ∙ ap answerOf (c .enum-told .given .1)) in
+    (f .of-key, f .of-witness)
+
+enum-told-3 : tie.Need-enum-told-3
+enum-told-3 c = search needs
+
+enum-told-4 : tie.Need-enum-told-4
+enum-told-4 c = search needs
+
+returns-2 : tie.Need-returns-2
+returns-2 c =
+    let a = c .before .before .before .before .before .before .before .before .before .before .before .args in
+    (batch-solved-reply (now (a .key)) (now (a .leaves)) (now (a .witness)) (now (a .batching)) (now (a .out)) (sym (c .before .before .before .before .before .batch-form .ensures (now (a .out)) refl) ∙ ap answerOf (c .before .before .before .enum-told .given .1)) _ (c .before .before .solved .ensures), rw (c .enum-told4 .given .1))
+
 sizes-of-requires : tie.Need-sizes-of-requires
 sizes-of-requires c κs =
-    let a = c .before .before .before .before .before .before .before .before .before .args in
-    batch-facts (now (a .key)) (now (a .leaves)) (now (a .witness)) (now (a .batching)) (now (a .out)) (sym (c .before .before .before .batch-form .ensures (now (a .out)) refl) ∙ ap answerOf (c .before .enum-told .given .1)) .of-key .header
+    let a = c .before .before .before .before .before .before .before .before .before .before .before .before .args in
+    batch-facts (now (a .key)) (now (a .leaves)) (now (a .witness)) (now (a .batching)) (now (a .out)) (sym (c .before .before .before .before .before .before .batch-form .ensures (now (a .out)) refl) ∙ ap answerOf (c .before .before .before .before .enum-told .given .1)) .of-key .header
 
 write-batch-requires : tie.Need-write-batch-requires
 write-batch-requires c κs =
-    let a = c .before .before .before .before .before .before .before .before .before .before .args in
-    let g = batch-facts (now (a .key)) (now (a .leaves)) (now (a .witness)) (now (a .batching)) (now (a .out)) (sym (c .before .before .before .before .batch-form .ensures (now (a .out)) refl) ∙ ap answerOf (c .before .before .enum-told .given .1)) in
+    let a = c .before .before .before .before .before .before .before .before .before .before .before .before .before .args in
+    let g = batch-facts (now (a .key)) (now (a .leaves)) (now (a .witness)) (now (a .batching)) (now (a .out)) (sym (c .before .before .before .before .before .before .before .batch-form .ensures (now (a .out)) refl) ∙ ap answerOf (c .before .before .before .before .before .enum-told .given .1)) in
     let f = subst (λ (z : Shape). BatchFacts z (now (a .key)) (now (a .leaves)) (now (a .witness)) (now (a .batching)) (now (a .out))) (sym (c .sizes-of .ensures)) g in
     (g .of-key, c .sizes-of .ensures, f .of-witness, f .of-batching, f .of-key .in-range, f .of-leaves, f .of-out)
 
 same-length : tie.Need-same-length
 same-length c = search needs
 
-returns-2 : tie.Need-returns-2
+returns-3 : tie.Need-returns-3
 unfolding batchBytes
-returns-2 c =
-    let a = c .before .before .before .before .before .before .before .before .before .before .before .before .before .args in (
-      batch-solved-reply (now (a .key)) (now (a .leaves)) (now (a .witness)) (now (a .batching)) (now (a .out)) (sym (c .before .before .before .before .before .before .before .batch-form .ensures (now (a .out)) refl) ∙ ap answerOf (c .before .before .before .before .before .enum-told .given .1)) (answerOf (c .before .before .write-batch .result)) (c .before .before .write-batch .ensures .0),
-      c .before .before .write-batch .ensures .1
-          ∙ ap (λ (z : Shape). written (answerOf (c .before .before .write-batch .result)) (now (a .out)) (frame (qs0Section bits256 z (now (a .leaves)) (now (a .key)) (now (a .batching)) ∷ qs1Section bits256 z (now (a .leaves)) (now (a .key)) (now (a .witness)) (now (a .batching)) ∷ []))) (c .before .before .before .sizes-of .ensures),
+returns-3 c =
+    let a = c .before .before .before .before .before .before .before .before .before .before .before .before .before .before .before .before .args in (
+      batch-solved-reply (now (a .key)) (now (a .leaves)) (now (a .witness)) (now (a .batching)) (now (a .out)) (sym (c .before .before .before .before .before .before .before .before .before .before .batch-form .ensures (now (a .out)) refl) ∙ ap answerOf (c .before .before .before .before .before .before .before .before .enum-told .given .1)) _ (c .before .before .before .before .before .before .before .solved .ensures),
+      rw (c .before .before .before .before .before .enum-told3 .given .1) (c .before .before .write-batch .ensures ∙ ap (λ (z : Shape). frame (qs0Section bits256 z (now (a .leaves)) (now (a .key)) (now (a .batching)) ∷ qs1Section bits256 z (now (a .leaves)) (now (a .key)) (now (a .witness)) (now (a .batching)) ∷ [])) (c .before .before .before .sizes-of .ensures)),
     )
 
 pub batch-spec : {M : Type 1} → statement M
@@ -62,7 +77,11 @@ batch-spec =
     enum-told
     enum-told-2
     returns
+    solved-requires
+    enum-told-3
+    enum-told-4
+    returns-2
     sizes-of-requires
     write-batch-requires
     same-length
-    returns-2)
+    returns-3)

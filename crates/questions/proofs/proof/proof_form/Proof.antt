@@ -26,11 +26,11 @@ returns c = stop-at _ (c .enum-told2 .given .1)
 proof-lengths-requires : tie.Need-proof-lengths-requires
 proof-lengths-requires c κs = search needs
 
-slice-aggregate-sections-form : tie.Need-slice-aggregate-sections-form
-slice-aggregate-sections-form c = search needs
+slice-aggregate-read-sections : tie.Need-slice-aggregate-read-sections
+slice-aggregate-read-sections c = search needs
 
-sections-form-requires : tie.Need-sections-form-requires
-sections-form-requires c κs = search needs
+read-sections-requires : tie.Need-read-sections-requires
+read-sections-requires c κs = search needs
 
 enum-told-3 : tie.Need-enum-told-3
 enum-told-3 c = search needs
@@ -38,10 +38,10 @@ enum-told-3 c = search needs
 enum-told-4 : tie.Need-enum-told-4
 enum-told-4 c = search needs
 
-exact : (c : tie.After-sections-form) → answerOf (c .sections-form .result) ≡ ask (q12 bits256 (shapeFor (c .before .before .before .before .before .before .args .s)) (now (c .before .before .before .before .before .before .args .proof)) ∷ [])
+exact : (c : tie.After-read-sections) → answerOf (c .read-sections .result) ≡ ask (q12 bits256 (shapeFor (c .before .before .before .before .before .before .args .s)) (now (c .before .before .before .before .before .before .args .proof)) ∷ [])
 exact c =
     let proof = now (c .before .before .before .before .before .before .args .proof) in
-    same-first 12 0 _ (ap (λ ls. framed ls proof) (c .before .before .proof-lengths .ensures)) (c .sections-form .ensures)
+    same-first 12 0 _ (ap (λ ls. framed ls proof) (c .before .before .proof-lengths .ensures)) (c .read-sections .ensures)
 
 returns-2 : tie.Need-returns-2
 returns-2 c =
@@ -69,8 +69,8 @@ proof-form-spec =
     enum-told-2
     returns
     proof-lengths-requires
-    slice-aggregate-sections-form
-    sections-form-requires
+    slice-aggregate-read-sections
+    read-sections-requires
     enum-told-3
     enum-told-4
     returns-2

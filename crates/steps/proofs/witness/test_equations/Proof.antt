@@ -38,7 +38,7 @@ equation-errors-requires c κs =
     let shape = shapeOf (now (s .args .key)) in
     let n : c .before .before .before .before .sizes-of .result .n ≡ shapeOf (now (s .args .key)) .n = ap (λ (z : Shape). z .n) (c .before .before .before .before .sizes-of .ensures) in
     rw n (
-      in-limits shape (s .pre .0 .in-range) .n-most,
+      omega (arith, in-limits shape (s .pre .0 .in-range) .n-most),
       s .pre .1 .witness-length,
       c .before .before .section-a .ensures .1 ∙ mul-assoc (shape .m) (shape .n) (bytesFor (shape .n)) ∙ ap (λ (k : ℕ). k * (shape .n * bytesFor (shape .n))) (sym (s .pre .2)),
       c .before .section-b .ensures .1 ∙ ap (λ (k : ℕ). k * bytesFor (shape .n)) (sym (s .pre .2)),

@@ -10,7 +10,7 @@ use Rattle.trees.specs.Trees.{leafByte}
 use Rattle.trees.specs.Partial.{heldPlane}
 use Rattle.trees.proofs.PartialLaws.{running-none, running-all}
 use Rattle.strings.proofs.LeastLaws.{under-least}
-use Rattle.trees.proofs.FourLaws.{below-byte, above-byte, before-fits, after-fits, cut-out}
+use Rattle.trees.proofs.FourLaws.{below-leaf, above-leaf, before-fits, after-fits, cut-out}
 use borrow.Author.Needs.{needs}
 use Rattle.trees.proofs.chunks.hold.Statement.{statement}
 use Rattle.trees.proofs.chunks.hold.Tie as tie
@@ -92,13 +92,13 @@ returns c =
     let run0 =
     running-none f (a .r) 16 (byteAt (now (a .sum))) (heldPlane (now (a .held)) (a .r)) (start .pre .1 .0)
     (λ p b hp hb. sum-same (a .r + 1 - p) _ (λ k. 0) (λ k h. start .pre .1 .1 (k * 16 + b) (omega arith)) ∙ sum-none (a .r + 1 - p)) in
-    let run1 = c .before .before .before .before .before .before .before .before .before .hold-fours .ensures .1 f (λ i b low high hb. below-byte tree (a .w) (a .delta) i (a .at + b) (omega arith) (omega arith)) run0 in
+    let run1 = c .before .before .before .before .before .before .before .before .before .hold-fours .ensures .1 f (λ i low high b hb. below-leaf tree (a .w) (a .delta) i (omega arith) (a .at + b)) run0 in
     let run2 = c .before .before .before .before .before .before .hold-leaves .ensures .1 run1 in
     let run3 =
     c .before .before .before .hold-fours2 .ensures .1 f
-    (λ i b low high hb.
+    (λ i low high b hb.
     let cut = cut-out (a .delta) (a .count) (m .result) (next .result) (m .ensures .0) (m .ensures .2) (next .ensures .0) (next .ensures .2) (omega arith) in
-    above-byte tree (a .w) (a .delta) i (a .at + b) (omega arith) (omega arith)) run2 in
+    above-leaf tree (a .w) (a .delta) i (omega arith) (a .at + b)) run2 in
     let run = leaves .ensures .1 run3 in
     (leaves .ensures .0, (run .0, running-all f (a .r) 16 (byteAt (leaves .last .0)) (heldPlane (leaves .last .1 .0) (a .r)) (a .count) run (start .pre .1 .2)))
 

@@ -2,15 +2,18 @@
 -- Assumes nothing.
 use borrow.Author.Needs.{needs}
 use Prim.Native.Nat.{ℕ, _+_, _*_, _-_, _%_, _≤_, _<_}
-use mathlib.Core.Path.{_≡_, sym, ap, _∙_}
+use mathlib.Core.Path.{_≡_, refl, sym, ap, _∙_}
+use mathlib.Core.List.{List}
 use native.Mathlib.Omega.{arith}
 use denote.Ref.{now}
 use lib.Bits.{bitXor}
 use lib.ListN.{length}
+use Rattle.protocol.specs.Lists.{blockAt}
 use Rattle.strings.specs.Sums.{byteAt}
-use Rattle.trees.specs.Partial.{Running, heldPlane, withLow, Placed}
+use Rattle.strings.proofs.Rows.{row-end}
+use Rattle.trees.specs.Partial.{Running, heldPlane, withLow, Handed, Placed}
 use Rattle.trees.proofs.ChunkLaws.{held-put}
-use Rattle.trees.proofs.FourLaws.{Fits, four-fits, stands-at, held-more}
+use Rattle.trees.proofs.FourLaws.{Fits, four-fits, held-more}
 use Rattle.trees.proofs.fours.add_fours.Statement.{statement}
 use Rattle.trees.proofs.fours.add_fours.Tie as tie
 
@@ -41,95 +44,120 @@ sub-place c =
     let fits = l .inv .4 (omega arith) in
     omega arith
 
-mul-place : tie.Need-mul-place Inv-loop μ-loop
-mul-place c =
-    let l = c .before .loop in
+row-at-requires : tie.Need-row-at-requires Inv-loop μ-loop
+row-at-requires c κs =
+    let a = c .before .before .before .before .before .before .args in
+    let l = c .before .before .before .before .loop in
+    let fits = l .inv .4 (omega arith) in
+    omega (arith, row-end (l .j - a .skip) (a .to - a .skip) (a .w) (omega arith))
+
+add-row-at : tie.Need-add-row-at Inv-loop μ-loop
+add-row-at c =
+    let l = c .before .before .before .before .before .loop in
     let fits = l .inv .4 (omega arith) in
     omega arith
 
-add-place : tie.Need-add-place Inv-loop μ-loop
-add-place c =
-    let l = c .before .loop in
+row-at-requires-2 : tie.Need-row-at-requires-2 Inv-loop μ-loop
+row-at-requires-2 c κs =
+    let a = c .before .before .before .before .before .before .before .args in
+    let l = c .before .before .before .before .before .loop in
+    let fits = l .inv .4 (omega arith) in
+    omega (arith, row-end (l .j - a .skip + 1) (a .to - a .skip) (a .w) (omega arith))
+
+add-row-at-2 : tie.Need-add-row-at-2 Inv-loop μ-loop
+add-row-at-2 c =
+    let l = c .before .before .before .before .before .before .loop in
     let fits = l .inv .4 (omega arith) in
     omega arith
+
+row-at-requires-3 : tie.Need-row-at-requires-3 Inv-loop μ-loop
+row-at-requires-3 c κs =
+    let a = c .before .before .before .before .before .before .before .before .args in
+    let l = c .before .before .before .before .before .before .loop in
+    let fits = l .inv .4 (omega arith) in
+    omega (arith, row-end (l .j - a .skip + 2) (a .to - a .skip) (a .w) (omega arith))
 
 add-three-requires : tie.Need-add-three-requires Inv-loop μ-loop
 add-three-requires c κs =
-    let l = c .before .before .before .before .loop in
-    let fits = l .inv .4 (omega arith) in
-    (l .inv .5 .0, l .inv .5 .2, l .inv .5 .3, omega arith)
+    let l = c .before .before .before .before .before .before .before .loop in
+    (l .inv .5 .0, l .inv .5 .2, l .inv .5 .3, omega (arith, c .before .before .row-at .ensures .1), omega (arith, c .before .row-at2 .ensures .1), omega (arith, c .row-at3 .ensures .1))
 
-mul-add-chunk : tie.Need-mul-add-chunk Inv-loop μ-loop
-mul-add-chunk c =
-    let l = c .before .before .before .before .before .before .loop in
+add-row-at-3 : tie.Need-add-row-at-3 Inv-loop μ-loop
+add-row-at-3 c =
+    let l = c .before .before .before .before .before .before .before .before .before .loop in
     let fits = l .inv .4 (omega arith) in
     omega arith
 
-add-add-chunk : tie.Need-add-add-chunk Inv-loop μ-loop
-add-add-chunk c =
-    let l = c .before .before .before .before .before .before .loop in
+row-at-requires-4 : tie.Need-row-at-requires-4 Inv-loop μ-loop
+row-at-requires-4 c κs =
+    let a = c .before .before .before .before .before .before .before .before .before .before .before .args in
+    let l = c .before .before .before .before .before .before .before .before .before .loop in
     let fits = l .inv .4 (omega arith) in
-    omega arith
+    omega (arith, row-end (l .j - a .skip + 3) (a .to - a .skip) (a .w) (omega arith))
 
 add-chunk-requires : tie.Need-add-chunk-requires Inv-loop μ-loop
-add-chunk-requires c κs =
-    let l = c .before .before .before .before .before .before .loop in
-    let fits = l .inv .4 (omega arith) in
-    (omega arith, c .before .add-three .ensures .0 .0)
+add-chunk-requires c κs = (omega (arith, c .row-at4 .ensures .1), c .before .before .add-three .ensures .0 .0)
 
 add-held-row : tie.Need-add-held-row Inv-loop μ-loop
 add-held-row c =
-    let l = c .before .before .before .before .before .before .before .before .loop in
+    let l = c .before .before .before .before .before .before .before .before .before .before .before .before .loop in
     let fits = l .inv .4 (omega arith) in
     omega arith
 
 held-row-requires : tie.Need-held-row-requires Inv-loop μ-loop
 held-row-requires c κs =
-    let l = c .before .before .before .before .before .before .before .before .loop in
-    let fits = l .inv .4 (omega arith) in
-    (omega arith, omega arith)
+    let start = c .before .before .before .before .before .before .before .before .before .before .before .before .before .before in
+    let l = c .before .before .before .before .before .before .before .before .before .before .before .before .loop in
+    let fits = l .inv .4 (omega (arith, c .before .before .before .before .before .before .before .before .before .before .before .loop-test)) in
+    (omega (arith, start .pre .1 .1), omega (arith, start .pre .1 .0))
 
 add-held-requires : tie.Need-add-held-requires Inv-loop μ-loop
-add-held-requires c κs =
-    let l = c .before .before .before .before .before .before .before .before .before .before .loop in
-    let fits = l .inv .4 (omega arith) in
-    (omega (arith, c .before .held-row .ensures .0), l .inv .5 .1, c .before .before .before .add-chunk .ensures .0)
+add-held-requires c κs = (omega (arith, c .before .held-row .ensures .0, c .before .before .before .before .before .before .before .before .before .before .before .before .before .before .before .before .pre .1 .0), c .before .before .before .before .before .before .before .before .before .before .before .before .before .before .loop .inv .5 .1, c .before .before .before .add-chunk .ensures .0)
 
 add-j : tie.Need-add-j Inv-loop μ-loop
 add-j c =
-    let l = c .before .before .before .before .before .before .before .before .before .before .before .loop in
-    let fits = l .inv .4 (omega arith) in
-    omega arith
+    let l = c .before .before .before .before .before .before .before .before .before .before .before .before .before .before .before .loop in
+    let fits = l .inv .4 (omega (arith, c .before .before .before .before .before .before .before .before .before .before .before .before .before .before .loop-test)) in
+    omega (arith, c .before .before .before .before .before .before .before .before .before .before .before .before .before .before .before .before .before .pre .1 .1)
 
 loop-less : tie.Need-loop-less Inv-loop μ-loop
 loop-less c = search needs
 
 loop-again : tie.Need-loop-again Inv-loop μ-loop
 loop-again c =
-    let start = c .before .before .before .before .before .before .before .before .before .before .before .before .before in
+    let start = c .before .before .before .before .before .before .before .before .before .before .before .before .before .before .before .before .before in
     let a = start .args in
     let tree = now (a .tree) in
-    let l = c .before .before .before .before .before .before .before .before .before .before .before .loop in
+    let l = c .before .before .before .before .before .before .before .before .before .before .before .before .before .before .before .loop in
     let j = l .j in
-    let three = c .before .before .before .before .before .before .add-three in
+    let one = c .before .before .before .before .before .before .before .before .before .before .row-at in
+    let two = c .before .before .before .before .before .before .before .before .before .row-at2 in
+    let three = c .before .before .before .before .before .before .before .before .row-at3 in
+    let added = c .before .before .before .before .before .before .before .add-three in
+    let four = c .before .before .before .before .before .row-at4 in
     let leaf = c .before .before .before .before .add-chunk in
     let row = c .before .before .held-row in
     let more = c .add-held in
-    let below = c .before .before .before .before .before .before .before .before .before .before .loop-test in
+    let below = c .before .before .before .before .before .before .before .before .before .before .before .before .before .before .loop-test in
     let fits = l .inv .4 (omega (arith, below)) in (
       omega arith,
       omega arith,
       omega arith,
       omega arith,
       four-fits (a .from) (a .to) (a .skip) (j + 4) (a .w) (length tree) (omega arith) (omega arith) (omega arith) (start .pre .1 .5),
-      (leaf .ensures .0, more .ensures .0, three .ensures .0 .1, three .ensures .0 .2),
+      (leaf .ensures .0, more .ensures .0, added .ensures .0 .1, added .ensures .0 .2),
       (λ f placed run.
-          let stands : (i b : ℕ) → i < 4 → b < 16 → f (j + i) b ≡ byteAt tree ((j - a .skip) * a .w + a .at + i * a .w + b) =
-          λ i b hi hb. stands-at f j (a .to) (a .skip) tree (a .w) (a .at) i b (fits .1) (omega arith) hb (a .from) (l .inv .0) placed in
-          let run3 = three .ensures .1 f (heldPlane (l .held) (a .r)) (a .r) j (fits .0) (λ i b hi hb. stands i b (omega arith) hb) (l .inv .6 f placed run) in
+          let handed : (i k : ℕ) (s : List ℕ) → j ≤ i → i < a .to → i - a .skip ≡ k → s ≡ blockAt tree (a .w) k → Handed f i s (a .at) =
+          λ i k s low high is same b h. placed i (omega arith) high b h ∙ sym (ap (λ t. byteAt t (a .at + b)) (same ∙ ap (blockAt tree (a .w)) (sym is))) in
+          let run3 =
+          added .ensures .1 f (heldPlane (l .held) (a .r)) (a .r) j (fits .0)
+          (handed j (j - a .skip) (now (one .result)) (omega arith) (omega arith) refl (one .ensures .0))
+          (handed (j + 1) (j - a .skip + 1) (now (two .result)) (omega arith) (omega arith) (omega arith) (two .ensures .0))
+          (handed (j + 2) (j - a .skip + 2) (now (three .result)) (omega arith) (omega arith) (omega arith) (three .ensures .0))
+          (l .inv .6 f placed run) in
           let run4 =
-          held-more f (heldPlane (l .held) (a .r)) (a .r) (j + 3) (byteAt (three .last .0)) (byteAt (three .last .1 .0)) (byteAt (three .last .1 .1 .0)) (byteAt (leaf .last .0)) run3
-          (λ b h. leaf .ensures .1 b h ∙ ap (bitXor (byteAt (three .last .0) b)) (sym (stands 3 b (omega arith) h)))
+          held-more f (heldPlane (l .held) (a .r)) (a .r) (j + 3) (byteAt (added .last .0)) (byteAt (added .last .1 .0)) (byteAt (added .last .1 .1 .0)) (byteAt (leaf .last .0)) run3
+          (λ b h. leaf .ensures .1 b h ∙ ap (bitXor (byteAt (added .last .0) b)) (sym (handed (j + 3) (j - a .skip + 3) (now (four .result)) (omega arith) (omega arith) (omega arith) (four .ensures .0) b h)))
           (heldPlane (more .last .0) (a .r))
           (λ p b hp hb.
           held-put (l .held) (more .last .0) (a .r) (row .result) p b (byteAt (leaf .last .0) b) _ (row .ensures .1 p hp) (more .ensures .1 .0 b hb) (λ k other. more .ensures .1 .1 k b other hb)) in
@@ -152,11 +180,14 @@ add-fours-spec =
     μ-loop
     loop-holds
     sub-place
-    mul-place
-    add-place
+    row-at-requires
+    add-row-at
+    row-at-requires-2
+    add-row-at-2
+    row-at-requires-3
     add-three-requires
-    mul-add-chunk
-    add-add-chunk
+    add-row-at-3
+    row-at-requires-4
     add-chunk-requires
     add-held-row
     held-row-requires

@@ -1,12 +1,12 @@
 -- `trees::fours::add_three` meets its contract: three leaves, one after the other (`FourLaws`).
 -- Assumes nothing.
-use Prim.Native.Nat.{ℕ, _+_, _*_, _<_}
-use mathlib.Core.Path.{_≡_, ap, _∙_}
+use Prim.Native.Nat.{_+_}
+use mathlib.Core.Path.{_≡_, sym, ap, _∙_}
 use native.Mathlib.Omega.{arith}
 use denote.Ref.{now}
 use lib.Bits.{bitXor}
 use Rattle.strings.specs.Sums.{byteAt}
-use Rattle.trees.proofs.FourLaws.{leaf-at, from-front, first-more, second-more}
+use Rattle.trees.proofs.FourLaws.{from-front, first-more, second-more}
 use borrow.Author.Needs.{needs}
 use Rattle.trees.proofs.fours.add_three.Statement.{statement}
 use Rattle.trees.proofs.fours.add_three.Tie as tie
@@ -17,20 +17,11 @@ add-chunk-requires c κs = search needs
 add-chunk-requires-2 : tie.Need-add-chunk-requires-2
 add-chunk-requires-2 c κs = search needs
 
-add-add-chunk : tie.Need-add-add-chunk
-add-add-chunk c = search needs
-
 add-chunk-requires-3 : tie.Need-add-chunk-requires-3
 add-chunk-requires-3 c κs = search needs
 
 add-chunk-requires-4 : tie.Need-add-chunk-requires-4
 add-chunk-requires-4 c κs = search needs
-
-mul-add-chunk : tie.Need-mul-add-chunk
-mul-add-chunk c = search needs
-
-add-add-chunk-2 : tie.Need-add-add-chunk-2
-add-add-chunk-2 c = search needs
 
 add-chunk-requires-5 : tie.Need-add-chunk-requires-5
 add-chunk-requires-5 c κs = search needs
@@ -40,7 +31,7 @@ add-chunk-requires-6 c κs = search needs
 
 returns : tie.Need-returns
 returns c =
-    let a = c .before .before .before .before .before .before .before .before .before .before .before .before .before .before .before .before .before .before .before .args in
+    let a = c .before .before .before .before .before .before .before .before .before .before .before .before .before .before .before .before .before .before .before .before .before .args in
     let one = c .before .before .before .before .before .before .before .before .before .before .before .before .before .before .before .before .add-chunk in
     let first = c .before .before .before .before .before .before .before .before .before .before .before .before .add-chunk2 in
     let two = c .before .before .before .before .before .before .before .before .before .before .add-chunk3 in
@@ -48,21 +39,21 @@ returns c =
     let three = c .before .before .before .before .add-chunk5 in
     let again = c .add-chunk6 in (
       (three .ensures .0, again .ensures .0, second .ensures .0),
-      (λ f rows r j even stands run.
-          let leaf : (i k at b : ℕ) → i < 3 → b < 16 → j + i ≡ k → a .from + i * a .w ≡ at → byteAt (now (a .tree)) (at + b) ≡ f k b = leaf-at f j 3 (now (a .tree)) (a .w) (a .from) stands in
+      (λ f rows r j even leaf next third run.
           let run1 =
           first-more f rows r j (byteAt (now (a .sum))) (byteAt (now (a .first))) (byteAt (now (a .second))) (byteAt (one .last .0)) run
-          (λ b h. one .ensures .1 b h ∙ ap (bitXor (byteAt (now (a .sum)) b)) (leaf 0 j (a .from) b (omega arith) h (omega arith) (omega arith)))
+          (λ b h. one .ensures .1 b h ∙ ap (bitXor (byteAt (now (a .sum)) b)) (sym (leaf b h)))
           (byteAt (first .last .0)) (omega arith) (from-front (now (a .first)) (first .last .0) (one .last .0) (first .ensures .1)) in
           let run2 =
           second-more f rows r (j + 1) (byteAt (one .last .0)) (byteAt (first .last .0)) (byteAt (now (a .second))) (byteAt (two .last .0)) run1
-          (λ b h. two .ensures .1 b h ∙ ap (bitXor (byteAt (one .last .0) b)) (leaf 1 (j + 1) (a .from + a .w) b (omega arith) h (omega arith) (omega arith)))
+          (λ b h. two .ensures .1 b h ∙ ap (bitXor (byteAt (one .last .0) b)) (sym (next b h)))
           (byteAt (second .last .0)) (omega arith) (from-front (now (a .second)) (second .last .0) (two .last .0) (second .ensures .1)) in
+          let number : j + 1 + 1 ≡ j + 2 = omega arith in
           let run3 =
-          first-more f rows r (j + 1 + 1) (byteAt (two .last .0)) (byteAt (first .last .0)) (byteAt (second .last .0)) (byteAt (three .last .0)) run2
-          (λ b h. three .ensures .1 b h ∙ ap (bitXor (byteAt (two .last .0) b)) (leaf 2 (j + 1 + 1) (a .from + 2 * a .w) b (omega arith) h (omega arith) (omega arith)))
+          first-more f rows r (j + 2) (byteAt (two .last .0)) (byteAt (first .last .0)) (byteAt (second .last .0)) (byteAt (three .last .0)) (rw number at run2)
+          (λ b h. three .ensures .1 b h ∙ ap (bitXor (byteAt (two .last .0) b)) (sym (third b h)))
           (byteAt (again .last .0)) (omega arith) (from-front (first .last .0) (again .last .0) (three .last .0) (again .ensures .1)) in
-          let end : j + 1 + 1 + 1 ≡ j + 3 = omega arith in
+          let end : j + 2 + 1 ≡ j + 3 = omega arith in
           rw end at run3),
     )
 
@@ -72,11 +63,8 @@ add-three-spec =
     (tie.spec
     add-chunk-requires
     add-chunk-requires-2
-    add-add-chunk
     add-chunk-requires-3
     add-chunk-requires-4
-    mul-add-chunk
-    add-add-chunk-2
     add-chunk-requires-5
     add-chunk-requires-6
     returns)
