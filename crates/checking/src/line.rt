@@ -29,7 +29,7 @@ fn put_word(out: &mut [u8], word: &[u8]) -> usize
     ensures { λ r. ⌜ r ≡ length (now (word .entry)) ⌝ }
     ensures put { λ r. ⌜ now (out .exit) ≡ sets (now (out .entry)) 0 (now (word .entry)) ⌝ }
 {
-    copies::copy_into(&mut out[..word.len()], word);
+    strings::copies::copy_into(&mut out[..word.len()], word);
     word.len()
 }
 

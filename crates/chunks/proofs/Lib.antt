@@ -1,3 +1,5 @@
 pub mod BitSumLaws
 pub mod BlockLaws
 pub mod HalfLaws
+pub mod PassLaws
+pub mod TurnLaws

@@ -36,10 +36,10 @@ fn equation_error(matrix: &[u8], row: &[u8], y: u8, x: &[u8], n: usize) -> u8
     ensures { λ r. ⌜ r ≡ errorBit n (now (matrix .entry)) (now (row .entry)) y (now (x .entry)) ⌝ }
 {
     let width = x.len();
-    let mut sum = parity::row_product(row, x) ^ y;
+    let mut sum = strings::parity::row_product(row, x) ^ y;
     let mut rho = 0;
     while rho < n {
-        let product = parity::row_product(strings::row_at(matrix, width, rho), x);
+        let product = strings::parity::row_product(strings::row_at(matrix, width, rho), x);
         sum ^= strings::bit_at(x, rho) & product;
         rho += 1;
     }

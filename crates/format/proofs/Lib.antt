@@ -1,3 +1,4 @@
 pub mod SizeLaws
 pub mod AllLaws
 pub mod AskLaws
+pub mod FitLaws

@@ -1,6 +1,8 @@
 // The answers of the calls, in the forms that 01 names.
 pub mod numbers;
 pub mod sizes;
+pub mod verdicts;
+pub mod words;
 
 pub use sizes::Sizes;
 ghost use mathlib.Core.Path.{_≡_};

@@ -29,6 +29,11 @@ pub const MOST_REPETITIONS: usize = 48;
 
 pub const MOST_HASH_ROWS: usize = 160;
 
+// Room for the largest key: the bytes of a leaf, and of a row of H′.
+pub const MOST_LEAF: usize = (MOST_VARIABLES + Gf256::DEGREE + MOST_HASH_ROWS + 7) / 8;
+
+pub const MOST_ROW: usize = (MOST_VARIABLES + Gf256::DEGREE + 7) / 8;
+
 // The sizes in a key's header.
 pub fn sizes_of(key: &[u8]) -> Sizes
     requires { ⌜ 8 ≤ length (now key) ⌝ }

@@ -1,1 +1,3 @@
 pub mod Asking
+pub mod Facts
+pub mod Solved

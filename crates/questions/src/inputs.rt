@@ -19,8 +19,8 @@ use format::sizes::hashed_bits;
 use format::sizes::leaf_bits;
 use format::sizes::leaves_bytes;
 use format::sizes::witness_bytes;
-use spare::row_spare;
-use spare::rows_spare;
+use sections::spare::row_spare;
+use sections::spare::rows_spare;
 
 // Has Δ a byte for each repetition?
 pub fn challenge_exact(delta: &[u8], s: Sizes) -> bool

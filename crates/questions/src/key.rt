@@ -23,8 +23,8 @@ use format::sizes::sizes_of;
 use sections::framed_length;
 use sections::section_no;
 use sections::sections_form;
-use spare::row_spare;
-use spare::rows_spare;
+use sections::spare::row_spare;
+use sections::spare::rows_spare;
 
 // The bytes of n, m, τ, t.
 const HEADER: usize = 8;

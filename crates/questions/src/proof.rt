@@ -18,10 +18,10 @@ use format::also;
 use format::sizes::Sizes;
 use format::sizes::leaf_bits;
 use format::sizes::proof_lengths;
-use reader::read_section;
-use reader::read_sections;
-use spare::row_spare;
-use spare::rows_spare;
+use sections::reader::read_section;
+use sections::reader::read_sections;
+use sections::spare::row_spare;
+use sections::spare::rows_spare;
 
 // The places of the sections C, d, ũ, Ṽ, QS0, QS1.
 pub const C: usize = 0;

@@ -1,2 +1,4 @@
 pub mod Span
 pub mod Reading
+pub mod Moved
+pub mod Taking

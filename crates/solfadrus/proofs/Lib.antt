@@ -1,3 +1,5 @@
+pub mod FactLaws
+pub mod ReplyLaws
 pub mod SizedLaws
 pub mod ToldLaws
 pub mod Demands

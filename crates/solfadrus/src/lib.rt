@@ -2,6 +2,7 @@
 ghost use mathlib.Core.Path.{_≡_};
 ghost use Rattle.solfadrus.specs.Demands.{TestTold, CommitWrites, HashWrites, BatchWrites, ProveWrites, VerifyTold};
 
+pub mod calls;
 mod sizes;
 
 // major × 65,536 + minor × 256 + patch
@@ -16,21 +17,21 @@ pub extern "C" fn mq_version() -> u32
 pub extern "C" fn mq_test(key: &[u8], witness: &[u8]) -> u32
     ensures { λ r. ⌜ TestTold (now (key .entry)) (now (witness .entry)) r ⌝ }
 {
-    words::word_of(core::calls::test(key, witness))
+    format::words::word_of(calls::test(key, witness))
 }
 
 #[no_mangle]
 pub extern "C" fn mq_commit(key: &[u8], leaves: &[u8], witness: &[u8], out: &mut [u8]) -> u32
     ensures { λ r. ⌜ CommitWrites (now (key .entry)) (now (leaves .entry)) (now (witness .entry)) (now (out .entry)) (now (out .exit)) r ⌝ }
 {
-    words::word_of(core::calls::commit(key, leaves, witness, out))
+    format::words::word_of(calls::commit(key, leaves, witness, out))
 }
 
 #[no_mangle]
 pub extern "C" fn mq_hash(key: &[u8], leaves: &[u8], hash_matrix: &[u8], out: &mut [u8]) -> u32
     ensures { λ r. ⌜ HashWrites (now (key .entry)) (now (leaves .entry)) (now («hash_matrix» .entry)) (now (out .entry)) (now (out .exit)) r ⌝ }
 {
-    words::word_of(core::calls::hash(key, leaves, hash_matrix, out))
+    format::words::word_of(calls::hash(key, leaves, hash_matrix, out))
 }
 
 #[no_mangle]
@@ -43,7 +44,7 @@ pub extern "C" fn mq_batch(
 ) -> u32
     ensures { λ r. ⌜ BatchWrites (now (key .entry)) (now (leaves .entry)) (now (witness .entry)) (now (batching .entry)) (now (out .entry)) (now (out .exit)) r ⌝ }
 {
-    words::word_of(core::calls::batch(key, leaves, witness, batching, out))
+    format::words::word_of(calls::batch(key, leaves, witness, batching, out))
 }
 
 #[no_mangle]
@@ -57,7 +58,7 @@ pub extern "C" fn mq_prove(
 ) -> u32
     ensures { λ r. ⌜ ProveWrites (now (key .entry)) (now (leaves .entry)) (now (witness .entry)) (now («hash_matrix» .entry)) (now (batching .entry)) (now (out .entry)) (now (out .exit)) r ⌝ }
 {
-    words::word_of(core::calls::prove(key, leaves, witness, hash_matrix, batching, out))
+    format::words::word_of(calls::prove(key, leaves, witness, hash_matrix, batching, out))
 }
 
 #[no_mangle]
@@ -71,5 +72,5 @@ pub extern "C" fn mq_verify(
 ) -> u32
     ensures { λ r. ⌜ VerifyTold (now (key .entry)) (now (delta .entry)) (now («hash_matrix» .entry)) (now (batching .entry)) (now (opened .entry)) (now (proof .entry)) r ⌝ }
 {
-    words::word_of(verifier::verify(key, delta, hash_matrix, batching, opened, proof))
+    format::words::word_of(verifier::verify(key, delta, hash_matrix, batching, opened, proof))
 }

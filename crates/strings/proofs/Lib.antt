@@ -9,3 +9,6 @@ pub mod TopLaws
 pub mod ProductLaws
 pub mod WordLaws
 pub mod LeastLaws
+pub mod ParityLaws
+pub mod SharedLaws
+pub mod TableLaws

@@ -1,3 +1,4 @@
 pub mod Sums
 pub mod Products
 pub mod Words
+pub mod Shared

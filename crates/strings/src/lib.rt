@@ -1,4 +1,7 @@
 // Byte strings as the code walks them: sums in place, rows of a table, single bits, and words of eight bytes.
+pub mod copies;
+pub mod parity;
+
 ghost use mathlib.Core.Path.{_≡_};
 ghost use Prim.Native.Nat.{ℕ, _+_, _*_, _<_, _≤_};
 ghost use lib.ListN.{length};

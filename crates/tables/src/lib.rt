@@ -1,4 +1,5 @@
 // Leaf sums for all repetitions: u_e in the rows of a table, v_e in the lanes of another.
+pub mod opened;
 mod parts;
 
 ghost use mathlib.Core.Path.{_≡_};
@@ -8,9 +9,9 @@ ghost use Rattle.protocol.specs.Lists.{blockAt};
 ghost use Rattle.protocol.specs.Strings.{bit, fromBits};
 ghost use Rattle.strings.specs.Sums.{byteAt, bitOf, xorSum};
 ghost use Rattle.tables.specs.Sums.{lanes, mostWidth, planeByte, uByte, vByte, SumsAre, TableIs};
+use chunks::turns::SIXTEEN;
 use field::Gf256;
 use parts::spread_parts;
-use turns::SIXTEEN;
 
 // Repetitions side by side in a table: entry c of repetition e stands at c·LANES + e. The stride is fixed, so that loops over it have a constant length.
 pub const LANES: usize = 48;

@@ -8,9 +8,9 @@ ghost use Rattle.protocol.specs.Strings.{bit, fromBits};
 ghost use Rattle.strings.specs.Sums.{byteAt, bitOf};
 ghost use Rattle.tables.specs.Sums.{lanes};
 use super::LANES;
-use turns::EIGHT_ROWS;
-use turns::SIXTEEN;
-use turns::turn_rows;
+use chunks::turns::EIGHT_ROWS;
+use chunks::turns::SIXTEEN;
+use chunks::turns::turn_rows;
 
 // Writes lane e of 128 coordinates, from c on.
 fn put_lane(table: &mut [u8], e: usize, c: usize, columns: &[u8])

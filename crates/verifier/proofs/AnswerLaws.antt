@@ -9,7 +9,7 @@ use lib.Dec.{leb}
 use Rattle.protocol.specs.Lists.{allBelow, firstNot}
 use Rattle.protocol.specs.Answers.{Answer, question, ask}
 use Rattle.protocol.proofs.TestLaws.{leb-yes, leb-le, bool-iff, all-at}
-use Rattle.repetitions.proofs.FirstLaws.{first-none, first-all}
+use Rattle.verifier.proofs.FirstLaws.{first-none, first-all}
 
 -- the first that fails is past the end where all hold
 first-past : (n : ℕ) (p : ℕ → Bool) → leb n (firstNot n p) ≡ allBelow n p

@@ -14,9 +14,9 @@ use Rattle.protocol.specs.Calls.{verifyQuestions}
 use Rattle.protocol.proofs.TestLaws.{eqb-eq, leb-le, all-true}
 use Rattle.protocol.proofs.AnswerLaws.{ask-accepts, all-yes}
 use Rattle.lanes.specs.Lanes.{lanes}
-use Rattle.opened.specs.Opened.{OpenedTableIs}
-use Rattle.steps.proofs.FitLaws.{batching-of}
-use Rattle.checks.specs.Given.{Opened}
+use Rattle.tables.specs.Opened.{OpenedTableIs}
+use Rattle.format.proofs.FitLaws.{batching-of}
+use Rattle.verifier.specs.Proved.{Opened}
 use Rattle.verifier.specs.Given.{VerifyFacts}
 
 challenge-of : (s : Shape) (Δ : List ℕ) → ΔExact bits256 s Δ ≡ true → length Δ ≡ s .τ

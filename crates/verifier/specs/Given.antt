@@ -7,9 +7,9 @@ use Prim.Native.Nat.{ℕ, _*_}
 use lib.ListN.{length}
 use Rattle.protocol.specs.Binary.{bits256}
 use Rattle.protocol.specs.Shape.{Shape, wOf}
-use Rattle.steps.specs.Loaded.{HashForm}
-use Rattle.steps.specs.Facts.{KeyFacts}
-use Rattle.checks.specs.Given.{ProofForm}
+use Rattle.questions.specs.Facts.{HashForm}
+use Rattle.questions.specs.Facts.{KeyFacts}
+use Rattle.verifier.specs.Proved.{ProofForm}
 
 pub record VerifyFacts (s : Shape) (key Δ H′ χ opened proof : List ℕ) : Type 0 where
   pub of-key : KeyFacts s key

@@ -1,1 +1,4 @@
+pub mod Proved
+pub mod Product
+pub mod Repetitions
 pub mod Given

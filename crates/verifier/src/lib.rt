@@ -1,4 +1,10 @@
 // The verifier: its questions on form, and then 14 and 15, 14 over all repetitions before 15 over any. All that it is lent is public.
+pub mod checks;
+pub mod consistency;
+pub mod differing;
+pub mod keys;
+pub mod product;
+
 ghost use mathlib.Core.Path.{_≡_};
 ghost use mathlib.Core.List.{[], _∷_};
 ghost use Prim.Native.Nat.{_*_};
@@ -18,10 +24,10 @@ use format::Reason;
 use format::Sizes;
 use format::Verdict;
 use format::sizes::MOST_HASH_ROWS;
+use format::sizes::MOST_LEAF;
+use format::verdicts::answer;
 use lanes::LANES;
 use questions::proof::proof_section;
-use steps::MOST_LEAF;
-use verdicts::answer;
 
 // Both questions, in buffers of exact length.
 fn ask_checks(
@@ -41,7 +47,7 @@ fn ask_checks(
 {
     let tau = s.tau;
     let w = format::sizes::leaf_bytes(s);
-    opened::load_opened(
+    tables::opened::load_opened(
         table,
         opened,
         delta,
@@ -59,7 +65,7 @@ fn ask_checks(
 }
 
 // Both questions.
-fn checks(
+fn both_checks(
     key: &[u8],
     delta: &[u8],
     matrix: &[u8],
@@ -104,7 +110,7 @@ pub fn verify(
     let Verdict::Accepted = form else {
         return form;
     };
-    checks(
+    both_checks(
         key,
         delta,
         matrix,

@@ -14,7 +14,7 @@ use Rattle.protocol.specs.Strings.{bytesFor, bit}
 use Rattle.protocol.proofs.StringLaws.{bit-lt}
 use Rattle.strings.specs.Sums.{xorSum}
 use Rattle.strings.proofs.Rows.{row-end}
-use Rattle.parity.proofs.ParityLaws.{and-bits}
+use Rattle.strings.proofs.ParityLaws.{and-bits}
 use Rattle.equations.specs.Equations.{rowProduct, rowOf, errorBit}
 use Rattle.equations.proofs.BlockLaws.{bytes-enough}
 use Rattle.equations.proofs.RowLaws.{error-more}

@@ -14,8 +14,8 @@ use Rattle.protocol.specs.Questions.{consistentIn, productIn, q14, q15}
 use Rattle.format.specs.Sizes.{shapeFor}
 use Rattle.format.proofs.AskLaws.{then-ask, go-on, stop-at}
 use Rattle.format.proofs.SizeLaws.{in-limits, w-most}
-use Rattle.steps.specs.Facts.{KeyFacts}
-use Rattle.checks.proofs.GivenLaws.{section-lengths}
+use Rattle.questions.specs.Facts.{KeyFacts}
+use Rattle.verifier.proofs.ProvedLaws.{section-lengths}
 use Rattle.verifier.proofs.AnswerLaws.{asked-of-each}
 use Rattle.verifier.proofs.GivenLaws.{opened-is}
 use Rattle.verifier.proofs.ask_checks.Statement.{statement}

@@ -38,8 +38,8 @@ sizes-of-requires c κs =
     let a = c .before .before .before .before .before .before .before .before .before .args in
     verify-facts (now (a .key)) (now (a .delta)) (now (a .matrix)) (now (a .batching)) (now (a .opened)) (now (a .proof)) (sym (c .before .before .verify-form .ensures) ∙ ap answerOf (c .enum-told .given .1)) .of-key .header
 
-checks-requires : tie.Need-checks-requires
-checks-requires c κs =
+both-checks-requires : tie.Need-both-checks-requires
+both-checks-requires c κs =
     let a = c .before .before .before .before .before .before .before .before .before .before .args in (
       c .sizes-of .ensures,
       subst (λ (z : Shape). VerifyFacts z (now (a .key)) (now (a .delta)) (now (a .matrix)) (now (a .batching)) (now (a .opened)) (now (a .proof))) (sym (c .sizes-of .ensures))
@@ -52,7 +52,7 @@ returns-2 c =
     let a = c .before .before .before .before .before .before .before .before .before .before .before .args in
     then-ask (verifyQuestions bits256 (now (a .key)) (now (a .delta)) (now (a .matrix)) (now (a .batching)) (now (a .opened)) (now (a .proof))) _ (c .before .before .before .before .verify-form .ensures)
     (go-on (c .before .before .enum-told .given .1)
-    (c .checks .ensures
+    (c .both-checks .ensures
     ∙ ap (λ (z : Shape). ask (q14 bits256 z (now (a .delta)) (now (a .matrix)) (now (a .opened)) (now (a .proof)) ∷ q15 bits256 z (now (a .key)) (now (a .delta)) (now (a .batching)) (now (a .opened)) (now (a .proof)) ∷ [])) (c .before .sizes-of .ensures)))
 
 pub verify-spec : {M : Type 1} → statement M
@@ -64,5 +64,5 @@ verify-spec =
     enum-told-2
     returns
     sizes-of-requires
-    checks-requires
+    both-checks-requires
     returns-2)

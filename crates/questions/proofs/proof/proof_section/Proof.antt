@@ -10,7 +10,7 @@ use Rattle.protocol.specs.Binary.{bits256}
 use Rattle.protocol.specs.Shape.{Shape}
 use Rattle.protocol.specs.Sections.{lengths}
 use Rattle.format.specs.Sizes.{shapeFor}
-use Rattle.reader.proofs.ReaderLaws.{section-taken, section-length}
+use Rattle.sections.proofs.ReaderLaws.{section-taken, section-length}
 use Rattle.questions.proofs.proof.proof_section.Statement.{statement}
 use Rattle.questions.proofs.proof.proof_section.Tie as tie
 

@@ -1,2 +1,0 @@
-pub mod CheckMeaning
-pub mod GivenLaws

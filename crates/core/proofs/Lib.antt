@@ -1,2 +1,0 @@
-pub mod FactLaws
-pub mod ReplyLaws

@@ -1,0 +1,74 @@
+-- Sizes that fit one another: within the limits every part of a leaf, and every row, is where the code reads it.
+-- Assumes nothing.
+use mathlib.Core.Path.{_≡_}
+use mathlib.Core.Bool.{true}
+use mathlib.Core.List.{List}
+use Prim.Native.Nat.{ℕ, _+_, _*_, _-_, _≤_, _<_}
+use native.Mathlib.Nat.{mul-le-mul}
+use native.Mathlib.Omega.{arith}
+use lib.ListN.{length}
+use Rattle.field.specs.Gf256.{gf256}
+use Rattle.protocol.specs.Strings.{bytesFor}
+use Rattle.protocol.specs.Binary.{bits256}
+use Rattle.protocol.specs.Shape.{Shape, limits, kOf, lOf, wOf}
+use Rattle.protocol.specs.Questions.{χExact}
+use Rattle.protocol.proofs.TestLaws.{eqb-eq}
+use Rattle.format.proofs.SizeLaws.{in-limits, k-most, w-most, bytes-most, hashed-most, corrections-most, row-most}
+
+module _ (s : Shape) where
+  -- the first n coordinates, and the first k, are in a leaf
+  pub n-fits : bytesFor (s .n) ≤ wOf bits256 s
+  unfolding wOf lOf kOf bytesFor
+  n-fits = omega arith
+
+  pub k-fits : bytesFor (kOf bits256 s) ≤ wOf bits256 s
+  unfolding wOf lOf bytesFor
+  k-fits = omega arith
+
+  -- all coordinates are in a leaf
+  pub l-fits : kOf bits256 s + s .t ≤ wOf bits256 s * 8
+  unfolding wOf lOf bytesFor
+  l-fits = omega arith
+
+  -- the mask coordinates are in a leaf
+  pub mask-fits : s .n + gf256 .degree ≤ 8 * wOf bits256 s
+  unfolding wOf lOf kOf bytesFor
+  mask-fits = omega arith
+
+  -- and so is each of the first k among all
+  pub k-below : (c : ℕ) → c < kOf bits256 s → c < lOf bits256 s
+  unfolding lOf
+  k-below c h = omega arith
+
+-- every coordinate is in a leaf
+pub in-width : (s : Shape) (c : ℕ) → c < lOf bits256 s → c < 8 * wOf bits256 s
+unfolding wOf bytesFor
+in-width s c h = omega arith
+
+-- the buffers of a call, made for the largest key, hold this one
+pub record Room (s : Shape) : Type 0 where
+  pub table-room : 8 * wOf bits256 s * 48 ≤ 15744
+  pub sums-room : s .τ * wOf bits256 s ≤ 1968
+  pub packed-room : bytesFor (s .t) ≤ 21
+  pub hashed-room : s .τ * s .t ≤ 7680
+  pub corrections-room : (s .τ - 1) * wOf bits256 s ≤ 1968
+  pub row-room : bytesFor (s .n) ≤ 21
+  pub entries-room : bytesFor (kOf bits256 s) * 32 * 48 ≤ 32256
+
+pub room : (s : Shape) → limits s ≡ true → Room s
+room s h =
+    let b = in-limits s h in
+    record {
+      table-room = omega (arith, w-most s h);
+      sums-room = omega (arith, mul-le-mul (b .τ-most) (w-most s h));
+      packed-room = bytes-most (s .t) (omega arith);
+      hashed-room = omega (arith, hashed-most s h);
+      corrections-room = omega (arith, corrections-most s h);
+      row-room = row-most s h;
+      entries-room = omega (arith, bytes-most (kOf bits256 s) (k-most s h));
+    }
+
+-- a batching challenge of the right form has a byte for each repetition and equation
+pub batching-of : (s : Shape) (χ : List ℕ) → χExact bits256 s χ ≡ true → length χ ≡ s .τ * s .m
+unfolding χExact
+batching-of s χ h = eqb-eq _ _ h

@@ -1,0 +1,145 @@
+-- What the forms, the batched sums and the masks are in 01's terms, where the table holds a vector f in the lane of repetition e; and so QS0 and QS1.
+-- Assumes nothing.
+use mathlib.Core.Path.{_≡_, sym, ap, ap₂, _∙_}
+use mathlib.Core.Bool.{cond}
+use mathlib.Core.List.{List}
+use Prim.Native.Nat.{ℕ, _+_, _*_, _<_}
+use native.Mathlib.Omega.{arith}
+use lib.Bits.{bitXor}
+use Rattle.algebra.specs.Ring.{Ring}
+use Rattle.algebra.specs.Field.{Field}
+use Rattle.algebra.specs.Coded.{Coded, mulByte, powByte}
+use Rattle.algebra.specs.Sum.{sum, power}
+use Rattle.algebra.proofs.RingLaws.{ring}
+use Rattle.algebra.proofs.SumLaws.{sum-add}
+use Rattle.field.specs.Gf256.{gf256, maskElement}
+use Rattle.protocol.specs.Lists.{blockAt}
+use Rattle.protocol.specs.Strings.{bytesFor, bit}
+use Rattle.protocol.specs.Alphabet.{Alphabet, sym as symbol, elemAt}
+use Rattle.protocol.specs.Binary.{binary, bits256}
+use Rattle.protocol.specs.Shape.{Shape, maskAt, kOf}
+use Rattle.protocol.specs.Key.{sectionA, sectionB, aSym, bSym}
+use Rattle.protocol.specs.Forms.{α, quad, lin, middle, maskOf, χAt, batch}
+use Rattle.protocol.specs.Prover.{u, v, a₀, a₁, qs0, qs1}
+use Rattle.protocol.proofs.TestLaws.{ltb-yes}
+use Rattle.protocol.proofs.StringLaws.{bit-lt}
+use Rattle.strings.specs.Sums.{byteAt, xorSum, selected}
+use Rattle.strings.proofs.SumLaws.{sum-same}
+use Rattle.strings.proofs.Meaning.{byte-sum, byte-scale}
+use Rattle.strings.proofs.ProductLaws.{product-lt, product-sum}
+use Rattle.lanes.specs.Lanes.{lanes, laneAt}
+use Rattle.equations.specs.Equations.{rowOf, matrixOf}
+use Rattle.forms.specs.Forms.{rowBit}
+use Rattle.forms.specs.Batch.{qs0Byte, qs1Byte}
+use Rattle.equations.proofs.BlockLaws.{block-block}
+use Rattle.equations.proofs.ElementLaws.{byte-product, byte-form, form-rows, selected-is, bitsOf}
+
+module _ (C : Coded) (s : Shape) where
+  open Coded C using (base, elem, byte)
+  open Field base using (R)
+  open Ring R using (F, 𝟘, add as _⊕_, mul as _⊗_)
+
+  infixl 65 _⊕_
+  infixl 70 _⊗_
+  abbrev A : Alphabet
+  A = binary C
+
+  abbrev n : ℕ
+  n = s .n
+
+  module _ (key : List ℕ) (i : ℕ) (T : List ℕ) (e : ℕ) (f : ℕ → F) (holds : (c : ℕ) → c < s .n → laneAt T c e ≡ byte (f c)) where
+    -- row ρ of the equation, in the code and in the definitions
+    abbrev row : ℕ → List ℕ
+    row ρ = rowOf n (matrixOf n (sectionA A s key) i) ρ
+
+    abbrev line : ℕ → List ℕ
+    line ρ = blockAt (sectionA A s key) (bytesFor n) (i * n + ρ)
+
+    same-row : (ρ : ℕ) → ρ < n → row ρ ≡ line ρ
+    same-row ρ h = block-block (sectionA A s key) n (bytesFor n) i ρ h
+
+    abbrev times : (ℕ → F) → ℕ → F
+    times g ρ = sum R n (λ c. bitsOf C (line ρ) c ⊗ g c)
+
+    row-is : (ρ : ℕ) → ρ < n → selected n (row ρ) T lanes e ≡ byte (times f ρ)
+    row-is ρ h = ap (λ r. selected n r T lanes e) (same-row ρ h) ∙ selected-is C n (line ρ) T e f holds
+
+    pub form-is : xorSum n (λ ρ. mulByte C (laneAt T ρ e) (selected n (row ρ) T lanes e)) ≡ byte (quad A s key i f f)
+    unfolding quad aSym symbol
+    form-is =
+        sum-same n _ _ (λ ρ h. ap₂ (mulByte C) (holds ρ h) (row-is ρ h) ∙ sym (byte-product C (f ρ) (times f ρ)))
+        ∙ sym (byte-form C n (λ ρ c. bitsOf C (line ρ) c) f f)
+
+    pub lin-is : selected n (rowOf n (sectionB A s key) i) T lanes e ≡ byte (lin A s key i f)
+    unfolding lin bSym symbol
+    lin-is = selected-is C n (rowOf n (sectionB A s key) i) T e f holds
+
+    module _ (x : List ℕ) where
+      row-bit-is : (ρ : ℕ) → ρ < n → rowBit n (row ρ) (bit x) * laneAt T ρ e ≡ byte (f ρ ⊗ times (bitsOf C x) ρ)
+      row-bit-is ρ h =
+          ap₂ (λ r z. rowBit n r (bit x) * z) (same-row ρ h) (holds ρ h)
+          ∙ sym (byte-scale C (rowBit n (line ρ) (bit x)) (f ρ) (product-lt n (line ρ) x))
+          ∙ ap byte (ap (λ z. z ⊗ f ρ) (ap elem (sym (product-sum C n (line ρ) x)) ∙ C .elem-byte _) ∙ R .mul-comm (times (bitsOf C x) ρ) (f ρ))
+
+      cross-is : xorSum n (λ ρ. bitXor (bit x ρ * selected n (row ρ) T lanes e) (rowBit n (row ρ) (bit x) * laneAt T ρ e)) ≡ byte (quad A s key i (symbol A x) f ⊕ quad A s key i f (symbol A x))
+      unfolding quad aSym symbol
+      cross-is =
+          sum-same n _ (λ ρ. byte (bitsOf C x ρ ⊗ times f ρ ⊕ f ρ ⊗ times (bitsOf C x) ρ))
+          (λ ρ h. ap₂ bitXor (ap (λ z. bit x ρ * z) (row-is ρ h) ∙ sym (byte-scale C (bit x ρ) (times f ρ) (bit-lt x ρ))) (row-bit-is ρ h) ∙ sym (C .byte-add _ _))
+          ∙ sym (byte-sum C n _)
+          ∙ ap byte (sum-add R n (λ ρ. bitsOf C x ρ ⊗ times f ρ) (λ ρ. f ρ ⊗ times (bitsOf C x) ρ) ∙ ap₂ _⊕_ (sym (form-rows C n _ (bitsOf C x) f)) (sym (form-rows C n _ f (bitsOf C x))))
+
+      order : (p q r : F) → r ⊕ (p ⊕ q) ≡ q ⊕ p ⊕ r
+      order p q r = simp ring
+
+      pub middle-is : bitXor (selected n (rowOf n (sectionB A s key) i) T lanes e) (xorSum n (λ ρ. bitXor (bit x ρ * selected n (row ρ) T lanes e) (rowBit n (row ρ) (bit x) * laneAt T ρ e)))
+          ≡ byte (middle A s key i f (symbol A x))
+      unfolding middle
+      middle-is =
+          ap₂ bitXor lin-is cross-is ∙ sym (C .byte-add _ _)
+          ∙ ap byte (order (quad A s key i (symbol A x) f) (quad A s key i f (symbol A x)) (lin A s key i f))
+
+  pub batch-is : (χ : List ℕ) (e : ℕ) (f : ℕ → ℕ) (g : ℕ → F) → ((i : ℕ) → f i ≡ byte (g i)) → xorSum (s .m) (λ i. mulByte C (byteAt χ (e * s .m + i)) (f i)) ≡ byte (batch A s χ e g)
+  unfolding batch χAt elemAt
+  batch-is χ e f g h =
+      sum-same (s .m) _ _ (λ i l. ap (λ z. byte (elem (byteAt χ (e * s .m + i)) ⊗ z)) (ap elem (h i) ∙ C .elem-byte (g i)))
+      ∙ sym (byte-sum C (s .m) (λ i. elem (byteAt χ (e * s .m + i)) ⊗ g i))
+
+-- ---- at GF(256), which the code computes in
+
+abbrev byteOf : bits256 .K .base .R .F → ℕ
+byteOf = bits256 .K .byte
+
+mask-element : (i : ℕ) → i < gf256 .degree → maskElement i ≡ powByte gf256 2 i
+unfolding maskElement
+mask-element i h = ap (λ b. cond b (powByte gf256 2 i) 0) (ltb-yes i (gf256 .degree) h)
+
+module _ (s : Shape) where
+  -- the mask coordinates, of a lane or of a string
+  pub mask-is : (e : ℕ) (g : ℕ → ℕ) (f : ℕ → bits256 .K .base .R .F) → ((c : ℕ) → c < kOf bits256 s → g c ≡ byteOf (f c))
+      → xorSum (gf256 .degree) (λ i. mulByte gf256 (maskElement i) (g (s .n + i))) ≡ byteOf (maskOf bits256 s e f)
+  unfolding maskOf maskAt kOf α
+  mask-is e g f h =
+      sum-same (gf256 .degree) _ _
+      (λ i l. ap₂ (mulByte gf256) (mask-element i l) (h (s .n + i) (omega arith)) ∙ sym (byte-product gf256 (power (gf256 .base .R) (gf256 .elem 2) i) (f (s .n + i))))
+      ∙ sym (byte-sum gf256 (gf256 .degree) (λ i. gf256 .base .R .mul (power (gf256 .base .R) (gf256 .elem 2) i) (f (s .n + i))))
+
+  module _ (leaves key χ T : List ℕ) (e : ℕ) (holds : (c : ℕ) → c < kOf bits256 s → laneAt T c e ≡ byteOf (v bits256 s leaves e c)) where
+    front : (c : ℕ) → c < s .n → laneAt T c e ≡ byteOf (v bits256 s leaves e c)
+    unfolding kOf
+    front c h = holds c (omega arith)
+
+    pub qs0-is : qs0Byte (s .n) (s .m) (sectionA bits256 s key) χ T e ≡ byteOf (qs0 bits256 s leaves key χ e)
+    unfolding qs0 a₀
+    qs0-is =
+        ap₂ bitXor (batch-is gf256 s χ e _ (λ i. quad bits256 s key i (v bits256 s leaves e) (v bits256 s leaves e)) (λ i. form-is gf256 s key i T e (v bits256 s leaves e) front))
+        (mask-is e (λ c. laneAt T c e) (v bits256 s leaves e) holds)
+        ∙ sym (gf256 .byte-add _ _)
+
+    pub qs1-is : (x us : List ℕ) → ((c : ℕ) → c < kOf bits256 s → bit us c ≡ byteOf (u bits256 s leaves 0 c))
+        → qs1Byte (s .n) (s .m) (sectionA bits256 s key) (sectionB bits256 s key) x χ us T e ≡ byteOf (qs1 bits256 s leaves key x χ e)
+    unfolding qs1 a₁
+    qs1-is x us bits =
+        ap₂ bitXor (batch-is gf256 s χ e _ (λ i. middle bits256 s key i (v bits256 s leaves e) (symbol bits256 x)) (λ i. middle-is gf256 s key i T e (v bits256 s leaves e) front x))
+        (mask-is e (bit us) (u bits256 s leaves 0) bits)
+        ∙ sym (gf256 .byte-add _ _)

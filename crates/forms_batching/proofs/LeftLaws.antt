@@ -1,0 +1,133 @@
+-- What is added to the lines, xᵀ·F for each equation: panel by panel, at the vectors, batched.
+-- Assumes nothing.
+use mathlib.Core.Path.{_≡_, sym, ap, ap₂, _∙_}
+use mathlib.Core.List.{List}
+use Prim.Native.Nat.{ℕ, _+_, _*_, _/_, _%_, _≤_, _<_}
+use native.Mathlib.Nat.{zero-mul, mul-assoc}
+use native.Mathlib.Decide.{decLt}
+use native.Mathlib.Omega.{arith}
+use lib.Arith.{digits-div}
+use lib.Bits.{bitXor, xor-comm}
+use lib.Dec.{lit<}
+use Rattle.protocol.specs.Lists.{blockAt}
+use Rattle.strings.specs.Sums.{byteAt, bitOf, xorSum}
+use Rattle.strings.proofs.XorLaws.{xor-assoc}
+use Rattle.strings.proofs.SumLaws.{sum-same, sum-none, sum-short, sum-both, sum-lt, xor-scale}
+use Rattle.strings.proofs.ProductLaws.{bit-times-lt}
+use Rattle.strings.proofs.Meaning.{bitOf-lt}
+use Rattle.chunks.specs.Chunks.{chunk, cellAt}
+use Rattle.chunks.proofs.BitSumLaws.{sum-swap, sum-blocks, bits-lt, times-sum, bit-sum}
+use Rattle.forms_folds.specs.Folds.{foldedBit, Folded}
+use Rattle.forms_columns.specs.Stacks.{product}
+use Rattle.forms_columns.proofs.ProductLaws.{product-zero}
+use Rattle.forms_batching.specs.Batched.{batchedByte, leftSum}
+use Rattle.forms_batching.specs.Lines.{lineBit, leftBit, lineSum, leftOf}
+use Rattle.forms_batching.proofs.FormLaws.{product-scale, product-xor}
+use Rattle.forms_batching.proofs.FoldLaws.{folded-bit-lt}
+use Rattle.forms_batching.proofs.StackLaws.{scaled-lt}
+
+-- ---- the lines, panel by panel
+
+-- bit c of line i has got its sum
+abbrev pub Added : ℕ → ℕ → List ℕ → (ℕ → ℕ) → List ℕ → List ℕ → ℕ → ℕ → Type 0
+Added w size A x L₀ L i c = lineBit L i c ≡ bitXor (lineBit L₀ i c) (leftOf w size A x i c)
+
+-- bits that are 0 add nothing
+pub left-none : (w size : ℕ) (A : List ℕ) (x : ℕ → ℕ) (i c : ℕ) → ((ρ : ℕ) → x ρ ≡ 0) → leftOf w size A x i c ≡ 0
+unfolding leftOf
+left-none w size A x i c none =
+    sum-same ((c / 16 + 1) * 16) _ (λ ρ. 0) (λ ρ l. ap (λ v. v * foldedBit w (blockAt A size i) ρ c) (none ρ) ∙ zero-mul (foldedBit w (blockAt A size i) ρ c)) ∙ sum-none ((c / 16 + 1) * 16)
+
+module _ (n w m : ℕ) (A cells : List ℕ) (J : ℕ) (loaded : Folded n w m A J cells) (x : ℕ → ℕ) (none : (ρ : ℕ) → n ≤ ρ → x ρ ≡ 0) where
+  -- there are no rows from n on
+  term-is : (i h z ρ : ℕ) → i < m → h < 2 → z < 8 → J * 16 + (h * 8 + z) < n → ρ < (J + 1) * 16
+      → x ρ * bitOf (cellAt cells (ρ / 16 * m + i) (h * 16 + ρ % 16)) z ≡ x ρ * foldedBit w (blockAt A (n * w) i) ρ (J * 16 + (h * 8 + z))
+  term-is i h z ρ hi hh hz col l = go (decLt ρ n)
+    where
+      go : Dec (ρ < n) → x ρ * bitOf (cellAt cells (ρ / 16 * m + i) (h * 16 + ρ % 16)) z ≡ x ρ * foldedBit w (blockAt A (n * w) i) ρ (J * 16 + (h * 8 + z))
+      go (yes row) =
+          let e : ρ / 16 * 16 + ρ % 16 ≡ ρ = omega arith in
+          ap (λ y. x ρ * y)
+          (loaded (ρ / 16) i h (ρ % 16) z (omega arith) hi hh (omega arith) hz (omega arith) col ∙ ap (λ k. foldedBit w (blockAt A (n * w) i) k (J * 16 + (h * 8 + z))) e)
+      go (no past) =
+          let zero : x ρ ≡ 0 = none ρ (omega arith) in
+          rw zero (zero-mul (bitOf (cellAt cells (ρ / 16 * m + i) (h * 16 + ρ % 16)) z) ∙ sym (zero-mul (foldedBit w (blockAt A (n * w) i) ρ (J * 16 + (h * 8 + z)))))
+
+  left-is : (i h z : ℕ) → i < m → h < 2 → z < 8 → J * 16 + (h * 8 + z) < n → leftBit cells m x i J h z ≡ leftOf w (n * w) A x i (J * 16 + (h * 8 + z))
+  unfolding leftBit leftOf
+  left-is i h z hi hh hz col =
+      let inside : h * 8 + z < 16 = omega arith in
+      sum-same ((J + 1) * 16) _ _ (λ ρ l. term-is i h z ρ hi hh hz col l)
+      ∙ ap (λ k. xorSum ((k + 1) * 16) (λ ρ. x ρ * foldedBit w (blockAt A (n * w) i) ρ (J * 16 + (h * 8 + z)))) (sym (digits-div J inside))
+
+  -- one panel more
+  pub lines-more : n ≤ 160 → (L₀ L L′ : List ℕ)
+      → ((i h z : ℕ) → i < m → h < 2 → z < 8 → bitOf (cellAt L′ i (J * 2 + h)) z ≡ bitXor (bitOf (cellAt L i (J * 2 + h)) z) (leftBit cells m x i J h z))
+      → ((i k : ℕ) → k < chunk → (k / 2 ≡ J → ⊥) → cellAt L′ i k ≡ cellAt L i k)
+      → ((i c : ℕ) → i < m → c < n → c < J * 16 → Added w (n * w) A x L₀ L i c) → ((i k : ℕ) → k < chunk → J * 2 ≤ k → cellAt L i k ≡ cellAt L₀ i k)
+      → (i c : ℕ) → i < m → c < n → c < (J + 1) * 16 → Added w (n * w) A x L₀ L′ i c
+  lines-more most L₀ L L′ here there old rest i c hi hc l = go (decLt c (J * 16))
+    where
+      go : Dec (c < J * 16) → Added w (n * w) A x L₀ L′ i c
+      go (yes less) = ap (λ b. bitOf b (c % 8)) (there i (c / 8) (omega arith) (λ e. omega arith)) ∙ old i c hi hc less
+      go (no past) =
+          let byte : J * 2 + c / 8 % 2 ≡ c / 8 = omega arith in
+          let place : J * 16 + (c / 8 % 2 * 8 + c % 8) ≡ c = omega arith in
+          ap (λ k. bitOf (cellAt L′ i k) (c % 8)) (sym byte)
+          ∙ here i (c / 8 % 2) (c % 8) hi (omega arith) (omega arith)
+          ∙ ap₂ bitXor (ap (λ b. bitOf b (c % 8)) (rest i (J * 2 + c / 8 % 2) (omega arith) (omega arith)) ∙ ap (λ k. bitOf (cellAt L₀ i k) (c % 8)) byte)
+          (left-is i (c / 8 % 2) (c % 8) hi (omega arith) (omega arith) (omega arith) ∙ ap (leftOf w (n * w) A x i) place)
+
+-- ---- the lines at the vectors, batched
+
+module _ (w size : ℕ) (A : List ℕ) (x : ℕ → ℕ) (bits : (c : ℕ) → x c < 2) where
+  term-lt : (i ρ c : ℕ) → x ρ * foldedBit w (blockAt A size i) ρ c < 2
+  term-lt i ρ c = bit-times-lt (x ρ) (foldedBit w (blockAt A size i) ρ c) (bits ρ) (folded-bit-lt w (blockAt A size i) ρ c)
+
+  left-lt : (i c : ℕ) → leftOf w size A x i c < 2
+  unfolding leftOf
+  left-lt i c = bits-lt ((c / 16 + 1) * 16) _ (λ ρ. term-lt i ρ c)
+
+module _ (w size m : ℕ) (A χ : List ℕ) (e : ℕ) (small : (k : ℕ) → byteAt χ k < 256) (x : ℕ → ℕ) (bits : (c : ℕ) → x c < 2) where
+  batched-lt : (ρ c : ℕ) → batchedByte w size m A χ e ρ c < 256
+  unfolding batchedByte
+  batched-lt ρ c = sum-lt 8 m _ (lit< tt) (λ i l. scaled-lt (foldedBit w (blockAt A size i) ρ c) (byteAt χ (e * m + i)) (folded-bit-lt w (blockAt A size i) ρ c) (small (e * m + i)))
+
+  left-sum : (c : ℕ) → xorSum m (λ i. leftOf w size A x i c * byteAt χ (e * m + i)) ≡ leftSum w size m A χ e x (c / 16) c
+  unfolding leftOf batchedByte
+  left-sum c =
+      sum-same m _ (λ i. xorSum ((c / 16 + 1) * 16) (λ ρ. x ρ * foldedBit w (blockAt A size i) ρ c * byteAt χ (e * m + i)))
+      (λ i l. times-sum ((c / 16 + 1) * 16) (λ ρ. x ρ * foldedBit w (blockAt A size i) ρ c) (byteAt χ (e * m + i)) (λ ρ. term-lt w size A x bits i ρ c))
+      ∙ sum-swap m ((c / 16 + 1) * 16) (λ i ρ. x ρ * foldedBit w (blockAt A size i) ρ c * byteAt χ (e * m + i))
+      ∙ sum-same ((c / 16 + 1) * 16) _ _ (λ ρ l.
+      sum-same m _ _ (λ i k. mul-assoc (x ρ) (foldedBit w (blockAt A size i) ρ c) (byteAt χ (e * m + i)))
+      ∙ sym (bit-sum (x ρ) m (λ i. foldedBit w (blockAt A size i) ρ c * byteAt χ (e * m + i)) (bits ρ))
+      ∙ sym (product-scale (x ρ) (batchedByte w size m A χ e ρ c) (bits ρ) (batched-lt ρ c)))
+
+  line-added : (L₀ L : List ℕ) (c : ℕ) → ((i : ℕ) → i < m → Added w size A x L₀ L i c) → lineSum L m χ e c ≡ bitXor (lineSum L₀ m χ e c) (leftSum w size m A χ e x (c / 16) c)
+  unfolding lineSum
+  line-added L₀ L c are =
+      sum-same m _ (λ i. bitXor (lineBit L₀ i c * byteAt χ (e * m + i)) (leftOf w size A x i c * byteAt χ (e * m + i)))
+      (λ i l. ap (λ b. b * byteAt χ (e * m + i)) (are i l) ∙ xor-scale (lineBit L₀ i c) (leftOf w size A x i c) (byteAt χ (e * m + i)) (bitOf-lt _ (c % 8)) (left-lt w size A x bits i c))
+      ∙ sum-both m (λ i. lineBit L₀ i c * byteAt χ (e * m + i)) (λ i. leftOf w size A x i c * byteAt χ (e * m + i))
+      ∙ ap (bitXor (lineSum L₀ m χ e c)) (left-sum c)
+
+  module _ (N n : ℕ) (enough : n ≤ N * 16) (y : ℕ → ℕ) (gone : (c : ℕ) → n ≤ c → y c ≡ 0) where
+    by-panels : xorSum n (λ c. product (y c) (leftSum w size m A χ e x (c / 16) c)) ≡ xorSum N (λ J. xorSum 16 (λ s. product (y (J * 16 + s)) (leftSum w size m A χ e x J (J * 16 + s))))
+    by-panels =
+        sym (sum-short n (N * 16) (λ c. product (y c) (leftSum w size m A χ e x (c / 16) c)) enough (λ c h l. ap (λ v. product v (leftSum w size m A χ e x (c / 16) c)) (gone c h) ∙ product-zero _))
+        ∙ sym (sum-blocks N 16 (λ c. product (y c) (leftSum w size m A χ e x (c / 16) c)))
+        ∙ sum-same N _ _ (λ J l. sum-same 16 _ _ (λ s k. ap (λ j. product (y (J * 16 + s)) (leftSum w size m A χ e x j (J * 16 + s))) (digits-div J k)))
+
+    pub lines-added : (L₀ L : List ℕ) → ((i c : ℕ) → i < m → c < n → Added w size A x L₀ L i c)
+        → xorSum n (λ c. product (y c) (lineSum L m χ e c))
+        ≡ bitXor (xorSum n (λ c. product (y c) (lineSum L₀ m χ e c))) (xorSum N (λ J. xorSum 16 (λ s. product (y (J * 16 + s)) (leftSum w size m A χ e x J (J * 16 + s)))))
+    lines-added L₀ L are =
+        sum-same n _ (λ c. bitXor (product (y c) (lineSum L₀ m χ e c)) (product (y c) (leftSum w size m A χ e x (c / 16) c)))
+        (λ c l. ap (product (y c)) (line-added L₀ L c (λ i k. are i c k l)) ∙ product-xor (y c) (lineSum L₀ m χ e c) (leftSum w size m A χ e x (c / 16) c))
+        ∙ sum-both n (λ c. product (y c) (lineSum L₀ m χ e c)) (λ c. product (y c) (leftSum w size m A χ e x (c / 16) c))
+        ∙ ap (bitXor (xorSum n (λ c. product (y c) (lineSum L₀ m χ e c)))) by-panels
+
+-- the columns q, and then the lines b with what was added, p
+pub both-halves : (v b p q : ℕ) → bitXor (bitXor v q) (bitXor b p) ≡ bitXor (bitXor v (bitXor p q)) b
+both-halves v b p q = ap (bitXor (bitXor v q)) (xor-comm b p) ∙ sym (xor-assoc (bitXor v q) p b) ∙ ap (λ y. bitXor y b) (xor-assoc v q p ∙ ap (bitXor v) (xor-comm q p))

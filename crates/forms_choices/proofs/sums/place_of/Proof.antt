@@ -1,0 +1,32 @@
+-- `forms_choices::sums::place_of` meets its contract.
+-- Assumes nothing.
+use borrow.Author.Needs.{needs}
+use mathlib.Core.Path.{refl}
+use native.Mathlib.Nat.{mod-lt}
+use native.Mathlib.Omega.{arith}
+use Rattle.forms_choices.specs.Entries.{five}
+use Rattle.forms_choices.proofs.sums.place_of.Statement.{statement}
+use Rattle.forms_choices.proofs.sums.place_of.Tie as tie
+
+mul-result : tie.Need-mul-result
+mul-result c = search needs
+
+mul-result-2 : tie.Need-mul-result-2
+mul-result-2 c = search needs
+
+shr-result : tie.Need-shr-result
+shr-result c = search needs
+
+add-result : tie.Need-add-result
+add-result c = search needs
+
+mul-result-3 : tie.Need-mul-result-3
+mul-result-3 c = search needs
+
+returns : tie.Need-returns
+unfolding five
+returns c = (refl, mod-lt _ (omega arith))
+
+pub place-of-spec : {M : Type 1} → statement M
+place-of-spec =
+    tie.close (tie.spec mul-result mul-result-2 shr-result add-result mul-result-3 returns)

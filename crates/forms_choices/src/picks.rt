@@ -1,0 +1,76 @@
+// The number that bit p of each of five bytes writes, for each bit and each five: sixteen fives to a register. Bytes five apart are costly to
+// gather, so eight are taken where each five begins, and merged into rows: row z has byte z of each of sixteen fives.
+ghost use mathlib.Core.Path.{_≡_};
+ghost use Prim.Native.Nat.{ℕ, _+_, _*_, _/_, _%_, _<_, _≤_};
+ghost use lib.ListN.{length};
+ghost use Rattle.strings.specs.Sums.{byteAt};
+ghost use Rattle.forms_choices.specs.Entries.{choice, inRows};
+use chunks::cells::copy_apart;
+use chunks::turns::EIGHT_ROWS;
+use chunks::turns::SIXTEEN;
+use chunks::turns::part;
+
+// The numbers of one bit, for the most fives, and those of eight, with room for ten where the last two begin.
+pub const FIVES: usize = 32;
+
+pub const PICKS: usize = 264;
+
+// Both sixteens of fives, eight rows each.
+pub const ROWS: usize = 256;
+
+// The rows of the sixteen fives h. They are taken eight bytes apart: after each, three bytes of the next.
+pub fn fill_rows(rows: &mut [u8], h: usize, bytes: &[u8])
+    requires { ⌜ (h < 2) × (length (now rows) ≡ 256) × (163 ≤ length (now bytes)) ⌝ }
+    ensures { λ _. ⌜ ((i : ℕ) → i < 128 → byteAt (now (rows .exit)) (h * 128 + i) ≡ byteAt (now (bytes .entry)) (h * 80 + i % 16 * 5 + i / 16)) ⌝ }
+    ensures { λ _. ⌜ ((q i : ℕ) → (q ≡ h → ⊥) → i < 128 → byteAt (now (rows .exit)) (q * 128 + i) ≡ byteAt (now (rows .entry)) (q * 128 + i)) ⌝ }
+{
+    let mut apart = [0u8; EIGHT_ROWS];
+    copy_apart(&mut apart, SIXTEEN, 8, bytes, h * 80, 5);
+    let at = h * EIGHT_ROWS;
+    part(&mut rows[at..at + EIGHT_ROWS], &apart);
+}
+
+// Bit p of each of five bytes, the first lowest.
+fn choose(rows: &[u8], h: usize, g: usize, p: usize) -> u8
+    requires { ⌜ (h < 2) × (g < 16) × (length (now rows) ≡ 256) × (p < 8) ⌝ }
+    ensures { λ r. ⌜ r ≡ choice (inRows (now (rows .entry))) p (h * 16 + g) ⌝ }
+{
+    let at = h * EIGHT_ROWS + g;
+    let low = (rows[at] >> p) % 2 + (rows[at + 16] >> p) % 2 * 2;
+    let high = (rows[at + 32] >> p) % 2 * 4 + (rows[at + 48] >> p) % 2 * 8;
+    let top = (rows[at + 64] >> p) % 2 * 16;
+    low + high + top
+}
+
+fn choose_both(plane: &mut [u8], rows: &[u8], p: usize)
+    requires { ⌜ (length (now plane) ≡ 32) × (length (now rows) ≡ 256) × (p < 8) ⌝ }
+    ensures { λ _. ⌜ ((g : ℕ) → g < 32 → byteAt (now (plane .exit)) g ≡ choice (inRows (now (rows .entry))) p g) ⌝ }
+{
+    let mut g = 0;
+    while g < SIXTEEN {
+        plane[g] = choose(rows, 0, g, p);
+        plane[SIXTEEN + g] = choose(rows, 1, g, p);
+        g += 1;
+    }
+}
+
+fn choose_at(picks: &mut [u8], rows: &[u8], p: usize)
+    requires { ⌜ (length (now picks) ≡ 264) × (length (now rows) ≡ 256) × (p < 8) ⌝ }
+    ensures { λ _. ⌜ ((g : ℕ) → g < 32 → byteAt (now (picks .exit)) (p * 32 + g) ≡ choice (inRows (now (rows .entry))) p g) ⌝ }
+    ensures { λ _. ⌜ ((q g : ℕ) → (q ≡ p → ⊥) → g < 32 → byteAt (now (picks .exit)) (q * 32 + g) ≡ byteAt (now (picks .entry)) (q * 32 + g)) ⌝ }
+{
+    let at = p * FIVES;
+    choose_both(&mut picks[at..at + FIVES], rows, p);
+}
+
+// All eight bits, before any is written on, so that they stay in registers.
+pub fn choose_all(picks: &mut [u8], rows: &[u8])
+    requires { ⌜ (length (now picks) ≡ 264) × (length (now rows) ≡ 256) ⌝ }
+    ensures { λ _. ⌜ ((p g : ℕ) → p < 8 → g < 32 → byteAt (now (picks .exit)) (p * 32 + g) ≡ choice (inRows (now (rows .entry))) p g) ⌝ }
+{
+    let mut p = 0;
+    while p < 8 {
+        choose_at(picks, rows, p);
+        p += 1;
+    }
+}

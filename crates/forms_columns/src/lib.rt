@@ -1,0 +1,190 @@
+// The columns of products that stand in stacks, for all repetitions side by side, and their products with vectors. All of it is secret but the
+// places, and whether the polar form is asked for.
+ghost use mathlib.Core.Path.{_≡_};
+ghost use mathlib.Core.Bool.{true, false};
+ghost use Prim.Native.Nat.{ℕ, _+_, _*_, _/_, _%_, _<_, _≤_};
+ghost use lib.ListN.{length};
+ghost use lib.Bits.{bitXor};
+ghost use Rattle.strings.specs.Sums.{byteAt, bitOf, xorSum};
+ghost use Rattle.lanes.specs.Lanes.{lanes, laneAt};
+ghost use Rattle.chunks.specs.Chunks.{chunk};
+ghost use Rattle.forms_columns.specs.Stacks.{alpha, product, planes, foldOf};
+use chunks::CHUNK;
+use field::Gf256;
+use lanes::LANES;
+use strings::word_at;
+
+// The planes of a stack: as many as a product of two elements has coefficients before it is reduced.
+const PLANES: usize = 15;
+
+// The bytes of a stack.
+pub const STACK: usize = PLANES * CHUNK;
+
+// The bytes of a plane of all repetitions for each plane of a stack.
+const ROWS: usize = PLANES * LANES;
+
+// The sum of sixteen bytes from `at` on, in words: halves are added until one byte is left.
+pub fn sum_at(s: &[u8], at: usize) -> u8
+    requires { ⌜ at + 16 ≤ length (now s) ⌝ }
+    ensures { λ r. ⌜ r ≡ xorSum 16 (λ f. byteAt (now (s .entry)) (at + f)) ⌝ }
+{
+    let all = word_at(s, at) ^ word_at(s, at + 8);
+    let half = all ^ (all >> 32);
+    let quarter = half ^ (half >> 16);
+    ((quarter ^ (quarter >> 8)) % 256) as u8
+}
+
+// out[e] = the sum of sixteen bytes from `at` on in stack e.
+fn gather_row(out: &mut [u8], stacks: &[u8], at: usize, tau: usize)
+    requires { ⌜ (tau ≤ length (now out)) × (tau * (planes * chunk) ≤ length (now stacks)) × (at + 16 ≤ planes * chunk) ⌝ }
+    ensures { λ _. ⌜ ((e : ℕ) → e < tau → byteAt (now (out .exit)) e ≡ xorSum 16 (λ f. byteAt (now (stacks .entry)) (e * (planes * chunk) + (at + f)))) ⌝ }
+{
+    let mut e = 0;
+    while e < tau {
+        out[e] = sum_at(stacks, e * STACK + at);
+        e += 1;
+    }
+}
+
+fn gather_at(rows: &mut [u8], s: usize, stacks: &[u8], at: usize, tau: usize)
+    requires { ⌜ (s * lanes + lanes ≤ length (now rows)) × (tau ≤ lanes) × (tau * (planes * chunk) ≤ length (now stacks)) × (at + 16 ≤ planes * chunk) ⌝ }
+    ensures { λ _. ⌜ ((e : ℕ) → e < tau → laneAt (now (rows .exit)) s e ≡ xorSum 16 (λ f. byteAt (now (stacks .entry)) (e * (planes * chunk) + (at + f)))) ⌝ }
+    ensures { λ _. ⌜ ((q e : ℕ) → (q ≡ s → ⊥) → e < lanes → laneAt (now (rows .exit)) q e ≡ laneAt (now (rows .entry)) q e) ⌝ }
+{
+    let from = s * LANES;
+    gather_row(&mut rows[from..from + LANES], stacks, at, tau);
+}
+
+// The planes of all repetitions, each the sum of its sixteen bytes of half h.
+fn gather(rows: &mut [u8], stacks: &[u8], h: usize, tau: usize)
+    requires { ⌜ (length (now rows) ≡ planes * lanes) × (tau ≤ lanes) × (tau * (planes * chunk) ≤ length (now stacks)) × (h < 2) ⌝ }
+    ensures { λ _. ⌜ ((s e : ℕ) → s < planes → e < tau → laneAt (now (rows .exit)) s e ≡ xorSum 16 (λ f. byteAt (now (stacks .entry)) (e * (planes * chunk) + (s * chunk + h * 16 + f)))) ⌝ }
+{
+    let mut s = 0;
+    while s < PLANES {
+        gather_at(rows, s, stacks, s * CHUNK + h * 16, tau);
+        s += 1;
+    }
+}
+
+// u[e] ^= weight where bit z of row[e] is set: by a mask.
+fn add_weighted(u: &mut [u8], row: &[u8], z: usize, weight: u8)
+    requires { ⌜ (length (now u) ≡ lanes) × (length (now row) ≡ lanes) × (z < 8) ⌝ }
+    ensures { λ _. ⌜ ((e : ℕ) → e < lanes → byteAt (now (u .exit)) e ≡ bitXor (byteAt (now (u .entry)) e) (bitOf (byteAt (now (row .entry)) e) z * weight)) ⌝ }
+{
+    let mut e = 0;
+    while e < LANES {
+        u[e] ^= weight & ((row[e] >> z) % 2 * 255);
+        e += 1;
+    }
+}
+
+// u[e] = the value at bit z of the planes of repetition e.
+fn weigh(u: &mut [u8], rows: &[u8], z: usize)
+    requires { ⌜ (length (now u) ≡ lanes) × (length (now rows) ≡ planes * lanes) × (z < 8) ⌝ }
+    ensures { λ _. ⌜ ((e : ℕ) → e < lanes → byteAt (now (u .exit)) e ≡ xorSum planes (λ s. bitOf (laneAt (now (rows .entry)) s e) z * alpha s)) ⌝ }
+{
+    strings::clear(u);
+    let mut weight: u8 = 1;
+    let mut s = 0;
+    while s < PLANES {
+        add_weighted(u, strings::row_at(rows, LANES, s), z, weight);
+        weight = Gf256::multiply(2, weight);
+        s += 1;
+    }
+}
+
+// acc[e] ^= coordinate c of repetition e, times u[e]. Coordinates from n on are 0.
+fn add_product(acc: &mut [u8], c: usize, n: usize, table: &[u8], u: &[u8])
+    requires { ⌜ (length (now acc) ≡ lanes) × (length (now table) ≡ n * lanes) × (length (now u) ≡ lanes) ⌝ }
+    ensures { λ _. ⌜ ((e : ℕ) → e < lanes → byteAt (now (acc .exit)) e ≡ bitXor (byteAt (now (acc .entry)) e) (product (laneAt (now (table .entry)) c e) (byteAt (now (u .entry)) e))) ⌝ }
+{
+    if c < n {
+        lanes::accumulate(acc, strings::row_at(table, LANES, c), u);
+    }
+}
+
+// Adds u times bit c of xs to mid, where the polar form is asked for.
+fn add_polar(mid: &mut [u8], u: &[u8], c: usize, xs: &[u8], polar: bool)
+    requires { ⌜ (length (now mid) ≡ lanes) × (length (now u) ≡ lanes) × (c < length (now xs)) × (byteAt (now xs) c < 2) ⌝ }
+    ensures { λ _. ⌜ (polar ≡ true → (e : ℕ) → e < lanes → byteAt (now (mid .exit)) e ≡ bitXor (byteAt (now (mid .entry)) e) (byteAt (now (xs .entry)) c * byteAt (now (u .entry)) e)) ⌝ }
+    ensures { λ _. ⌜ (polar ≡ false → now (mid .exit) ≡ now (mid .entry)) ⌝ }
+{
+    if polar {
+        lanes::add_masked(mid, xs[c], u);
+    }
+}
+
+// Column c is bit z of the planes. Adds it, times coordinate c of the vectors, to quad; and, where the polar form is asked for, times bit c of xs,
+// to mid.
+fn add_column(
+    quad: &mut [u8],
+    mid: &mut [u8],
+    rows: &[u8],
+    c: usize,
+    z: usize,
+    n: usize,
+    table: &[u8],
+    xs: &[u8],
+    polar: bool,
+)
+    requires { ⌜ (length (now quad) ≡ lanes) × (length (now mid) ≡ lanes) × (length (now rows) ≡ planes * lanes) × (z < 8) × (length (now table) ≡ n * lanes) × (c < length (now xs)) × (byteAt (now xs) c < 2) ⌝ }
+    ensures { λ _. ⌜ ((e : ℕ) → e < lanes → byteAt (now (quad .exit)) e ≡ bitXor (byteAt (now (quad .entry)) e) (product (laneAt (now (table .entry)) c e) (xorSum planes (λ s. bitOf (laneAt (now (rows .entry)) s e) z * alpha s)))) ⌝ }
+    ensures { λ _. ⌜ (polar ≡ true → (e : ℕ) → e < lanes → byteAt (now (mid .exit)) e ≡ bitXor (byteAt (now (mid .entry)) e) (byteAt (now (xs .entry)) c * xorSum planes (λ s. bitOf (laneAt (now (rows .entry)) s e) z * alpha s))) ⌝ }
+    ensures { λ _. ⌜ (polar ≡ false → now (mid .exit) ≡ now (mid .entry)) ⌝ }
+{
+    let mut u = [0u8; LANES];
+    weigh(&mut u, rows, z);
+    add_product(quad, c, n, table, &u);
+    add_polar(mid, &u, c, xs, polar);
+}
+
+// The same for eight columns, from `first` on.
+fn add_columns(
+    quad: &mut [u8],
+    mid: &mut [u8],
+    rows: &[u8],
+    first: usize,
+    n: usize,
+    table: &[u8],
+    xs: &[u8],
+    polar: bool,
+)
+    requires { ⌜ (length (now quad) ≡ lanes) × (length (now mid) ≡ lanes) × (length (now rows) ≡ planes * lanes) × (length (now table) ≡ n * lanes) × (first + 8 ≤ length (now xs)) × ((c : ℕ) → byteAt (now xs) c < 2) ⌝ }
+    ensures { λ _. ⌜ ((e : ℕ) → e < lanes → byteAt (now (quad .exit)) e ≡ bitXor (byteAt (now (quad .entry)) e) (xorSum 8 (λ z. product (laneAt (now (table .entry)) (first + z) e) (xorSum planes (λ s. bitOf (laneAt (now (rows .entry)) s e) z * alpha s))))) ⌝ }
+    ensures { λ _. ⌜ (polar ≡ true → (e : ℕ) → e < lanes → byteAt (now (mid .exit)) e ≡ bitXor (byteAt (now (mid .entry)) e) (xorSum 8 (λ z. byteAt (now (xs .entry)) (first + z) * xorSum planes (λ s. bitOf (laneAt (now (rows .entry)) s e) z * alpha s)))) ⌝ }
+    ensures { λ _. ⌜ (polar ≡ false → now (mid .exit) ≡ now (mid .entry)) ⌝ }
+{
+    let mut z = 0;
+    while z < 8 {
+        add_column(quad, mid, rows, first + z, z, n, table, xs, polar);
+        z += 1;
+    }
+}
+
+// The sixteen columns of a panel of the stacks: times the vectors of the n coordinates of the table to quad; and times the bits xs to mid, where the
+// polar form is asked for.
+pub fn finish(
+    quad: &mut [u8],
+    mid: &mut [u8],
+    stacks: &[u8],
+    panel: usize,
+    tau: usize,
+    n: usize,
+    table: &[u8],
+    xs: &[u8],
+    polar: bool,
+)
+    requires { ⌜ (length (now quad) ≡ lanes) × (length (now mid) ≡ lanes) × (tau ≤ lanes) × (tau * (planes * chunk) ≤ length (now stacks)) × (length (now table) ≡ n * lanes) × (panel * 16 + 16 ≤ length (now xs)) × ((c : ℕ) → byteAt (now xs) c < 2) × (n ≤ 160) ⌝ }
+    ensures { λ _. ⌜ ((e : ℕ) → e < tau → byteAt (now (quad .exit)) e ≡ bitXor (byteAt (now (quad .entry)) e) (xorSum 16 (λ s. product (laneAt (now (table .entry)) (panel * 16 + s) e) (foldOf (now (stacks .entry)) e (s / 8) (s % 8))))) ⌝ }
+    ensures { λ _. ⌜ (polar ≡ true → (e : ℕ) → e < tau → byteAt (now (mid .exit)) e ≡ bitXor (byteAt (now (mid .entry)) e) (xorSum 16 (λ s. byteAt (now (xs .entry)) (panel * 16 + s) * foldOf (now (stacks .entry)) e (s / 8) (s % 8)))) ⌝ }
+    ensures { λ _. ⌜ (polar ≡ false → now (mid .exit) ≡ now (mid .entry)) ⌝ }
+{
+    let mut h = 0;
+    while h < 2 {
+        let mut rows = [0u8; ROWS];
+        gather(&mut rows, stacks, h, tau);
+        add_columns(quad, mid, &rows, panel * 16 + h * 8, n, table, xs, polar);
+        h += 1;
+    }
+}

@@ -1,0 +1,95 @@
+-- What is hashed lane by lane is the hash of the repetition's vector.
+-- Assumes nothing.
+use mathlib.Core.Path.{_≡_, refl, sym, ap, ap₂, _∙_}
+use mathlib.Core.Bool.{Bool, true}
+use mathlib.Core.List.{List}
+use Prim.Native.Nat.{ℕ, zero, suc, _+_, _*_, _-_, _≤_, _<_}
+use native.Mathlib.Nat.{mul-comm, zero-mul, add-zero, add-suc}
+use native.Mathlib.Omega.{arith}
+use lib.ListN.{length}
+use lib.Bits.{bitXor, xor-zero-r}
+use Rattle.algebra.specs.Ring.{Ring}
+use Rattle.algebra.specs.Field.{Field}
+use Rattle.algebra.specs.Coded.{Coded}
+use Rattle.algebra.specs.Sum.{sum}
+use Rattle.protocol.specs.Lists.{allBelow, blockAt}
+use Rattle.protocol.specs.Strings.{bytesFor, bit, spareZero}
+use Rattle.protocol.specs.Alphabet.{Alphabet, sym as symbol}
+use Rattle.protocol.specs.Binary.{bits256}
+use Rattle.protocol.specs.Shape.{Shape, kOf, lOf}
+use Rattle.protocol.specs.Key.{rowsSpare}
+use Rattle.protocol.specs.Forms.{hash}
+use Rattle.protocol.specs.Questions.{hExact, hSpare}
+use Rattle.protocol.proofs.TestLaws.{eqb-eq, all-at}
+use Rattle.protocol.proofs.ListLaws.{row-end, length-block}
+use Rattle.protocol.proofs.StringLaws.{bit-lt, spare-at}
+use Rattle.protocol.proofs.HashLaws.{hash-split}
+use Rattle.strings.specs.Sums.{byteAt, xorSum, selected}
+use Rattle.strings.proofs.SumLaws.{sum-same}
+use Rattle.strings.proofs.Meaning.{byte-sum}
+use Rattle.lanes.specs.Lanes.{lanes}
+use Rattle.strings.proofs.Meaning.{byte-times}
+use Rattle.tables.proofs.SumsMeaning.{byteOf}
+use Rattle.equations.proofs.BlockLaws.{bytes-enough}
+use Rattle.questions.specs.Facts.{HashForm}
+use Rattle.hash.specs.Hashed.{hashLane}
+use Rattle.format.proofs.FitLaws.{k-below}
+
+abbrev F : Type 0
+F = bits256 .K .base .R .F
+
+-- the terms past k are 0
+sum-cut : (k m : ℕ) (f : ℕ → ℕ) → ((i : ℕ) → i < m → f (k + i) ≡ 0) → xorSum (k + m) f ≡ xorSum k f
+unfolding xorSum
+sum-cut k zero f h = rw add-zero
+sum-cut k (suc m) f h = rw add-suc (ap₂ bitXor (sum-cut k m f (λ i l. h i (omega arith))) (h m (omega arith)) ∙ xor-zero-r (xorSum k f))
+
+-- a bit times an element, as a byte
+bit-times : (q : ℕ) (a : F) → q < 2 → byteOf (bits256 .K .base .R .mul (bits256 .K .elem q) a) ≡ q * byteOf a
+bit-times q a h =
+    ap byteOf (bits256 .K .base .R .mul-comm (bits256 .K .elem q) a ∙ ap (λ z. bits256 .K .base .R .mul z (bits256 .K .elem q)) (sym (bits256 .K .elem-byte a)))
+    ∙ byte-times (bits256 .K) (byteOf a) q (bits256 .K .byte-lt a) h ∙ mul-comm (byteOf a) q
+
+-- a sum over bits of elements, on bytes
+pub bits-sum : (n : ℕ) (row : List ℕ) (f : ℕ → F) → byteOf (sum (bits256 .K .base .R) n (λ c. bits256 .K .base .R .mul (symbol bits256 row c) (f c))) ≡ xorSum n (λ c. bit row c * byteOf (f c))
+unfolding symbol
+bits-sum n row f = byte-sum (bits256 .K) n _ ∙ sum-same n _ _ (λ c l. bit-times (bit row c) (f c) (bit-lt row c))
+
+module _ (s : Shape) (H′ table : List ℕ) (f : ℕ → F) (ρ e : ℕ) (exact : hExact bits256 s H′ ≡ true) (spare : hSpare bits256 s H′ ≡ true) (l : ρ < s .t)
+    (is : (c : ℕ) → c < lOf bits256 s → byteAt table (c * lanes + e) ≡ byteOf (f c)) where
+  abbrev k : ℕ
+  k = kOf bits256 s
+
+  abbrev row : List ℕ
+  row = blockAt H′ (bytesFor k) ρ
+
+  row-length : length (blockAt H′ (bytesFor (kOf bits256 s)) ρ) ≡ bytesFor (kOf bits256 s)
+  unfolding hExact
+  row-length = length-block H′ (bytesFor k) ρ (omega (arith, eqb-eq (length H′) (s .t * bytesFor k) exact, row-end ρ (s .t) (bytesFor k) l))
+
+  row-spare : (c : ℕ) → k ≤ c → c < bytesFor (kOf bits256 s) * 8 → bit row c ≡ 0
+  unfolding hSpare rowsSpare
+  row-spare c low high =
+      spare-at k row (all-at (s .t) (λ i. spareZero (blockAt H′ (bytesFor k) i) k) spare ρ l) c low (rw row-length high)
+
+  identity-in : kOf bits256 s + ρ < lOf bits256 s
+  unfolding lOf
+  identity-in = omega (arith, l)
+
+  selected-is : selected (bytesFor k * 8) row table lanes e ≡ byteOf (sum (bits256 .K .base .R) k (λ c. bits256 .K .base .R .mul (symbol bits256 row c) (f c)))
+  selected-is =
+      let n : bytesFor k * 8 ≡ k + (bytesFor k * 8 - k) = omega (arith, bytes-enough k) in
+      ap (λ m. selected m row table lanes e) n
+      ∙ sum-cut k (bytesFor k * 8 - k) (λ c. bit row c * byteAt table (c * lanes + e))
+      (λ i h. ap (λ (b : ℕ). b * byteAt table ((k + i) * lanes + e)) (row-spare (k + i) (omega arith) (omega (arith, bytes-enough k))) ∙ zero-mul (byteAt table ((k + i) * lanes + e)))
+      ∙ sum-same k _ _ (λ c h. ap (λ (y : ℕ). bit row c * y) (is c (k-below s c h)))
+      ∙ sym (bits-sum k row f)
+
+  pub hash-lane-is : hashLane H′ (bytesFor (kOf bits256 s)) (kOf bits256 s) table ρ e ≡ byteOf (hash bits256 s H′ ρ f)
+  hash-lane-is =
+      ap₂ bitXor selected-is (is (k + ρ) identity-in) ∙ sym (bits256 .K .byte-add _ (f (k + ρ))) ∙ ap byteOf (sym (hash-split bits256 s H′ ρ f l))
+
+-- H′ of the right form has its rows
+pub hash-length : (s : Shape) (H′ : List ℕ) → HashForm s H′ → length H′ ≡ s .t * bytesFor (kOf bits256 s)
+unfolding hExact
+hash-length s H′ f = eqb-eq (length H′) (s .t * bytesFor (kOf bits256 s)) (f .hash-exact)

@@ -1,0 +1,4 @@
+pub mod EntryLaws
+pub mod SelectLaws
+pub mod CellLaws
+pub mod HashMeaning

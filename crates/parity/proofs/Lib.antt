@@ -1,2 +1,0 @@
-pub mod ParityLaws
-pub mod WordLaws

@@ -1,0 +1,5 @@
+pub mod SumSections
+pub mod HashLaws
+pub mod HashSections
+pub mod LoadedLaws
+pub mod BatchSections

@@ -1,0 +1,4 @@
+pub mod proving;
+pub mod steps;
+pub mod vole;
+pub mod writing;

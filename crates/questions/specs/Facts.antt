@@ -1,0 +1,64 @@
+-- What each call knows once its questions on form got a yes.
+--   KeyFacts s key == of the key;  WitnessForm s x == of the witness
+--   LeavesForm s leaves == of full leaves;  HashForm s H′ == of H′
+--   TestFacts, CommitFacts, HashFacts, BatchFacts, ProveFacts == of all inputs of a call, and of its output's length
+-- Assumes nothing.
+use mathlib.Core.Path.{_≡_}
+use mathlib.Core.Bool.{true}
+use mathlib.Core.List.{List}
+use Prim.Native.Nat.{ℕ, _+_, _*_, _-_, _≤_}
+use lib.ListN.{length}
+use Rattle.protocol.specs.Strings.{bytesFor, spareZero}
+use Rattle.protocol.specs.Binary.{bits256}
+use Rattle.protocol.specs.Shape.{Shape, limits, perTree, wOf}
+use Rattle.protocol.specs.Key.{keyExact, keySpare}
+use Rattle.protocol.specs.Questions.{leavesExact, leavesSpare, hExact, hSpare}
+
+pub record KeyFacts (s : Shape) (key : List ℕ) : Type 0 where
+  pub header : 8 ≤ length key
+  pub in-range : limits s ≡ true
+  pub key-exact : keyExact bits256 s key ≡ true
+  pub key-spare : keySpare bits256 s key ≡ true
+
+pub record WitnessForm (s : Shape) (x : List ℕ) : Type 0 where
+  pub witness-length : length x ≡ bytesFor (s .n)
+  pub witness-spare : spareZero x (s .n) ≡ true
+
+pub record LeavesForm (s : Shape) (leaves : List ℕ) : Type 0 where
+  pub leaves-exact : leavesExact bits256 s (perTree bits256) leaves ≡ true
+  pub leaves-spare : leavesSpare bits256 s (perTree bits256) leaves ≡ true
+
+pub record HashForm (s : Shape) (H′ : List ℕ) : Type 0 where
+  pub hash-exact : hExact bits256 s H′ ≡ true
+  pub hash-spare : hSpare bits256 s H′ ≡ true
+
+pub record TestFacts (s : Shape) (key x : List ℕ) : Type 0 where
+  pub of-key : KeyFacts s key
+  pub of-witness : WitnessForm s x
+
+pub record CommitFacts (s : Shape) (key leaves x out : List ℕ) : Type 0 where
+  pub of-key : KeyFacts s key
+  pub of-leaves : LeavesForm s leaves
+  pub of-witness : WitnessForm s x
+  pub of-out : length out ≡ 8 + (s .τ - 1) * wOf bits256 s + bytesFor (s .n)
+
+pub record HashFacts (s : Shape) (key leaves H′ out : List ℕ) : Type 0 where
+  pub of-key : KeyFacts s key
+  pub of-hash : HashForm s H′
+  pub of-leaves : LeavesForm s leaves
+  pub of-out : length out ≡ 8 + bytesFor (s .t) + s .τ * s .t
+
+pub record BatchFacts (s : Shape) (key leaves x χ out : List ℕ) : Type 0 where
+  pub of-key : KeyFacts s key
+  pub of-batching : length χ ≡ s .τ * s .m
+  pub of-leaves : LeavesForm s leaves
+  pub of-witness : WitnessForm s x
+  pub of-out : length out ≡ 8 + s .τ + s .τ
+
+pub record ProveFacts (s : Shape) (key leaves x H′ χ out : List ℕ) : Type 0 where
+  pub of-key : KeyFacts s key
+  pub of-hash : HashForm s H′
+  pub of-batching : length χ ≡ s .τ * s .m
+  pub of-leaves : LeavesForm s leaves
+  pub of-witness : WitnessForm s x
+  pub of-out : length out ≡ 24 + (s .τ - 1) * wOf bits256 s + bytesFor (s .n) + bytesFor (s .t) + s .τ * s .t + s .τ + s .τ

@@ -1,0 +1,54 @@
+// Question 11: does the witness solve the system? Every equation is looked at; that the answer, place included, is told is 01's rule.
+ghost use mathlib.Core.Path.{_≡_};
+ghost use Prim.Native.Nat.{_≤_};
+ghost use lib.ListN.{length};
+ghost use Rattle.protocol.specs.Shape.{shapeOf};
+ghost use Rattle.format.specs.Verdict.{answerOf};
+ghost use Rattle.questions.specs.Facts.{KeyFacts, WitnessForm};
+ghost use Rattle.questions.specs.Solved.{ErrorsAs, SolvedAs};
+use equations::Found;
+use format::Reason;
+use format::Verdict;
+
+// Room for the largest key.
+const MOST_EQUATIONS: usize = 160;
+
+// The answer that the errors of the equations give: accepted, or refused 11 with the first that fails.
+fn answer(errors: &[u8]) -> Verdict
+    requires { ⌜ length (now errors) ≤ 65536 ⌝ }
+    ensures { λ r. ⌜ ErrorsAs (now (errors .entry)) (answerOf r) ⌝ }
+{
+    let found = equations::first_failing(errors);
+    match found {
+        Found::At(i) => format::refuse(Reason::EquationFails, i as u16),
+        Found::Nothing => Verdict::Accepted,
+    }
+}
+
+fn test_equations(errors: &mut [u8], key: &[u8], witness: &[u8]) -> Verdict
+    requires { ⌜ KeyFacts (shapeOf (now key)) (now key) × WitnessForm (shapeOf (now key)) (now witness) × (length (now errors) ≡ shapeOf (now key) .m) ⌝ }
+    ensures { λ r. ⌜ SolvedAs (now (key .entry)) (now (witness .entry)) (answerOf r) ⌝ }
+{
+    let s = format::sizes::sizes_of(key);
+    let n = s.n;
+    equations::equation_errors(
+        errors,
+        super::key::section_a(key),
+        super::key::section_b(key),
+        super::key::section_y(key),
+        witness,
+        n,
+    );
+    answer(errors)
+}
+
+// Accepted, or refused 11 with an equation that fails.
+pub fn solved(key: &[u8], witness: &[u8]) -> Verdict
+    requires { ⌜ KeyFacts (shapeOf (now key)) (now key) × WitnessForm (shapeOf (now key)) (now witness) ⌝ }
+    ensures { λ r. ⌜ SolvedAs (now (key .entry)) (now (witness .entry)) (answerOf r) ⌝ }
+{
+    let s = format::sizes::sizes_of(key);
+    let m = s.m;
+    let mut errors = [0u8; MOST_EQUATIONS];
+    test_equations(&mut errors[..m], key, witness)
+}

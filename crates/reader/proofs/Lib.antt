@@ -1,2 +1,0 @@
-pub mod ReaderLaws
-pub mod SixLaws

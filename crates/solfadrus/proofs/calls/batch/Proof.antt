@@ -1,0 +1,87 @@
+-- `solfadrus::calls::batch` meets its contract: a refusal on form, then question 11's, is its reply; and else the step's bytes are written.
+-- Assumes nothing.
+use mathlib.Core.Path.{refl, sym, ap, _∙_, subst}
+use mathlib.Core.List.{[], _∷_}
+use denote.Ref.{now}
+use Rattle.protocol.specs.Frames.{frame}
+use Rattle.protocol.specs.Binary.{bits256}
+use Rattle.protocol.specs.Shape.{Shape}
+use Rattle.protocol.specs.Prover.{qs0Section, qs1Section, batchBytes}
+use Rattle.format.specs.Verdict.{answerOf}
+use Rattle.questions.specs.Facts.{BatchFacts}
+use Rattle.solfadrus.proofs.FactLaws.{batch-facts}
+use Rattle.solfadrus.proofs.ReplyLaws.{refused-not, batch-form-reply, batch-solved-reply}
+use borrow.Author.Needs.{needs}
+use Rattle.solfadrus.proofs.calls.batch.Statement.{statement}
+use Rattle.solfadrus.proofs.calls.batch.Tie as tie
+
+batch-form-requires : tie.Need-batch-form-requires
+batch-form-requires c κs = search needs
+
+enum-told : tie.Need-enum-told
+enum-told c = search needs
+
+enum-told-2 : tie.Need-enum-told-2
+enum-told-2 c = search needs
+
+returns : tie.Need-returns
+returns c =
+    let a = c .before .before .before .before .before .before .before .before .args in
+    (batch-form-reply (now (a .key)) (now (a .leaves)) (now (a .witness)) (now (a .batching)) (now (a .out)) _ (c .before .before .batch-form .ensures (now (a .out)) refl) (rw (c .enum-told2 .given .1) (refused-not _ _)), rw (c .enum-told2 .given .1))
+
+solved-requires : tie.Need-solved-requires
+solved-requires c κs =
+    let a = c .before .before .before .before .before .before .before .before .args in
+    let f = batch-facts (now (a .key)) (now (a .leaves)) (now (a .witness)) (now (a .batching)) (now (a .out)) (sym (c .before .before .batch-form .ensures (now (a .out)) refl) ∙ ap answerOf (c .enum-told .given .1)) in
+    (f .of-key, f .of-witness)
+
+enum-told-3 : tie.Need-enum-told-3
+enum-told-3 c = search needs
+
+enum-told-4 : tie.Need-enum-told-4
+enum-told-4 c = search needs
+
+returns-2 : tie.Need-returns-2
+returns-2 c =
+    let a = c .before .before .before .before .before .before .before .before .before .before .before .args in
+    (batch-solved-reply (now (a .key)) (now (a .leaves)) (now (a .witness)) (now (a .batching)) (now (a .out)) (sym (c .before .before .before .before .before .batch-form .ensures (now (a .out)) refl) ∙ ap answerOf (c .before .before .before .enum-told .given .1)) _ (c .before .before .solved .ensures), rw (c .enum-told4 .given .1))
+
+sizes-of-requires : tie.Need-sizes-of-requires
+sizes-of-requires c κs =
+    let a = c .before .before .before .before .before .before .before .before .before .before .before .before .args in
+    batch-facts (now (a .key)) (now (a .leaves)) (now (a .witness)) (now (a .batching)) (now (a .out)) (sym (c .before .before .before .before .before .before .batch-form .ensures (now (a .out)) refl) ∙ ap answerOf (c .before .before .before .before .enum-told .given .1)) .of-key .header
+
+write-batch-requires : tie.Need-write-batch-requires
+write-batch-requires c κs =
+    let a = c .before .before .before .before .before .before .before .before .before .before .before .before .before .args in
+    let g = batch-facts (now (a .key)) (now (a .leaves)) (now (a .witness)) (now (a .batching)) (now (a .out)) (sym (c .before .before .before .before .before .before .before .batch-form .ensures (now (a .out)) refl) ∙ ap answerOf (c .before .before .before .before .before .enum-told .given .1)) in
+    let f = subst (λ (z : Shape). BatchFacts z (now (a .key)) (now (a .leaves)) (now (a .witness)) (now (a .batching)) (now (a .out))) (sym (c .sizes-of .ensures)) g in
+    (g .of-key, c .sizes-of .ensures, f .of-witness, f .of-batching, f .of-key .in-range, f .of-leaves, f .of-out)
+
+same-length : tie.Need-same-length
+same-length c = search needs
+
+returns-3 : tie.Need-returns-3
+unfolding batchBytes
+returns-3 c =
+    let a = c .before .before .before .before .before .before .before .before .before .before .before .before .before .before .before .before .args in (
+      batch-solved-reply (now (a .key)) (now (a .leaves)) (now (a .witness)) (now (a .batching)) (now (a .out)) (sym (c .before .before .before .before .before .before .before .before .before .before .batch-form .ensures (now (a .out)) refl) ∙ ap answerOf (c .before .before .before .before .before .before .before .before .enum-told .given .1)) _ (c .before .before .before .before .before .before .before .solved .ensures),
+      rw (c .before .before .before .before .before .enum-told3 .given .1) (c .before .before .write-batch .ensures ∙ ap (λ (z : Shape). frame (qs0Section bits256 z (now (a .leaves)) (now (a .key)) (now (a .batching)) ∷ qs1Section bits256 z (now (a .leaves)) (now (a .key)) (now (a .witness)) (now (a .batching)) ∷ [])) (c .before .before .before .sizes-of .ensures)),
+    )
+
+pub batch-spec : {M : Type 1} → statement M
+batch-spec =
+    tie.close
+    (tie.spec
+    batch-form-requires
+    enum-told
+    enum-told-2
+    returns
+    solved-requires
+    enum-told-3
+    enum-told-4
+    returns-2
+    sizes-of-requires
+    write-batch-requires
+    same-length
+    returns-3)

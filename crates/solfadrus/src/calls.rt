@@ -1,0 +1,110 @@
+// The calls: the questions in 01's order, and then the bytes. Question 11, the last, is answered before a section is computed.
+ghost use mathlib.Core.Path.{_≡_};
+ghost use Rattle.protocol.specs.Binary.{bits256};
+ghost use Rattle.protocol.specs.Prover.{commitBytes, hashBytes, batchBytes, proofOf};
+ghost use Rattle.protocol.specs.Answers.{written};
+ghost use Rattle.protocol.specs.Calls.{hashAnswer, TestReply, CommitReply, BatchReply, ProveReply};
+ghost use Rattle.format.specs.Verdict.{answerOf};
+use format::Verdict;
+use prover::proving::write_proof;
+use prover::writing::write_batch;
+use prover::writing::write_commit;
+use prover::writing::write_hash;
+use questions::witness::solved;
+
+// The second step (01): hash with H′. It takes no witness, and writes the sections ũ and Ṽ.
+pub fn hash(key: &[u8], leaves: &[u8], matrix: &[u8], out: &mut [u8]) -> Verdict
+    ensures { λ r. ⌜ answerOf r ≡ hashAnswer bits256 (now (key .entry)) (now (leaves .entry)) (now (matrix .entry)) (now (out .entry)) ⌝ }
+    ensures { λ r. ⌜ now (out .exit) ≡ written (answerOf r) (now (out .entry)) (hashBytes bits256 (now (key .entry)) (now (leaves .entry)) (now (matrix .entry))) ⌝ }
+{
+    let form = questions::calls::hash_form(key, leaves, matrix, out.len());
+    let Verdict::Accepted = form else {
+        return form;
+    };
+    write_hash(out, leaves, matrix, format::sizes::sizes_of(key));
+    form
+}
+
+// The test of a key and a witness (01): questions 1 to 4, 9, 11.
+pub fn test(key: &[u8], witness: &[u8]) -> Verdict
+    ensures { λ r. ⌜ TestReply bits256 (now (key .entry)) (now (witness .entry)) (answerOf r) ⌝ }
+{
+    let form = questions::calls::test_form(key, witness);
+    let Verdict::Accepted = form else {
+        return form;
+    };
+    solved(key, witness)
+}
+
+// The first step (01): commit. It takes the witness, and writes the sections C and d.
+pub fn commit(key: &[u8], leaves: &[u8], witness: &[u8], out: &mut [u8]) -> Verdict
+    ensures { λ r. ⌜ CommitReply bits256 (now (key .entry)) (now (leaves .entry)) (now (witness .entry)) (now (out .entry)) (answerOf r) ⌝ }
+    ensures { λ r. ⌜ now (out .exit) ≡ written (answerOf r) (now (out .entry)) (commitBytes bits256 (now (key .entry)) (now (leaves .entry)) (now (witness .entry))) ⌝ }
+{
+    let form = questions::calls::commit_form(key, leaves, witness, out.len());
+    let Verdict::Accepted = form else {
+        return form;
+    };
+    let answer = solved(key, witness);
+    let Verdict::Accepted = answer else {
+        return answer;
+    };
+    write_commit(out, leaves, witness, format::sizes::sizes_of(key));
+    answer
+}
+
+// The third step (01): batch. It takes the witness, and writes the sections QS0 and QS1.
+pub fn batch(key: &[u8], leaves: &[u8], witness: &[u8], batching: &[u8], out: &mut [u8]) -> Verdict
+    ensures { λ r. ⌜ BatchReply bits256 (now (key .entry)) (now (leaves .entry)) (now (witness .entry)) (now (batching .entry)) (now (out .entry)) (answerOf r) ⌝ }
+    ensures { λ r. ⌜ now (out .exit) ≡ written (answerOf r) (now (out .entry)) (batchBytes bits256 (now (key .entry)) (now (leaves .entry)) (now (witness .entry)) (now (batching .entry))) ⌝ }
+{
+    let form = questions::calls::batch_form(key, leaves, witness, batching, out.len());
+    let Verdict::Accepted = form else {
+        return form;
+    };
+    let answer = solved(key, witness);
+    let Verdict::Accepted = answer else {
+        return answer;
+    };
+    write_batch(
+        out,
+        key,
+        leaves,
+        witness,
+        batching,
+        format::sizes::sizes_of(key),
+    );
+    answer
+}
+
+// The three steps in one call (01).
+pub fn prove(
+    key: &[u8],
+    leaves: &[u8],
+    witness: &[u8],
+    matrix: &[u8],
+    batching: &[u8],
+    out: &mut [u8],
+) -> Verdict
+    ensures { λ r. ⌜ ProveReply bits256 (now (key .entry)) (now (leaves .entry)) (now (witness .entry)) (now (matrix .entry)) (now (batching .entry)) (now (out .entry)) (answerOf r) ⌝ }
+    ensures { λ r. ⌜ now (out .exit) ≡ written (answerOf r) (now (out .entry)) (proofOf bits256 (now (key .entry)) (now (leaves .entry)) (now (witness .entry)) (now (matrix .entry)) (now (batching .entry))) ⌝ }
+{
+    let form = questions::calls::prove_form(key, leaves, witness, matrix, batching, out.len());
+    let Verdict::Accepted = form else {
+        return form;
+    };
+    let answer = solved(key, witness);
+    let Verdict::Accepted = answer else {
+        return answer;
+    };
+    write_proof(
+        out,
+        key,
+        leaves,
+        witness,
+        matrix,
+        batching,
+        format::sizes::sizes_of(key),
+    );
+    answer
+}

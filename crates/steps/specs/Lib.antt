@@ -1,4 +1,0 @@
-pub mod Hashed
-pub mod Loaded
-pub mod Facts
-pub mod Solved

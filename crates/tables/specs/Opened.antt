@@ -1,0 +1,31 @@
+-- The verifier's W_e on bytes, and the table that holds W of every repetition, coordinate by coordinate.
+--   correctionBit C w e c == coordinate c of C_e: 0 at e = 0, since C_0 is all zero and not sent; the first row of the section C is C_1
+--   wByte opened C w e δ c == coordinate c of W_e = Σ over j≠δ of (j+δ)·ℓ(e,j), plus δ·C_e, as a byte, at δ = Δ_e
+--   correctionByte C w e b == byte b of C_e
+--   OpenedTableIs table opened Δ C τ w == a table has the lanes W_e, for each repetition e below τ
+-- Assumes nothing.
+use mathlib.Core.Path.{_≡_}
+use mathlib.Core.Bool.{cond}
+use mathlib.Core.List.{List}
+use Prim.Native.Nat.{ℕ, zero, suc, _+_, _*_, _<_}
+use lib.Bits.{bitXor}
+use lib.Dec.{eqb}
+use Rattle.protocol.specs.Lists.{blockAt}
+use Rattle.protocol.specs.Strings.{bit}
+use Rattle.protocol.specs.Leaves.{openedLeaf}
+use Rattle.strings.specs.Sums.{byteAt, xorSum}
+use Rattle.tables.specs.Sums.{lanes}
+
+abbrev pub correctionBit : List ℕ → ℕ → ℕ → ℕ → ℕ
+correctionBit C w zero c = 0
+correctionBit C w (suc e) c = bit (blockAt C w e) c
+
+abbrev pub wByte : List ℕ → List ℕ → ℕ → ℕ → ℕ → ℕ → ℕ
+wByte opened C w e δ c = bitXor (xorSum 256 (λ j. cond (eqb j δ) 0 (bitXor j δ * bit (openedLeaf w δ (blockAt opened (255 * w) e) j) c))) (δ * correctionBit C w e c)
+
+abbrev pub correctionByte : List ℕ → ℕ → ℕ → ℕ → ℕ
+correctionByte C w zero b = 0
+correctionByte C w (suc e) b = byteAt C (e * w + b)
+
+abbrev pub OpenedTableIs : List ℕ → List ℕ → List ℕ → List ℕ → ℕ → ℕ → Type 0
+OpenedTableIs table opened Δ C τ w = (e c : ℕ) → e < τ → c < 8 * w → byteAt table (c * lanes + e) ≡ wByte opened C w e (byteAt Δ e) c

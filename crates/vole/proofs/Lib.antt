@@ -1,2 +1,0 @@
-pub mod SectionLaws
-pub mod HashLaws
