@@ -1,23 +1,63 @@
 -- What the forms of inputs say of their lengths, and what loading a call's leaves gives.
 -- Assumes nothing.
-use mathlib.Core.Path.{_≡_, refl, sym, ap, _∙_}
+use mathlib.Core.Path.{_≡_, refl, sym, ap, _∙_, subst}
 use mathlib.Core.Bool.{true}
-use mathlib.Core.List.{List}
-use Prim.Native.Nat.{ℕ, _*_}
-use lib.ListN.{length}
+use mathlib.Core.List.{List, _++_}
+use Prim.Native.Nat.{ℕ, _+_, _*_, _-_, _≤_, _<_}
+use native.Mathlib.Omega.{arith}
+use lib.ListN.{length, take, replicate, length-replicate, List·getD-append}
+use lib.Seq.{getD-take}
+use Rattle.protocol.specs.Strings.{bytesFor}
+use Rattle.protocol.specs.Frames.{framedLength}
 use Rattle.protocol.specs.Binary.{bits256}
-use Rattle.protocol.specs.Shape.{Shape, perTree, wOf}
+use Rattle.protocol.specs.Shape.{Shape, limits, perTree, wOf}
+use Rattle.protocol.specs.Key.{keyExact}
+use Rattle.protocol.specs.Sections.{commitLengths, hashLengths}
 use Rattle.protocol.proofs.CountingLaws.{leaves-length}
+use Rattle.protocol.proofs.ListLaws.{row-end}
+use Rattle.format.proofs.FitLaws.{room}
 use Rattle.lanes.specs.Lanes.{lanes}
 use Rattle.tables.specs.Sums.{SumsAre, TableIs}
 use Rattle.tables.proofs.SumsMeaning.{per-tree}
-use Rattle.questions.specs.Facts.{LeavesForm}
-use Rattle.prover.specs.Loaded.{Loaded}
+use Rattle.questions.specs.Asking.{KeyForm}
+use Rattle.questions.specs.Facts.{KeyFacts, LeavesForm}
+use Rattle.prover.specs.Loaded.{Buffers}
 
 pub leaves-long : (s : Shape) (leaves : List ℕ) → LeavesForm s leaves → length leaves ≡ s .τ * 256 * wOf bits256 s
 leaves-long s leaves f = leaves-length bits256 s leaves (f .leaves-exact) ∙ ap (λ (n : ℕ). s .τ * n * wOf bits256 s) per-tree
 
--- over a width that is w
-pub loaded : (s : Shape) (leaves table sums : List ℕ) (w : ℕ) → w ≡ wOf bits256 s → length sums ≡ s .τ * wOf bits256 s → SumsAre sums leaves (s .τ) w
-    → length table ≡ 8 * wOf bits256 s * lanes → TableIs table leaves (s .τ) w → Loaded s leaves table sums
-loaded s leaves table sums w e a b c d = record { sums-length = a; sums-are = rw e at b; table-length = c; table-is = rw e at d }
+-- what the first part of a buffer holds, the buffer holds
+pub sums-more : (p q leaves : List ℕ) (τ w : ℕ) → length p ≡ τ * w → SumsAre p leaves τ w → SumsAre (p ++ q) leaves τ w
+sums-more p q leaves τ w long are e b l h = List·getD-append p q 0 (e * w + b) (omega (arith, long, row-end e τ w l)) ∙ are e b l h
+
+pub table-more : (p q leaves : List ℕ) (τ w : ℕ) → τ ≤ lanes → length p ≡ 8 * w * lanes → TableIs p leaves τ w → TableIs (p ++ q) leaves τ w
+table-more p q leaves τ w few long is e c l h = List·getD-append p q 0 (c * lanes + e) (omega (arith, long, row-end c (8 * w) lanes h)) ∙ is e c l h
+
+-- and so does its first part, as far as the table goes
+pub table-less : (tab leaves : List ℕ) (τ w : ℕ) → τ ≤ lanes → TableIs tab leaves τ w → TableIs (take (8 * w * lanes) tab) leaves τ w
+table-less tab leaves τ w few is e c l h = getD-take (8 * w * lanes) tab (c * lanes + e) 0 (omega (arith, row-end c (8 * w) lanes h)) ∙ is e c l h
+
+-- a key whose questions got a yes, by its own sizes
+pub key-form : (s : Shape) (key : List ℕ) → KeyFacts s key → KeyForm key
+key-form s key f = record {
+  header = f .header;
+  sizes = subst (λ (z : Shape). limits z ≡ true) (f .sizes) (f .in-range);
+  exact = subst (λ (z : Shape). keyExact bits256 z key ≡ true) (f .sizes) (f .key-exact);
+}
+
+-- the buffers of a call, made for the largest key, have room for this one
+pub buffers-of : (s : Shape) → limits s ≡ true → Buffers s (replicate 15744 0) (replicate 1968 0)
+buffers-of s h = record {
+  table-room = rw (length-replicate {A = ℕ} 15744 0) (room s h .table-room);
+  sums-room = rw (length-replicate {A = ℕ} 1968 0) (room s h .sums-room);
+}
+
+-- the lengths of what the steps write
+module _ (s : Shape) where
+  pub commit-length : framedLength (commitLengths bits256 s) ≡ 8 + (s .τ - 1) * wOf bits256 s + bytesFor (s .n)
+  unfolding framedLength commitLengths
+  commit-length = omega arith
+
+  pub hash-length : framedLength (hashLengths bits256 s) ≡ 8 + bytesFor (s .t) + s .τ * s .t
+  unfolding framedLength hashLengths
+  hash-length = omega arith

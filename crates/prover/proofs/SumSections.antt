@@ -4,11 +4,12 @@ use mathlib.Core.Path.{_≡_, refl, sym, ap, ap₂, _∙_}
 use mathlib.Core.Bool.{true}
 use mathlib.Core.List.{List}
 use Prim.Native.Nat.{ℕ, zero, suc, _+_, _*_, _-_, _/_, _%_, _≤_, _<_}
-use native.Mathlib.Nat.{zero-mul, mod-eq-of-lt}
+use native.Mathlib.Nat.{zero-mul, mul-zero, mod-eq-of-lt, div-add-mod', div-lt-iff-lt-mul, mod-lt}
 use native.Mathlib.Numerals.{add-one}
+use native.Mathlib.Decide.{decLe}
 use native.Mathlib.Omega.{arith}
 use lib.Bits.{bitXor, xor-lt}
-use lib.ListN.{length}
+use lib.ListN.{length, List·getD-eq-default}
 use Rattle.algebra.specs.Sum.{sum}
 use Rattle.protocol.specs.Lists.{blockAt}
 use Rattle.protocol.specs.Strings.{bytesFor, bit, spareZero, pack}
@@ -40,6 +41,22 @@ Element = bits256 .K .base .R .F
 -- the symbol of a sum of two bits
 sum-symbol : (a b : Element) → byteOf a < 2 → byteOf b < 2 → bits256 .symbolOf (bits256 .K .base .R .add a b) ≡ bitXor (byteOf a) (byteOf b)
 sum-symbol a b h k = ap (λ x. x % 2) (bits256 .K .byte-add a b) ∙ mod-eq-of-lt (xor-lt 1 (byteOf a) (byteOf b) h k)
+
+-- what its rows hold, a string of rows holds
+rows-lt : (l : List ℕ) (n w m : ℕ) → 0 < m → length l ≡ n * w → ((e b : ℕ) → e < n → b < w → byteAt l (e * w + b) < m) → (i : ℕ) → byteAt l i < m
+rows-lt l n w m pos long rows i = go (decLe (length l) i) w refl
+  where
+    past : length l ≤ i → byteAt l i < m
+    past h = rw (List·getD-eq-default l 0 h) pos
+
+    go : Dec (length l ≤ i) → (v : ℕ) → v ≡ w → byteAt l i < m
+    go (yes h) v z = past h
+    go (no h) zero z = absurd (h (omega (arith, long, mul-zero n, ap (λ x. n * x) z)))
+    go (no f) (suc v) z =
+        let h : i < length l = omega (arith, f) in
+        let k : 0 < w = omega arith in
+        let q : i / w < n = div-lt-iff-lt-mul k .1 (rw (← long) h) in
+        rw (div-add-mod' i w) at (rows (i / w) (i % w) q (mod-lt i k))
 
 width-is : (s : Shape) → wOf bits256 s ≡ bytesFor (lOf bits256 s)
 unfolding wOf
@@ -73,10 +90,13 @@ module _ (s : Shape) (leaves : List ℕ) where
         row-bit i k = sym (bit-is (blockAt sums w i) c ∙ ap (λ x. bitOf x (c % 8)) (row-byte sums w i (c / 8) k))
 
     pub corrections-are : leavesExact bits256 s (perTree bits256) leaves ≡ true → leavesSpare bits256 s (perTree bits256) leaves ≡ true
-        → length out ≡ (s .τ - 1) * w → ((i : ℕ) → byteAt out i < 256) → out ≡ cSection bits256 s leaves
+        → length out ≡ (s .τ - 1) * w → ((i : ℕ) → byteAt sums i < 256) → out ≡ cSection bits256 s leaves
     unfolding cSection correction
-    corrections-are exact zeros long bytes = rows-are w (s .τ - 1) out _ long row
+    corrections-are exact zeros long sums-bytes = rows-are w (s .τ - 1) out _ long row
       where
+        bytes : (i : ℕ) → byteAt out i < 256
+        bytes = rows-lt out (s .τ - 1) w 256 (omega arith) long (λ e b l h. rw (written e b l h) (xor-lt 8 (byteAt sums ((e + 1) * w + b)) (byteAt sums b) (sums-bytes ((e + 1) * w + b)) (sums-bytes b)))
+
         row : (e : ℕ) → e < s .τ - 1 → blockAt out w e ≡ pack (lOf bits256 s) (λ c. bits256 .symbolOf (correction bits256 s leaves (suc e) c))
         row e l =
             packed (lOf bits256 s) (blockAt out w e) _ (size ∙ width-is s) (row-lt out w e 256 (omega arith) bytes)

@@ -1,2 +1,4 @@
 pub mod Hash
 pub mod Loaded
+pub mod Framed
+pub mod Steps

@@ -1,4 +1,122 @@
-pub mod proving;
+// The prover: its trees are loaded, and each step then writes its framed sections into its own part of the output.
+pub mod framed;
 pub mod steps;
 pub mod vole;
-pub mod writing;
+
+ghost use mathlib.Core.Path.{_≡_};
+ghost use Rattle.format.specs.Sizes.{shapeFor};
+ghost use Rattle.prover.specs.Loaded.{LoadReady, Loaded};
+ghost use Rattle.questions.specs.Facts.{CommitFacts, HashFacts, BatchFacts, ProveFacts};
+ghost use Rattle.prover.specs.Steps.{commitFrame, hashFrame, batchFrame, proofFrame, RestReady, RestWritten};
+use format::Sizes;
+use format::sizes::MOST_LEAF;
+use format::sizes::leaf_bytes;
+use lanes::LANES;
+use sections::outputs::commit_bytes;
+use sections::outputs::hash_bytes;
+use steps::batch_into;
+use steps::commit_into;
+use steps::hash_into;
+
+// Room for the largest key: the table of the v_e, and the u_e.
+const TABLE: usize = 8 * MOST_LEAF * LANES;
+
+const SUMS: usize = LANES * MOST_LEAF;
+
+// The sums of all trees: u_e and v_e of every repetition.
+fn load(table: &mut [u8], sums: &mut [u8], leaves: &[u8], s: Sizes)
+    requires { ⌜ LoadReady (shapeFor s) (now leaves) (now table) (now sums) ⌝ }
+    ensures { λ _. ⌜ Loaded (shapeFor s) (now (leaves .entry)) (now (table .exit)) (now (sums .exit)) ⌝ }
+{
+    let w = leaf_bytes(s);
+    let tau = s.tau;
+    tables::load_trees(
+        &mut table[..8 * w * LANES],
+        &mut sums[..tau * w],
+        leaves,
+        tau,
+        w,
+    );
+}
+
+// The first step (01): the sections C and d.
+pub fn commit(out: &mut [u8], leaves: &[u8], witness: &[u8], s: Sizes)
+    requires { ⌜ CommitFacts (shapeFor s) (now leaves) (now witness) (now out) ⌝ }
+    ensures { λ _. ⌜ now (out .exit) ≡ commitFrame (shapeFor s) (now (leaves .entry)) (now (witness .entry)) ⌝ }
+{
+    let mut table = [0u8; TABLE];
+    let mut sums = [0u8; SUMS];
+    load(&mut table, &mut sums, leaves, s);
+    commit_into(out, witness, &sums, s);
+}
+
+// The second step (01): the sections ũ and Ṽ.
+pub fn hash(out: &mut [u8], leaves: &[u8], matrix: &[u8], s: Sizes)
+    requires { ⌜ HashFacts (shapeFor s) (now leaves) (now matrix) (now out) ⌝ }
+    ensures { λ _. ⌜ now (out .exit) ≡ hashFrame (shapeFor s) (now (leaves .entry)) (now (matrix .entry)) ⌝ }
+{
+    let mut table = [0u8; TABLE];
+    let mut sums = [0u8; SUMS];
+    load(&mut table, &mut sums, leaves, s);
+    hash_into(out, matrix, &table, &sums, s);
+}
+
+// The third step (01): the sections QS0 and QS1.
+pub fn batch(out: &mut [u8], key: &[u8], leaves: &[u8], witness: &[u8], batching: &[u8], s: Sizes)
+    requires { ⌜ BatchFacts (shapeFor s) (now key) (now leaves) (now witness) (now batching) (now out) ⌝ }
+    ensures { λ _. ⌜ now (out .exit) ≡ batchFrame (shapeFor s) (now (leaves .entry)) (now (key .entry)) (now (witness .entry)) (now (batching .entry)) ⌝ }
+{
+    let mut table = [0u8; TABLE];
+    let mut sums = [0u8; SUMS];
+    load(&mut table, &mut sums, leaves, s);
+    batch_into(out, key, witness, batching, &table, &sums, s);
+}
+
+// The second and the third step, one after the other.
+fn rest_into(
+    out: &mut [u8],
+    key: &[u8],
+    witness: &[u8],
+    matrix: &[u8],
+    batching: &[u8],
+    table: &[u8],
+    sums: &[u8],
+    s: Sizes,
+)
+    requires { ⌜ RestReady (shapeFor s) (now key) (now witness) (now matrix) (now batching) (now table) (now sums) (now out) ⌝ }
+    ensures { λ _. ⌜ RestWritten (shapeFor s) (now (key .entry)) (now (witness .entry)) (now (matrix .entry)) (now (batching .entry)) (now (table .entry)) (now (sums .entry)) (now (out .exit)) ⌝ }
+{
+    let split = hash_bytes(s);
+    hash_into(&mut out[..split], matrix, table, sums, s);
+    batch_into(&mut out[split..], key, witness, batching, table, sums, s);
+}
+
+// The three steps in one call (01): a whole proof.
+pub fn prove(
+    out: &mut [u8],
+    key: &[u8],
+    leaves: &[u8],
+    witness: &[u8],
+    matrix: &[u8],
+    batching: &[u8],
+    s: Sizes,
+)
+    requires { ⌜ ProveFacts (shapeFor s) (now key) (now leaves) (now witness) (now matrix) (now batching) (now out) ⌝ }
+    ensures { λ _. ⌜ now (out .exit) ≡ proofFrame (shapeFor s) (now (leaves .entry)) (now (key .entry)) (now (witness .entry)) (now (matrix .entry)) (now (batching .entry)) ⌝ }
+{
+    let mut table = [0u8; TABLE];
+    let mut sums = [0u8; SUMS];
+    load(&mut table, &mut sums, leaves, s);
+    let split = commit_bytes(s);
+    commit_into(&mut out[..split], witness, &sums, s);
+    rest_into(
+        &mut out[split..],
+        key,
+        witness,
+        matrix,
+        batching,
+        &table,
+        &sums,
+        s,
+    );
+}

@@ -1,83 +1,52 @@
-// What the three steps of a proof are made of: from the sums and the table of a call's leaves, the sections.
-
-ghost use mathlib.Core.Path.{_≡_};
-ghost use mathlib.Core.Bool.{true};
-ghost use Prim.Native.Nat.{_*_, _-_};
-ghost use lib.ListN.{length, take};
-ghost use Rattle.protocol.specs.Strings.{bytesFor};
-ghost use Rattle.protocol.specs.Binary.{bits256};
-ghost use Rattle.protocol.specs.Shape.{shapeOf, limits, wOf};
-ghost use Rattle.protocol.specs.Prover.{cSection, dSection, ũSection, ṼSection, qs0Section, qs1Section};
-ghost use Rattle.lanes.specs.Lanes.{lanes};
+// The three steps of a proof, each from the sums and the table of the call's trees into its own part of the output.
 ghost use Rattle.format.specs.Sizes.{shapeFor};
-ghost use Rattle.questions.specs.Facts.{LeavesForm, HashForm};
-ghost use Rattle.prover.specs.Loaded.{Loaded};
-ghost use Rattle.questions.specs.Facts.{KeyFacts, WitnessForm};
+ghost use Rattle.prover.specs.Steps.{CommitReady, CommitWritten, HashReady, HashWritten, BatchReady, BatchWritten, FormsReady, FormsWritten};
+use super::framed::write_c;
+use super::framed::write_d;
+use super::framed::write_u;
+use super::framed::write_v;
 use format::Sizes;
-use hash::vectors::hash_all;
+use format::sizes::bytes_for;
+use format::sizes::leaf_bytes;
+use lanes::LANES;
+use sections::COUNT;
+use sections::frames::put_two;
 
-// C and d. The leaves are named by the contract only.
-pub fn fill_commit(
-    c: &mut [u8],
-    d: &mut [u8],
-    witness: &[u8],
-    leaves: &[u8],
-    table: &[u8],
-    sums: &[u8],
-    s: Sizes,
-)
-    requires { ⌜ (limits (shapeFor s) ≡ true) × LeavesForm (shapeFor s) (now leaves) × Loaded (shapeFor s) (now leaves) (now table) (now sums) ⌝ }
-    requires { ⌜ (length (now c) ≡ (s .tau - 1) * wOf bits256 (shapeFor s)) × (length (now d) ≡ bytesFor (s .n)) × (length (now witness) ≡ bytesFor (s .n)) ⌝ }
-    ensures { λ _. ⌜ now (c .exit) ≡ cSection bits256 (shapeFor s) (now (leaves .entry)) ⌝ }
-    ensures { λ _. ⌜ now (d .exit) ≡ dSection bits256 (shapeFor s) (now (leaves .entry)) (now (witness .entry)) ⌝ }
+// C and d.
+pub fn commit_into(out: &mut [u8], witness: &[u8], sums: &[u8], s: Sizes)
+    requires { ⌜ CommitReady (shapeFor s) (now witness) (now sums) (now out) ⌝ }
+    ensures { λ _. ⌜ CommitWritten (shapeFor s) (now (witness .entry)) (now (sums .entry)) (now (out .exit)) ⌝ }
 {
-    let w = format::sizes::leaf_bytes(s);
-    let tau = s.tau;
-    let n = s.n;
-    super::vole::write_corrections(c, sums, tau, w);
-    super::vole::write_difference(d, witness, strings::row_at(sums, w, 0), n);
+    let split = COUNT + (s.tau - 1) * leaf_bytes(s);
+    write_c(&mut out[..split], sums, s);
+    write_d(&mut out[split..], witness, sums, s);
 }
 
 // ũ and Ṽ.
-pub fn fill_hash(
-    ut: &mut [u8],
-    vt: &mut [u8],
-    matrix: &[u8],
-    leaves: &[u8],
-    table: &[u8],
-    sums: &[u8],
-    s: Sizes,
-)
-    requires { ⌜ (limits (shapeFor s) ≡ true) × HashForm (shapeFor s) (now matrix) × Loaded (shapeFor s) (now leaves) (now table) (now sums) ⌝ }
-    requires { ⌜ (length (now ut) ≡ bytesFor (s .t)) × (length (now vt) ≡ s .tau * s .t) ⌝ }
-    ensures { λ _. ⌜ now (ut .exit) ≡ ũSection bits256 (shapeFor s) (now (leaves .entry)) (now (matrix .entry)) ⌝ }
-    ensures { λ _. ⌜ now (vt .exit) ≡ ṼSection bits256 (shapeFor s) (now (leaves .entry)) (now (matrix .entry)) ⌝ }
+pub fn hash_into(out: &mut [u8], matrix: &[u8], table: &[u8], sums: &[u8], s: Sizes)
+    requires { ⌜ HashReady (shapeFor s) (now matrix) (now table) (now sums) (now out) ⌝ }
+    ensures { λ _. ⌜ HashWritten (shapeFor s) (now (matrix .entry)) (now (table .entry)) (now (sums .entry)) (now (out .exit)) ⌝ }
 {
-    let w = format::sizes::leaf_bytes(s);
-    let k = format::sizes::hashed_bits(s);
-    let t = s.t;
-    super::vole::write_hash_bits(ut, matrix, strings::row_at(sums, w, 0), k, t);
-    hash_all(vt, matrix, table, s);
+    let split = COUNT + bytes_for(s.t);
+    write_u(&mut out[..split], matrix, sums, s);
+    write_v(&mut out[split..], matrix, table, s);
 }
 
-// QS0 and QS1, in the first lanes of two rows.
-pub fn fill_batch(
+// QS0 and QS1 in the first lanes of two rows.
+fn fill_forms(
     qs0: &mut [u8],
     qs1: &mut [u8],
     key: &[u8],
     witness: &[u8],
     batching: &[u8],
-    leaves: &[u8],
     table: &[u8],
     sums: &[u8],
     s: Sizes,
 )
-    requires { ⌜ KeyFacts (shapeOf (now key)) (now key) × (shapeFor s ≡ shapeOf (now key)) × WitnessForm (shapeFor s) (now witness) × (length (now batching) ≡ s .tau * s .m) × Loaded (shapeFor s) (now leaves) (now table) (now sums) ⌝ }
-    requires { ⌜ (length (now qs0) ≡ lanes) × (length (now qs1) ≡ lanes) ⌝ }
-    ensures { λ _. ⌜ take (s .tau) (now (qs0 .exit)) ≡ qs0Section bits256 (shapeFor s) (now (leaves .entry)) (now (key .entry)) (now (batching .entry)) ⌝ }
-    ensures { λ _. ⌜ take (s .tau) (now (qs1 .exit)) ≡ qs1Section bits256 (shapeFor s) (now (leaves .entry)) (now (key .entry)) (now (witness .entry)) (now (batching .entry)) ⌝ }
+    requires { ⌜ FormsReady (shapeFor s) (now key) (now witness) (now batching) (now table) (now sums) (now qs0) (now qs1) ⌝ }
+    ensures { λ _. ⌜ FormsWritten (shapeFor s) (now (key .entry)) (now (witness .entry)) (now (batching .entry)) (now (table .entry)) (now (sums .entry)) (now (qs0 .exit)) (now (qs1 .exit)) ⌝ }
 {
-    let w = format::sizes::leaf_bytes(s);
+    let w = leaf_bytes(s);
     let n = s.n;
     let m = s.m;
     let tau = s.tau;
@@ -94,4 +63,24 @@ pub fn fill_batch(
         tau,
         table,
     );
+}
+
+// QS0 and QS1.
+pub fn batch_into(
+    out: &mut [u8],
+    key: &[u8],
+    witness: &[u8],
+    batching: &[u8],
+    table: &[u8],
+    sums: &[u8],
+    s: Sizes,
+)
+    requires { ⌜ BatchReady (shapeFor s) (now key) (now witness) (now batching) (now table) (now sums) (now out) ⌝ }
+    ensures { λ _. ⌜ BatchWritten (shapeFor s) (now (key .entry)) (now (witness .entry)) (now (batching .entry)) (now (table .entry)) (now (sums .entry)) (now (out .exit)) ⌝ }
+{
+    let mut qs0 = [0u8; LANES];
+    let mut qs1 = [0u8; LANES];
+    fill_forms(&mut qs0, &mut qs1, key, witness, batching, table, sums, s);
+    let tau = s.tau;
+    put_two(out, &qs0[..tau], &qs1[..tau]);
 }

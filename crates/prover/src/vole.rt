@@ -22,7 +22,7 @@ fn write_correction(out: &mut [u8], sums: &[u8], e: usize, w: usize)
 
 // 01's section C: C_e = u_e + u for e = 1 to tau - 1, from the rows u_e. C_0 is all zero and not sent.
 pub fn write_corrections(out: &mut [u8], sums: &[u8], tau: usize, w: usize)
-    requires { ⌜ (length (now sums) ≡ tau * w) × (length (now out) ≡ (tau - 1) * w) × (tau ≤ lanes) ⌝ }
+    requires { ⌜ (tau * w ≤ length (now sums)) × (length (now out) ≡ (tau - 1) * w) × (tau ≤ lanes) ⌝ }
     ensures { λ _. ⌜ CorrectionsAre (now (out .exit)) (now (sums .entry)) (tau - 1) w ⌝ }
 {
     let mut e = 0;

@@ -1,7 +1,7 @@
 -- What each call knows once its questions on form got a yes.
 --   KeyFacts s key == of the key;  WitnessForm s x == of the witness
 --   LeavesForm s leaves == of full leaves;  HashForm s H′ == of H′
---   TestFacts, CommitFacts, HashFacts, BatchFacts, ProveFacts == of all inputs of a call, and of its output's length
+--   TestFacts, CommitFacts, HashFacts, BatchFacts, ProveFacts == of all inputs that a call goes on with, and of its output's length
 -- Assumes nothing.
 use mathlib.Core.Path.{_≡_}
 use mathlib.Core.Bool.{true}
@@ -10,12 +10,13 @@ use Prim.Native.Nat.{ℕ, _+_, _*_, _-_, _≤_}
 use lib.ListN.{length}
 use Rattle.protocol.specs.Strings.{bytesFor, spareZero}
 use Rattle.protocol.specs.Binary.{bits256}
-use Rattle.protocol.specs.Shape.{Shape, limits, perTree, wOf}
+use Rattle.protocol.specs.Shape.{Shape, shapeOf, limits, perTree, wOf}
 use Rattle.protocol.specs.Key.{keyExact, keySpare}
 use Rattle.protocol.specs.Questions.{leavesExact, leavesSpare, hExact, hSpare}
 
 pub record KeyFacts (s : Shape) (key : List ℕ) : Type 0 where
   pub header : 8 ≤ length key
+  pub sizes : s ≡ shapeOf key
   pub in-range : limits s ≡ true
   pub key-exact : keyExact bits256 s key ≡ true
   pub key-spare : keySpare bits256 s key ≡ true
@@ -36,14 +37,14 @@ pub record TestFacts (s : Shape) (key x : List ℕ) : Type 0 where
   pub of-key : KeyFacts s key
   pub of-witness : WitnessForm s x
 
-pub record CommitFacts (s : Shape) (key leaves x out : List ℕ) : Type 0 where
-  pub of-key : KeyFacts s key
+pub record CommitFacts (s : Shape) (leaves x out : List ℕ) : Type 0 where
+  pub in-range : limits s ≡ true
   pub of-leaves : LeavesForm s leaves
   pub of-witness : WitnessForm s x
   pub of-out : length out ≡ 8 + (s .τ - 1) * wOf bits256 s + bytesFor (s .n)
 
-pub record HashFacts (s : Shape) (key leaves H′ out : List ℕ) : Type 0 where
-  pub of-key : KeyFacts s key
+pub record HashFacts (s : Shape) (leaves H′ out : List ℕ) : Type 0 where
+  pub in-range : limits s ≡ true
   pub of-hash : HashForm s H′
   pub of-leaves : LeavesForm s leaves
   pub of-out : length out ≡ 8 + bytesFor (s .t) + s .τ * s .t

@@ -26,7 +26,7 @@ pub enum Span {
 }
 
 // The bytes of a count.
-const COUNT: usize = 4;
+pub const COUNT: usize = 4;
 
 // The section whose count stands at index at, by that count, whatever it is; missing where it is not there whole.
 // Lengths are compared by differences, so that no sum wraps.

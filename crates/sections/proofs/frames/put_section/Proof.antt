@@ -7,7 +7,7 @@ use native.Mathlib.Omega.{arith}
 use denote.Ref.{now}
 use lib.ListN.{length, drop, length-take}
 use Rattle.protocol.specs.Frames.{count4, frame}
-use Rattle.sections.proofs.Writes.{seam}
+use Rattle.sections.proofs.Writes.{framed-one}
 use borrow.Author.Needs.{needs}
 use Rattle.sections.proofs.frames.put_section.Statement.{statement}
 use Rattle.sections.proofs.frames.put_section.Tie as tie
@@ -37,13 +37,11 @@ same-length : tie.Need-same-length
 same-length c = search needs
 
 returns : tie.Need-returns
-unfolding frame
 returns c =
     let a = c .before .before .before .before .before .before .before .before .before .before .args in
     let count = c .before .before .before .before .before .before .put-count in
-    let four : length (count .last .0) ≡ 4 = count .kept .0 ∙ simp length-take (omega arith) in
-    seam 4 (count .last .0) (drop 4 (now (a .out))) (c .before .before .copy-into .last .0) four
-    ∙ ap₂ (λ (x y : List ℕ). x ++ y) (count .ensures) (c .before .before .copy-into .ensures ∙ sym (append-nil (now (a .section))))
+    let copied = c .before .before .copy-into in
+    framed-one (length (now (a .section))) (count .last .0) (now (a .out)) (copied .last .0) (now (a .section)) (count .kept .0 ∙ simp length-take (omega arith)) (count .ensures) (copied .ensures) (ap length (copied .ensures))
 
 pub put-section-spec : {M : Type 1} → statement M
 put-section-spec =

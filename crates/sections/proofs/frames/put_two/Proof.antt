@@ -8,7 +8,7 @@ use denote.Ref.{now}
 use lib.ListN.{length, drop, length-take}
 use Rattle.protocol.specs.Frames.{frame}
 use Rattle.protocol.proofs.FrameLaws.{frame-append}
-use Rattle.sections.proofs.Writes.{seam}
+use Rattle.sections.proofs.Writes.{framed-two}
 use borrow.Author.Needs.{needs}
 use Rattle.sections.proofs.frames.put_two.Statement.{statement}
 use Rattle.sections.proofs.frames.put_two.Tie as tie
@@ -44,10 +44,8 @@ returns : tie.Need-returns
 returns c =
     let a = c .before .before .before .before .before .before .before .before .before .before .before .args in
     let first = c .before .before .before .before .before .before .put-section in
-    let long : length (first .last .0) ≡ 4 + length (now (a .first)) = first .kept .0 ∙ simp length-take (omega arith) in
-    seam (4 + length (now (a .first))) (first .last .0) (drop (4 + length (now (a .first))) (now (a .out))) (c .before .before .put-section2 .last .0) long
-    ∙ ap₂ (λ (x y : List ℕ). x ++ y) (first .ensures) (c .before .before .put-section2 .ensures)
-    ∙ frame-append (now (a .first) ∷ []) (now (a .second) ∷ [])
+    framed-two (4 + length (now (a .first))) (first .last .0) (drop (4 + length (now (a .first))) (now (a .out))) (c .before .before .put-section2 .last .0) (now (a .first) ∷ []) (now (a .second) ∷ [])
+    (first .kept .0 ∙ simp length-take (omega arith)) (first .ensures) (c .before .before .put-section2 .ensures)
 
 pub put-two-spec : {M : Type 1} → statement M
 put-two-spec =

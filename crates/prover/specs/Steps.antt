@@ -1,0 +1,89 @@
+-- The three steps: what each is given, and what it wrote for any leaves that were loaded.
+--   commitFrame s leaves x, hashFrame, batchFrame == the bytes of a step, for a key of the sizes s
+--   restFrame, proofFrame == those of the steps after the first, and of a whole proof
+--   CommitReady, HashReady, BatchReady == the output has the step's exact length, and what is lent beside it has its form
+--   CommitWritten, HashWritten, BatchWritten == the output is the step's bytes
+--   RestReady, RestWritten == of the steps after the first, in a whole proof
+--   FormsReady, FormsWritten == of two rows of lanes: their first τ bytes are the sections QS0 and QS1
+-- Assumes nothing.
+use mathlib.Core.Path.{_≡_}
+use mathlib.Core.Bool.{true}
+use mathlib.Core.List.{List, [], _∷_}
+use Prim.Native.Nat.{ℕ, _+_, _*_, _-_, _≤_}
+use lib.ListN.{length, take}
+use Rattle.protocol.specs.Strings.{bytesFor}
+use Rattle.protocol.specs.Frames.{frame}
+use Rattle.protocol.specs.Binary.{bits256}
+use Rattle.protocol.specs.Shape.{Shape, limits, wOf}
+use Rattle.protocol.specs.Sections.{bytesOf}
+use Rattle.protocol.specs.Prover.{cSection, dSection, ũSection, ṼSection, qs0Section, qs1Section, sectionsOf}
+use Rattle.lanes.specs.Lanes.{lanes}
+use Rattle.questions.specs.Facts.{KeyFacts, WitnessForm, HashForm}
+use Rattle.prover.specs.Loaded.{Buffers, Loaded}
+
+module _ (s : Shape) where
+  abbrev pub commitFrame : (leaves x : List ℕ) → List ℕ
+  commitFrame leaves x = frame (cSection bits256 s leaves ∷ dSection bits256 s leaves x ∷ [])
+
+  abbrev pub hashFrame : (leaves H′ : List ℕ) → List ℕ
+  hashFrame leaves H′ = frame (ũSection bits256 s leaves H′ ∷ ṼSection bits256 s leaves H′ ∷ [])
+
+  abbrev pub batchFrame : (leaves key x χ : List ℕ) → List ℕ
+  batchFrame leaves key x χ = frame (qs0Section bits256 s leaves key χ ∷ qs1Section bits256 s leaves key x χ ∷ [])
+
+  abbrev pub restFrame : (leaves key x H′ χ : List ℕ) → List ℕ
+  restFrame leaves key x H′ χ = frame (ũSection bits256 s leaves H′ ∷ ṼSection bits256 s leaves H′ ∷ qs0Section bits256 s leaves key χ ∷ qs1Section bits256 s leaves key x χ ∷ [])
+
+  abbrev pub proofFrame : (leaves key x H′ χ : List ℕ) → List ℕ
+  proofFrame leaves key x H′ χ = bytesOf (sectionsOf bits256 s leaves key x H′ χ)
+
+  pub record CommitReady (x sums out : List ℕ) : Type 0 where
+    pub in-range : limits s ≡ true
+    pub witness-length : length x ≡ bytesFor (s .n)
+    pub sums-room : s .τ * wOf bits256 s ≤ length sums
+    pub out-length : length out ≡ 8 + (s .τ - 1) * wOf bits256 s + bytesFor (s .n)
+
+  abbrev pub CommitWritten : (x sums out : List ℕ) → Type 0
+  CommitWritten x sums out = (leaves table : List ℕ) → Loaded s leaves table sums → out ≡ commitFrame leaves x
+
+  pub record HashReady (H′ table sums out : List ℕ) : Type 0 where
+    pub in-range : limits s ≡ true
+    pub hash-form : HashForm s H′
+    pub buffers : Buffers s table sums
+    pub out-length : length out ≡ 8 + bytesFor (s .t) + s .τ * s .t
+
+  abbrev pub HashWritten : (H′ table sums out : List ℕ) → Type 0
+  HashWritten H′ table sums out = (leaves : List ℕ) → Loaded s leaves table sums → out ≡ hashFrame leaves H′
+
+  pub record BatchReady (key x χ table sums out : List ℕ) : Type 0 where
+    pub key-facts : KeyFacts s key
+    pub witness-form : WitnessForm s x
+    pub batching-length : length χ ≡ s .τ * s .m
+    pub buffers : Buffers s table sums
+    pub out-length : length out ≡ 8 + s .τ + s .τ
+
+  abbrev pub BatchWritten : (key x χ table sums out : List ℕ) → Type 0
+  BatchWritten key x χ table sums out = (leaves : List ℕ) → Loaded s leaves table sums → out ≡ batchFrame leaves key x χ
+
+  pub record FormsReady (key x χ table sums qs0 qs1 : List ℕ) : Type 0 where
+    pub key-facts : KeyFacts s key
+    pub witness-form : WitnessForm s x
+    pub batching-length : length χ ≡ s .τ * s .m
+    pub buffers : Buffers s table sums
+    pub qs0-lanes : length qs0 ≡ lanes
+    pub qs1-lanes : length qs1 ≡ lanes
+
+  abbrev pub FormsWritten : (key x χ table sums qs0 qs1 : List ℕ) → Type 0
+  FormsWritten key x χ table sums qs0 qs1 =
+      (leaves : List ℕ) → Loaded s leaves table sums → (take (s .τ) qs0 ≡ qs0Section bits256 s leaves key χ) × (take (s .τ) qs1 ≡ qs1Section bits256 s leaves key x χ)
+
+  pub record RestReady (key x H′ χ table sums out : List ℕ) : Type 0 where
+    pub key-facts : KeyFacts s key
+    pub hash-form : HashForm s H′
+    pub witness-form : WitnessForm s x
+    pub batching-length : length χ ≡ s .τ * s .m
+    pub buffers : Buffers s table sums
+    pub out-length : length out ≡ 16 + bytesFor (s .t) + s .τ * s .t + s .τ + s .τ
+
+  abbrev pub RestWritten : (key x H′ χ table sums out : List ℕ) → Type 0
+  RestWritten key x H′ χ table sums out = (leaves : List ℕ) → Loaded s leaves table sums → out ≡ restFrame leaves key x H′ χ
