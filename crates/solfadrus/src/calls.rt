@@ -6,10 +6,6 @@ ghost use Rattle.protocol.specs.Answers.{written};
 ghost use Rattle.protocol.specs.Calls.{hashAnswer, TestReply, CommitReply, BatchReply, ProveReply};
 ghost use Rattle.format.specs.Verdict.{answerOf};
 use format::Verdict;
-use prover::proving::write_proof;
-use prover::writing::write_batch;
-use prover::writing::write_commit;
-use prover::writing::write_hash;
 use questions::witness::solved;
 
 // The second step (01): hash with H′. It takes no witness, and writes the sections ũ and Ṽ.
@@ -21,7 +17,7 @@ pub fn hash(key: &[u8], leaves: &[u8], matrix: &[u8], out: &mut [u8]) -> Verdict
     let Verdict::Accepted = form else {
         return form;
     };
-    write_hash(out, leaves, matrix, format::sizes::sizes_of(key));
+    prover::hash(out, leaves, matrix, format::sizes::sizes_of(key));
     form
 }
 
@@ -49,7 +45,7 @@ pub fn commit(key: &[u8], leaves: &[u8], witness: &[u8], out: &mut [u8]) -> Verd
     let Verdict::Accepted = answer else {
         return answer;
     };
-    write_commit(out, leaves, witness, format::sizes::sizes_of(key));
+    prover::commit(out, leaves, witness, format::sizes::sizes_of(key));
     answer
 }
 
@@ -66,7 +62,7 @@ pub fn batch(key: &[u8], leaves: &[u8], witness: &[u8], batching: &[u8], out: &m
     let Verdict::Accepted = answer else {
         return answer;
     };
-    write_batch(
+    prover::batch(
         out,
         key,
         leaves,
@@ -97,7 +93,7 @@ pub fn prove(
     let Verdict::Accepted = answer else {
         return answer;
     };
-    write_proof(
+    prover::prove(
         out,
         key,
         leaves,

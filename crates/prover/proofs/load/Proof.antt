@@ -56,14 +56,13 @@ slice-aggregate-load-trees-2 c =
     sym (take-length (c .before .before .before .before .before .before .args .s .tau * c .before .before .leaf-bytes .result) (now (c .before .before .before .before .before .before .args .sums)) (rw (c .before .before .leaf-bytes .ensures) (c .before .before .before .before .before .before .pre .2 .sums-room)))
 
 load-trees-requires : tie.Need-load-trees-requires
-load-trees-requires c κs =
-    (
-      take-length (8 * c .before .before .leaf-bytes .result * 48) (now (c .before .before .before .before .before .before .args .table)) (rw (c .before .before .leaf-bytes .ensures) (c .before .before .before .before .before .before .pre .2 .table-room)),
-      take-length (c .before .before .before .before .before .before .args .s .tau * c .before .before .leaf-bytes .result) (now (c .before .before .before .before .before .before .args .sums)) (rw (c .before .before .leaf-bytes .ensures) (c .before .before .before .before .before .before .pre .2 .sums-room)),
-      rw (c .before .before .leaf-bytes .ensures) (leaves-long (shapeFor (c .before .before .before .before .before .before .args .s)) _ (c .before .before .before .before .before .before .pre .1)),
-      in-limits (shapeFor (c .before .before .before .before .before .before .args .s)) (c .before .before .before .before .before .before .pre .0) .τ-most,
-      rw (c .before .before .leaf-bytes .ensures) (omega (arith, w-most (shapeFor (c .before .before .before .before .before .before .args .s)) (c .before .before .before .before .before .before .pre .0))),
-    )
+load-trees-requires c κs = (
+  take-length (8 * c .before .before .leaf-bytes .result * 48) (now (c .before .before .before .before .before .before .args .table)) (rw (c .before .before .leaf-bytes .ensures) (c .before .before .before .before .before .before .pre .2 .table-room)),
+  take-length (c .before .before .before .before .before .before .args .s .tau * c .before .before .leaf-bytes .result) (now (c .before .before .before .before .before .before .args .sums)) (rw (c .before .before .leaf-bytes .ensures) (c .before .before .before .before .before .before .pre .2 .sums-room)),
+  rw (c .before .before .leaf-bytes .ensures) (leaves-long (shapeFor (c .before .before .before .before .before .before .args .s)) _ (c .before .before .before .before .before .before .pre .1)),
+  in-limits (shapeFor (c .before .before .before .before .before .before .args .s)) (c .before .before .before .before .before .before .pre .0) .τ-most,
+  rw (c .before .before .leaf-bytes .ensures) (omega (arith, w-most (shapeFor (c .before .before .before .before .before .before .args .s)) (c .before .before .before .before .before .before .pre .0))),
+)
 
 same-length : tie.Need-same-length
 same-length c = search needs

@@ -51,12 +51,12 @@ sizes-of-requires c κs =
     let a = c .before .before .before .before .before .before .before .before .before .before .before .before .args in
     batch-facts (now (a .key)) (now (a .leaves)) (now (a .witness)) (now (a .batching)) (now (a .out)) (sym (c .before .before .before .before .before .before .batch-form .ensures (now (a .out)) refl) ∙ ap answerOf (c .before .before .before .before .enum-told .given .1)) .of-key .header
 
-write-batch-requires : tie.Need-write-batch-requires
-write-batch-requires c κs =
+batch-requires : tie.Need-batch-requires
+batch-requires c κs =
     let a = c .before .before .before .before .before .before .before .before .before .before .before .before .before .args in
     let g = batch-facts (now (a .key)) (now (a .leaves)) (now (a .witness)) (now (a .batching)) (now (a .out)) (sym (c .before .before .before .before .before .before .before .batch-form .ensures (now (a .out)) refl) ∙ ap answerOf (c .before .before .before .before .before .enum-told .given .1)) in
     let f = subst (λ (z : Shape). BatchFacts z (now (a .key)) (now (a .leaves)) (now (a .witness)) (now (a .batching)) (now (a .out))) (sym (c .sizes-of .ensures)) g in
-    (g .of-key, c .sizes-of .ensures, f .of-witness, f .of-batching, f .of-key .in-range, f .of-leaves, f .of-out)
+    f
 
 same-length : tie.Need-same-length
 same-length c = search needs
@@ -66,7 +66,7 @@ unfolding batchBytes
 returns-3 c =
     let a = c .before .before .before .before .before .before .before .before .before .before .before .before .before .before .before .before .args in (
       batch-solved-reply (now (a .key)) (now (a .leaves)) (now (a .witness)) (now (a .batching)) (now (a .out)) (sym (c .before .before .before .before .before .before .before .before .before .before .batch-form .ensures (now (a .out)) refl) ∙ ap answerOf (c .before .before .before .before .before .before .before .before .enum-told .given .1)) _ (c .before .before .before .before .before .before .before .solved .ensures),
-      rw (c .before .before .before .before .before .enum-told3 .given .1) (c .before .before .write-batch .ensures ∙ ap (λ (z : Shape). frame (qs0Section bits256 z (now (a .leaves)) (now (a .key)) (now (a .batching)) ∷ qs1Section bits256 z (now (a .leaves)) (now (a .key)) (now (a .witness)) (now (a .batching)) ∷ [])) (c .before .before .before .sizes-of .ensures)),
+      rw (c .before .before .before .before .before .enum-told3 .given .1) (c .before .before .batch .ensures ∙ ap (λ (z : Shape). frame (qs0Section bits256 z (now (a .leaves)) (now (a .key)) (now (a .batching)) ∷ qs1Section bits256 z (now (a .leaves)) (now (a .key)) (now (a .witness)) (now (a .batching)) ∷ [])) (c .before .before .before .sizes-of .ensures)),
     )
 
 pub batch-spec : {M : Type 1} → statement M
@@ -82,6 +82,6 @@ batch-spec =
     enum-told-4
     returns-2
     sizes-of-requires
-    write-batch-requires
+    batch-requires
     same-length
     returns-3)

@@ -38,7 +38,7 @@ solved-requires : tie.Need-solved-requires
 solved-requires c κs =
     let a = c .before .before .before .before .before .before .before .args in
     let f = commit-facts (now (a .key)) (now (a .leaves)) (now (a .witness)) (now (a .out)) (sym (c .before .before .commit-form .ensures (now (a .out)) refl) ∙ ap answerOf (c .enum-told .given .1)) in
-    (f .of-key, f .of-witness)
+    (f .0, f .1 .of-witness)
 
 enum-told-3 : tie.Need-enum-told-3
 enum-told-3 c = search needs
@@ -54,13 +54,12 @@ returns-2 c =
 sizes-of-requires : tie.Need-sizes-of-requires
 sizes-of-requires c κs =
     let a = c .before .before .before .before .before .before .before .before .before .before .before .args in
-    commit-facts (now (a .key)) (now (a .leaves)) (now (a .witness)) (now (a .out)) (sym (c .before .before .before .before .before .before .commit-form .ensures (now (a .out)) refl) ∙ ap answerOf (c .before .before .before .before .enum-told .given .1)) .of-key .header
+    commit-facts (now (a .key)) (now (a .leaves)) (now (a .witness)) (now (a .out)) (sym (c .before .before .before .before .before .before .commit-form .ensures (now (a .out)) refl) ∙ ap answerOf (c .before .before .before .before .enum-told .given .1)) .0 .header
 
-write-commit-requires : tie.Need-write-commit-requires
-write-commit-requires c κs =
+commit-requires : tie.Need-commit-requires
+commit-requires c κs =
     let a = c .before .before .before .before .before .before .before .before .before .before .before .before .args in
-    let f = subst (λ (z : Shape). CommitFacts z (now (a .key)) (now (a .leaves)) (now (a .witness)) (now (a .out))) (sym (c .sizes-of .ensures)) (commit-facts (now (a .key)) (now (a .leaves)) (now (a .witness)) (now (a .out)) (sym (c .before .before .before .before .before .before .before .commit-form .ensures (now (a .out)) refl) ∙ ap answerOf (c .before .before .before .before .before .enum-told .given .1))) in
-    (f .of-key .in-range, f .of-leaves, f .of-witness .witness-length, f .of-out)
+    subst (λ (z : Shape). CommitFacts z (now (a .leaves)) (now (a .witness)) (now (a .out))) (sym (c .sizes-of .ensures)) (commit-facts (now (a .key)) (now (a .leaves)) (now (a .witness)) (now (a .out)) (sym (c .before .before .before .before .before .before .before .commit-form .ensures (now (a .out)) refl) ∙ ap answerOf (c .before .before .before .before .before .enum-told .given .1)) .1)
 
 same-length : tie.Need-same-length
 same-length c = search needs
@@ -71,7 +70,7 @@ returns-3 c =
     let a = c .before .before .before .before .before .before .before .before .before .before .before .before .before .before .before .args in (
       commit-solved-reply (now (a .key)) (now (a .leaves)) (now (a .witness)) (now (a .out)) (sym (c .before .before .before .before .before .before .before .before .before .before .commit-form .ensures (now (a .out)) refl) ∙ ap answerOf (c .before .before .before .before .before .before .before .before .enum-told .given .1)) _ (c .before .before .before .before .before .before .before .solved .ensures),
       rw (c .before .before .before .before .before .enum-told3 .given .1)
-          (c .before .before .write-commit .ensures
+          (c .before .before .commit .ensures
           ∙ ap (λ (z : Shape). frame (cSection bits256 z (now (a .leaves)) ∷ dSection bits256 z (now (a .leaves)) (now (a .witness)) ∷ [])) (c .before .before .before .sizes-of .ensures)),
     )
 
@@ -88,6 +87,6 @@ commit-spec =
     enum-told-4
     returns-2
     sizes-of-requires
-    write-commit-requires
+    commit-requires
     same-length
     returns-3)

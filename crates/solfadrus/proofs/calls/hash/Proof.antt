@@ -38,14 +38,13 @@ sizes-of-requires : tie.Need-sizes-of-requires
 sizes-of-requires c κs =
     let a = c .before .before .before .before .before .before .before .before .args in
     let f = hash-facts (now (a .key)) (now (a .leaves)) (now (a .matrix)) (now (a .out)) (sym (c .before .before .before .hash-form .ensures (now (a .out)) refl) ∙ ap answerOf (c .before .enum-told .given .1)) in
-    f .of-key .header
+    f .0 .header
 
-write-hash-requires : tie.Need-write-hash-requires
-write-hash-requires c κs =
+hash-requires : tie.Need-hash-requires
+hash-requires c κs =
     let a = c .before .before .before .before .before .before .before .before .before .args in
-    let f = subst (λ (z : Shape). HashFacts z (now (a .key)) (now (a .leaves)) (now (a .matrix)) (now (a .out))) (sym (c .sizes-of .ensures))
-    (hash-facts (now (a .key)) (now (a .leaves)) (now (a .matrix)) (now (a .out)) (sym (c .before .before .before .before .hash-form .ensures (now (a .out)) refl) ∙ ap answerOf (c .before .before .enum-told .given .1))) in
-    (f .of-key .in-range, f .of-leaves, f .of-hash, f .of-out)
+    subst (λ (z : Shape). HashFacts z (now (a .leaves)) (now (a .matrix)) (now (a .out))) (sym (c .sizes-of .ensures))
+    (hash-facts (now (a .key)) (now (a .leaves)) (now (a .matrix)) (now (a .out)) (sym (c .before .before .before .before .hash-form .ensures (now (a .out)) refl) ∙ ap answerOf (c .before .before .enum-told .given .1)) .1)
 
 same-length : tie.Need-same-length
 same-length c = search needs
@@ -56,7 +55,7 @@ returns-2 c =
     let a = c .before .before .before .before .before .before .before .before .before .before .before .before .args in (
       c .before .before .before .before .before .before .before .hash-form .ensures (now (a .out)) refl,
       rw (c .before .before .before .before .before .enum-told .given .1)
-          (c .before .before .write-hash .ensures
+          (c .before .before .hash .ensures
           ∙ ap (λ (z : Shape). frame (ũSection bits256 z (now (a .leaves)) (now (a .matrix)) ∷ ṼSection bits256 z (now (a .leaves)) (now (a .matrix)) ∷ [])) (c .before .before .before .sizes-of .ensures)),
     )
 
@@ -69,6 +68,6 @@ hash-spec =
     enum-told-2
     returns
     sizes-of-requires
-    write-hash-requires
+    hash-requires
     same-length
     returns-2)

@@ -50,12 +50,12 @@ sizes-of-requires c κs =
     let a = c .before .before .before .before .before .before .before .before .before .before .before .before .before .args in
     prove-facts (now (a .key)) (now (a .leaves)) (now (a .witness)) (now (a .matrix)) (now (a .batching)) (now (a .out)) (sym (c .before .before .before .before .before .before .prove-form .ensures (now (a .out)) refl) ∙ ap answerOf (c .before .before .before .before .enum-told .given .1)) .of-key .header
 
-write-proof-requires : tie.Need-write-proof-requires
-write-proof-requires c κs =
+prove-requires : tie.Need-prove-requires
+prove-requires c κs =
     let a = c .before .before .before .before .before .before .before .before .before .before .before .before .before .before .args in
     let g = prove-facts (now (a .key)) (now (a .leaves)) (now (a .witness)) (now (a .matrix)) (now (a .batching)) (now (a .out)) (sym (c .before .before .before .before .before .before .before .prove-form .ensures (now (a .out)) refl) ∙ ap answerOf (c .before .before .before .before .before .enum-told .given .1)) in
     let f = subst (λ (z : Shape). ProveFacts z (now (a .key)) (now (a .leaves)) (now (a .witness)) (now (a .matrix)) (now (a .batching)) (now (a .out))) (sym (c .sizes-of .ensures)) g in
-    (g .of-key, c .sizes-of .ensures, f .of-witness, f .of-batching, f .of-key .in-range, f .of-leaves, f .of-hash, f .of-out)
+    f
 
 same-length : tie.Need-same-length
 same-length c = search needs
@@ -65,7 +65,7 @@ unfolding proofOf
 returns-3 c =
     let a = c .before .before .before .before .before .before .before .before .before .before .before .before .before .before .before .before .before .args in (
       prove-solved-reply (now (a .key)) (now (a .leaves)) (now (a .witness)) (now (a .matrix)) (now (a .batching)) (now (a .out)) (sym (c .before .before .before .before .before .before .before .before .before .before .prove-form .ensures (now (a .out)) refl) ∙ ap answerOf (c .before .before .before .before .before .before .before .before .enum-told .given .1)) _ (c .before .before .before .before .before .before .before .solved .ensures),
-      rw (c .before .before .before .before .before .enum-told3 .given .1) (c .before .before .write-proof .ensures ∙ ap (λ (z : Shape). bytesOf (sectionsOf bits256 z (now (a .leaves)) (now (a .key)) (now (a .witness)) (now (a .matrix)) (now (a .batching)))) (c .before .before .before .sizes-of .ensures)),
+      rw (c .before .before .before .before .before .enum-told3 .given .1) (c .before .before .prove .ensures ∙ ap (λ (z : Shape). bytesOf (sectionsOf bits256 z (now (a .leaves)) (now (a .key)) (now (a .witness)) (now (a .matrix)) (now (a .batching)))) (c .before .before .before .sizes-of .ensures)),
     )
 
 pub prove-spec : {M : Type 1} → statement M
@@ -81,6 +81,6 @@ prove-spec =
     enum-told-4
     returns-2
     sizes-of-requires
-    write-proof-requires
+    prove-requires
     same-length
     returns-3)
