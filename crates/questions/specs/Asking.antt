@@ -1,7 +1,9 @@
 -- How the code puts its questions: those on the key first, then one input after the other, each only where all before got a yes.
 --   keyQuestions key == questions 1 to 4;  outputQuestion ls n == question 10, of an output of n bytes
 --   commitInputs s .., hashInputs, batchInputs, proveInputs, verifyInputs == the questions of a call after those on the key, by the sizes s
---   KeyForm key == what questions 1 to 3 ask of a key: its header is there, its sizes are in range, its sections are exact
+--   proofQuestions s proof == questions 12 and 13
+--   SizedKey s key == the key has a header, the sizes s are in range, and by them its sections are exact
+--   KeyForm key == what questions 1 to 3 ask of a key: so it is by the sizes in its own header
 -- Assumes nothing.
 use mathlib.Core.Path.{_≡_}
 use mathlib.Core.Bool.{true}
@@ -44,12 +46,18 @@ module _ (s : Shape) where
       q5 bits256 s (hExact bits256 s H′ ∷ χExact bits256 s χ ∷ []) ∷ q6 bits256 s H′ ∷ q7 bits256 s (perTree bits256) leaves
       ∷ q8 bits256 s (perTree bits256) leaves ∷ q9 bits256 s x ∷ outputQuestion (lengths bits256 s) n ∷ []
 
-  abbrev pub verifyInputs : List ℕ → List ℕ → List ℕ → List ℕ → List ℕ → List Question
-  verifyInputs Δ H′ χ opened proof =
+  abbrev pub verifyInputs : List ℕ → List ℕ → List ℕ → List ℕ → List Question
+  verifyInputs Δ H′ χ opened =
       q5 bits256 s (ΔExact bits256 s Δ ∷ hExact bits256 s H′ ∷ χExact bits256 s χ ∷ []) ∷ q6 bits256 s H′ ∷ q7 bits256 s (perOpened bits256) opened
-      ∷ q8 bits256 s (perOpened bits256) opened ∷ q12 bits256 s proof ∷ q13 bits256 s proof ∷ []
+      ∷ q8 bits256 s (perOpened bits256) opened ∷ []
 
-pub record KeyForm (key : List ℕ) : Type 0 where
+  abbrev pub proofQuestions : List ℕ → List Question
+  proofQuestions proof = q12 bits256 s proof ∷ q13 bits256 s proof ∷ []
+
+pub record SizedKey (s : Shape) (key : List ℕ) : Type 0 where
   pub header : 8 ≤ length key
-  pub sizes : limits (shapeOf key) ≡ true
-  pub exact : keyExact bits256 (shapeOf key) key ≡ true
+  pub sizes : limits s ≡ true
+  pub exact : keyExact bits256 s key ≡ true
+
+abbrev pub KeyForm : List ℕ → Type 0
+KeyForm key = SizedKey (shapeOf key) key

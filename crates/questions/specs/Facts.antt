@@ -1,18 +1,30 @@
 -- What each call knows once its questions on form got a yes.
 --   KeyFacts s key == of the key;  WitnessForm s x == of the witness
 --   LeavesForm s leaves == of full leaves;  HashForm s H′ == of H′
+--   ProofForm s proof == the proof is its sections, each of its length (question 12)
+--   PlacesOf s proof places == so it is, and the reader has stood at these places
+--   SectionIs s proof i r == r is section i of the proof, and has its length
+--   ProofAsked s proof walk == the answer to questions 12 and 13; and where that is accepted, where the reader stood
 --   TestFacts, CommitFacts, HashFacts, BatchFacts, ProveFacts == of all inputs that a call goes on with, and of its output's length
 -- Assumes nothing.
 use mathlib.Core.Path.{_≡_}
 use mathlib.Core.Bool.{true}
 use mathlib.Core.List.{List}
 use Prim.Native.Nat.{ℕ, _+_, _*_, _-_, _≤_}
-use lib.ListN.{length}
+use lib.ListN.{length, getD}
 use Rattle.protocol.specs.Strings.{bytesFor, spareZero}
 use Rattle.protocol.specs.Binary.{bits256}
 use Rattle.protocol.specs.Shape.{Shape, shapeOf, limits, perTree, wOf}
 use Rattle.protocol.specs.Key.{keyExact, keySpare}
+use Rattle.protocol.specs.Frames.{framed, sectionNo}
+use Rattle.protocol.specs.Sections.{lengths}
+use Rattle.protocol.specs.Answers.{accepted, ask}
 use Rattle.protocol.specs.Questions.{leavesExact, leavesSpare, hExact, hSpare}
+use Rattle.format.specs.Verdict.{answerOf}
+use Rattle.sections.specs.Moved.{PlacesIn}
+use Rattle.sections.specs.declared.reader.Places.{Places}
+use Rattle.sections.specs.declared.reader.Walk.{Walk}
+use Rattle.questions.specs.Asking.{proofQuestions}
 
 pub record KeyFacts (s : Shape) (key : List ℕ) : Type 0 where
   pub header : 8 ≤ length key
@@ -32,6 +44,18 @@ pub record LeavesForm (s : Shape) (leaves : List ℕ) : Type 0 where
 pub record HashForm (s : Shape) (H′ : List ℕ) : Type 0 where
   pub hash-exact : hExact bits256 s H′ ≡ true
   pub hash-spare : hSpare bits256 s H′ ≡ true
+
+abbrev pub ProofForm : Shape → List ℕ → Type 0
+ProofForm s proof = framed (lengths bits256 s) proof ≡ true
+
+abbrev pub PlacesOf : Shape → List ℕ → Places → Type 0
+PlacesOf s proof places = ProofForm s proof × PlacesIn proof places
+
+abbrev pub SectionIs : Shape → List ℕ → ℕ → List ℕ → Type 0
+SectionIs s proof i r = (r ≡ sectionNo (lengths bits256 s) i proof) × (length r ≡ getD (lengths bits256 s) i 0)
+
+abbrev pub ProofAsked : Shape → List ℕ → Walk → Type 0
+ProofAsked s proof walk = (answerOf (walk .answer) ≡ ask (proofQuestions s proof)) × (answerOf (walk .answer) ≡ accepted → PlacesOf s proof (walk .places))
 
 pub record TestFacts (s : Shape) (key x : List ℕ) : Type 0 where
   pub of-key : KeyFacts s key

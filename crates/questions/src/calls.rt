@@ -1,4 +1,4 @@
-// The questions on form of each call, in 01's order: all of its questions but 11, 14 and 15.
+// The questions on form of each call, in 01's order: all of its questions but 11 to 15.
 ghost use mathlib.Core.Path.{_≡_};
 ghost use mathlib.Core.Bool.{true};
 ghost use mathlib.Core.List.{List};
@@ -7,7 +7,7 @@ ghost use lib.ListN.{length};
 ghost use Rattle.protocol.specs.Binary.{bits256};
 ghost use Rattle.protocol.specs.Shape.{limits};
 ghost use Rattle.protocol.specs.Answers.{ask};
-ghost use Rattle.protocol.specs.Calls.{testQuestions, commitQuestions, hashQuestions, batchQuestions, proveQuestions, verifyQuestions};
+ghost use Rattle.protocol.specs.Calls.{testQuestions, commitQuestions, hashQuestions, batchQuestions, proveQuestions};
 ghost use Rattle.format.specs.Sizes.{shapeFor};
 ghost use Rattle.format.specs.Verdict.{answerOf};
 ghost use Rattle.questions.specs.Asking.{commitInputs, hashInputs, batchInputs, proveInputs, verifyInputs};
@@ -18,7 +18,6 @@ use super::inputs::hash_matrix_form;
 use super::inputs::leaves_form;
 use super::inputs::witness_form;
 use super::key::key_form;
-use super::proof::proof_form;
 use field::Gf256;
 use format::Reason;
 use format::Verdict;
@@ -78,23 +77,22 @@ fn prove_inputs(
     also(asked, out_len == proof_bytes(s), Reason::OutputLength)
 }
 
-fn verify_inputs(
+// The verifier: questions 5 to 8. Those on the key come before them, and those on the proof after.
+pub fn verify_inputs(
     delta: &[u8],
     hash_matrix: &[u8],
     batching: &[u8],
     opened: &[u8],
-    proof: &[u8],
     s: Sizes,
 ) -> Verdict
     requires { ⌜ limits (shapeFor s) ≡ true ⌝ }
-    ensures { λ r. ⌜ answerOf r ≡ ask (verifyInputs (shapeFor s) (now (delta .entry)) (now («hash_matrix» .entry)) (now (batching .entry)) (now (opened .entry)) (now (proof .entry))) ⌝ }
+    ensures { λ r. ⌜ answerOf r ≡ ask (verifyInputs (shapeFor s) (now (delta .entry)) (now («hash_matrix» .entry)) (now (batching .entry)) (now (opened .entry))) ⌝ }
 {
     let exact = challenge_exact(delta, s)
         & hash_matrix_exact(hash_matrix, s)
         & batching_exact(batching, s);
     let asked = hash_matrix_form(exact, hash_matrix, s);
-    let asked = leaves_form(asked, opened, s, Gf256::SIZE - 1);
-    proof_form(asked, proof, s)
+    leaves_form(asked, opened, s, Gf256::SIZE - 1)
 }
 
 // The call that tests a key and a witness: questions 1 to 4, 9.
@@ -170,22 +168,4 @@ pub fn prove_form(
         out_len,
         sizes_of(key),
     )
-}
-
-// The verifier: questions 1 to 8, 12, 13.
-pub fn verify_form(
-    key: &[u8],
-    delta: &[u8],
-    hash_matrix: &[u8],
-    batching: &[u8],
-    opened: &[u8],
-    proof: &[u8],
-) -> Verdict
-    ensures { λ r. ⌜ answerOf r ≡ ask (verifyQuestions bits256 (now (key .entry)) (now (delta .entry)) (now («hash_matrix» .entry)) (now (batching .entry)) (now (opened .entry)) (now (proof .entry))) ⌝ }
-{
-    let asked = key_form(key);
-    let Verdict::Accepted = asked else {
-        return asked;
-    };
-    verify_inputs(delta, hash_matrix, batching, opened, proof, sizes_of(key))
 }

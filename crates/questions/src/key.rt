@@ -6,12 +6,12 @@ ghost use lib.ListN.{length, getD, drop};
 ghost use Rattle.protocol.specs.Strings.{bytesFor};
 ghost use Rattle.protocol.specs.Frames.{sectionNo, framedLength};
 ghost use Rattle.protocol.specs.Binary.{bits256};
-ghost use Rattle.protocol.specs.Shape.{shapeOf, limits};
+ghost use Rattle.protocol.specs.Shape.{limits};
 ghost use Rattle.protocol.specs.Key.{keyLengths, keySpare, sectionA, sectionB, sectionY};
 ghost use Rattle.protocol.specs.Answers.{ask};
 ghost use Rattle.format.specs.Sizes.{shapeFor};
 ghost use Rattle.format.specs.Verdict.{answerOf};
-ghost use Rattle.questions.specs.Asking.{keyQuestions, KeyForm};
+ghost use Rattle.questions.specs.Asking.{keyQuestions, SizedKey};
 use format::Reason;
 use format::Verdict;
 use format::also;
@@ -39,49 +39,48 @@ pub fn key_bytes(s: Sizes) -> usize
 }
 
 // Section i of a key whose sections are exact, as part of it.
-fn key_section(key: &[u8], i: usize) -> &[u8]
-    requires { ⌜ (KeyForm (now key)) × (i < 3) ⌝ }
-    ensures { λ r. ⌜ (now r ≡ sectionNo (keyLengths bits256 (shapeOf (now (key .entry)))) i (drop 8 (now (key .entry)))) × (length (now r) ≡ getD (keyLengths bits256 (shapeOf (now (key .entry)))) i 0) ⌝ }
+fn key_section(key: &[u8], s: Sizes, i: usize) -> &[u8]
+    requires { ⌜ SizedKey (shapeFor s) (now key) × (i < 3) ⌝ }
+    ensures { λ r. ⌜ (now r ≡ sectionNo (keyLengths bits256 (shapeFor s)) i (drop 8 (now (key .entry)))) × (length (now r) ≡ getD (keyLengths bits256 (shapeFor s)) i 0) ⌝ }
 {
-    let lengths = key_lengths(sizes_of(key));
+    let lengths = key_lengths(s);
     section_no(&key[HEADER..], &lengths, i)
 }
 
 // The matrices A.
-pub fn section_a(key: &[u8]) -> &[u8]
-    requires { ⌜ KeyForm (now key) ⌝ }
-    ensures { λ r. ⌜ (now r ≡ sectionA bits256 (shapeOf (now (key .entry))) (now (key .entry))) × (length (now r) ≡ shapeOf (now (key .entry)) .m * shapeOf (now (key .entry)) .n * bytesFor (shapeOf (now (key .entry)) .n)) ⌝ }
+pub fn section_a(key: &[u8], s: Sizes) -> &[u8]
+    requires { ⌜ SizedKey (shapeFor s) (now key) ⌝ }
+    ensures { λ r. ⌜ (now r ≡ sectionA bits256 (shapeFor s) (now (key .entry))) × (length (now r) ≡ s .m * s .n * bytesFor (s .n)) ⌝ }
 {
-    key_section(key, 0)
+    key_section(key, s, 0)
 }
 
 // The linear parts b.
-pub fn section_b(key: &[u8]) -> &[u8]
-    requires { ⌜ KeyForm (now key) ⌝ }
-    ensures { λ r. ⌜ (now r ≡ sectionB bits256 (shapeOf (now (key .entry))) (now (key .entry))) × (length (now r) ≡ shapeOf (now (key .entry)) .m * bytesFor (shapeOf (now (key .entry)) .n)) ⌝ }
+pub fn section_b(key: &[u8], s: Sizes) -> &[u8]
+    requires { ⌜ SizedKey (shapeFor s) (now key) ⌝ }
+    ensures { λ r. ⌜ (now r ≡ sectionB bits256 (shapeFor s) (now (key .entry))) × (length (now r) ≡ s .m * bytesFor (s .n)) ⌝ }
 {
-    key_section(key, 1)
+    key_section(key, s, 1)
 }
 
 // The right sides y.
-pub fn section_y(key: &[u8]) -> &[u8]
-    requires { ⌜ KeyForm (now key) ⌝ }
-    ensures { λ r. ⌜ (now r ≡ sectionY bits256 (shapeOf (now (key .entry))) (now (key .entry))) × (length (now r) ≡ bytesFor (shapeOf (now (key .entry)) .m)) ⌝ }
+pub fn section_y(key: &[u8], s: Sizes) -> &[u8]
+    requires { ⌜ SizedKey (shapeFor s) (now key) ⌝ }
+    ensures { λ r. ⌜ (now r ≡ sectionY bits256 (shapeFor s) (now (key .entry))) × (length (now r) ≡ bytesFor (s .m)) ⌝ }
 {
-    key_section(key, 2)
+    key_section(key, s, 2)
 }
 
 // Question 4: are the key's spare bits 0?
-pub fn key_spare(key: &[u8]) -> bool
-    requires { ⌜ KeyForm (now key) ⌝ }
-    ensures { λ r. ⌜ r ≡ keySpare bits256 (shapeOf (now (key .entry))) (now (key .entry)) ⌝ }
+pub fn key_spare(key: &[u8], s: Sizes) -> bool
+    requires { ⌜ SizedKey (shapeFor s) (now key) ⌝ }
+    ensures { λ r. ⌜ r ≡ keySpare bits256 (shapeFor s) (now (key .entry)) ⌝ }
 {
-    let s = sizes_of(key);
     let n = s.n;
     let m = s.m;
-    rows_spare(section_a(key), n, m * n)
-        & rows_spare(section_b(key), n, m)
-        & row_spare(section_y(key), m)
+    rows_spare(section_a(key, s), n, m * n)
+        & rows_spare(section_b(key, s), n, m)
+        & row_spare(section_y(key, s), m)
 }
 
 // Questions 1 to 4.
@@ -100,5 +99,5 @@ pub fn key_form(key: &[u8]) -> Verdict
     let Verdict::Accepted = exact else {
         return exact;
     };
-    also(exact, key_spare(key), Reason::KeySpareBit)
+    also(exact, key_spare(key, s), Reason::KeySpareBit)
 }

@@ -33,9 +33,9 @@ fn test_equations(errors: &mut [u8], key: &[u8], witness: &[u8]) -> Verdict
     let n = s.n;
     equations::equation_errors(
         errors,
-        super::key::section_a(key),
-        super::key::section_b(key),
-        super::key::section_y(key),
+        super::key::section_a(key, s),
+        super::key::section_b(key, s),
+        super::key::section_y(key, s),
         witness,
         n,
     );

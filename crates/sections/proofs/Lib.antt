@@ -4,4 +4,3 @@ pub mod ReadingLaws
 pub mod SpareLaws
 pub mod Writes
 pub mod ReaderLaws
-pub mod SixLaws

@@ -1,5 +1,5 @@
 -- In a string of sections of given lengths, the reader finds each where the lengths say that it stands; and what reads back as sections, the reader takes one after the other.
--- Of six sections that it takes, question 12 asks for the last answer alone, and all lengths: where one is missing, the reader stays, and so do the answers.
+-- Question 12 is asked one section at a time: the reader's answer, the section's length, and what is left.
 --   yes? a == the answer is accepted
 -- Assumes nothing.
 use mathlib.Core.Path.{_≡_, refl, sym, ap, _∙_, subst}
@@ -10,18 +10,23 @@ use native.Mathlib.Nat.{add-sub-cancel-left}
 use native.Mathlib.Decide.{ℕ-discrete}
 use native.Mathlib.Omega.{arith}
 use lib.Dec.{eqb, leb}
-use lib.ListN.{length, getD, take, drop}
-use lib.Seq.{drop-drop, drop-cons}
+use lib.ListN.{length, getD, set, take, drop}
+use lib.Seq.{drop-drop, drop-cons, getD-set-same, getD-set-other}
 use Rattle.algebra.proofs.CountLaws.{and-right}
 use Rattle.protocol.specs.Lists.{part}
 use Rattle.protocol.specs.Frames.{num4, framed, sectionNo, framedLength}
 use Rattle.protocol.specs.Reader.{Extent, between, missing, sectionAt}
 use Rattle.protocol.specs.Answers.{Answer, accepted, refused, question, ask}
 use Rattle.protocol.proofs.TestLaws.{eqb-same, eqb-other}
-use Rattle.format.specs.Verdict.{andThen}
+use Rattle.format.specs.Verdict.{answerOf, andThen}
+use Rattle.format.specs.declared.Refusal.{Refusal}
+use Rattle.format.specs.declared.Verdict.the-variants.{Accepted, Refused}
+use Rattle.format.proofs.AskLaws.{stop-at}
 use Rattle.sections.specs.Reading.{Reads}
-use Rattle.sections.proofs.SectionLaws.{whole, section-is, follow-missing, follow-other, follow-next, follow-end, length-more, section-end, section-part, length-part, framed-length}
-use Rattle.sections.specs.Taking.{answerOn, nextOn, bytesOn, answerAt, nextAt, bytesAt, readTo, sixExact}
+use Rattle.sections.proofs.SectionLaws.{whole, section-is, and-no, follow-missing, follow-other, follow-next, length-more, section-end, section-part, length-part, framed-length}
+use Rattle.sections.specs.Taking.{answerOn, nextOn, bytesOn, answerAt, nextAt, bytesAt, readTo}
+use Rattle.sections.specs.Moved.{ReadsOn}
+use Rattle.sections.specs.declared.reader.ReadOn.{ReadOn}
 
 -- what is left after i sections is the sections after them
 framed-from : (ls s : List ℕ) (i : ℕ) → framed ls s ≡ true → framed (drop i ls) (drop (framedLength (take i ls)) s) ≡ true
@@ -54,11 +59,15 @@ pub reader-takes : (s : List ℕ) (at l : ℕ) (ls x : List ℕ) (xs : List (Lis
 unfolding answerAt bytesAt nextAt
 reader-takes s at l ls x xs (a, e, f, n, x-is, rest) = (ap answerOn f, ap (bytesOn s) f ∙ sym x-is, subst (λ k. Reads s k ls xs) (sym (ap (nextOn at) f)) rest)
 
--- ---- six steps of the reader, and the question on all
+-- ---- one step of the reader, and the question on all
 
 yes? : Answer → Bool
 yes? accepted = true
 yes? (refused n p) = false
+
+pub refused-not : {a : Answer} {i p : ℕ} → a ≡ refused i p → a ≡ accepted → ⊥
+unfolding yes?
+refused-not e h = false≢true (ap yes? (sym e ∙ h))
 
 -- a section is there, and has its length, and the others follow it
 section-first : (l : ℕ) (ls s : List ℕ) (at : ℕ) → framed (l ∷ ls) (drop at s) ≡ (yes? (answerAt s at) && (eqb (length (bytesAt s at)) l && framed ls (drop (nextAt s at) s)))
@@ -76,48 +85,13 @@ section-first l ls s at = go (sectionAt s at) refl
         same (yes m) = follow-next l ls s at a z (sym e) m ∙ sym (ap (λ b. b && framed ls (drop z s)) (eqb-same (length (part s a (z - a))) l (long ∙ m)))
         same (no n) = follow-other l ls s at a z (sym e) n ∙ sym (ap (λ b. b && framed ls (drop z s)) (eqb-other (length (part s a (z - a))) l (λ m. n (sym long ∙ m))))
 
--- where one is missing, so is the next, which is the same
-still-missing : (s : List ℕ) (at : ℕ) → yes? (answerAt s at) ≡ false → yes? (answerAt s (nextAt s at)) ≡ false
-unfolding yes? answerAt nextAt
-still-missing s at h = go (sectionAt s at) refl
-  where
-    go : (x : Extent) → sectionAt s at ≡ x → yes? (answerOn (sectionAt s (nextOn at (sectionAt s at)))) ≡ false
-    go missing e = rw e (ap (λ x. yes? (answerOn x)) e)
-    go (between a z) e = absurd (false≢true (sym h ∙ ap (λ x. yes? (answerOn x)) e))
-
-within : (s : List ℕ) (at : ℕ) → at ≤ length s → nextAt s at ≤ length s
+pub within : (s : List ℕ) (at : ℕ) → at ≤ length s → nextAt s at ≤ length s
 unfolding nextAt
 within s at h = go (sectionAt s at) refl
   where
     go : (x : Extent) → sectionAt s at ≡ x → nextOn at (sectionAt s at) ≤ length s
     go missing e = rw e h
     go (between a z) e = rw e (section-is s at a z e .2)
-
--- an answer that is the refusal where the one before it is: it alone is asked
-merge : (a f k x : Bool) → (a ≡ false → f ≡ false) → (a && (k && (f && x))) ≡ (f && (k && x))
-merge false f k x h = rw (h refl) refl
-merge true true k x h = refl
-merge true false true x h = refl
-merge true false false x h = refl
-
-to-left : (k l m n o p z : Bool) → (k && (l && (m && (n && (o && (p && z)))))) ≡ (k && l && m && n && o && p && z)
-to-left false l m n o p z = refl
-to-left true false m n o p z = refl
-to-left true true false n o p z = refl
-to-left true true true false o p z = refl
-to-left true true true true false p z = refl
-to-left true true true true true false z = refl
-to-left true true true true true true z = refl
-
-six-tests : (a b c d e f k l m n o p z : Bool) → (a ≡ false → b ≡ false) → (b ≡ false → c ≡ false) → (c ≡ false → d ≡ false) → (d ≡ false → e ≡ false) → (e ≡ false → f ≡ false)
-    → (a && (k && (b && (l && (c && (m && (d && (n && (e && (o && (f && (p && z)))))))))))) ≡ (f && (k && l && m && n && o && p && z))
-six-tests a b c d e f k l m n o p z ab bc cd de ef =
-    ap (λ x. a && (k && (b && (l && (c && (m && (d && (n && x)))))))) (merge e f o (p && z) ef)
-    ∙ ap (λ x. a && (k && (b && (l && (c && (m && x)))))) (merge d f n (o && (p && z)) (λ h. ef (de h)))
-    ∙ ap (λ x. a && (k && (b && (l && x)))) (merge c f m (n && (o && (p && z))) (λ h. ef (de (cd h))))
-    ∙ ap (λ x. a && (k && x)) (merge b f l (m && (n && (o && (p && z)))) (λ h. ef (de (cd (bc h)))))
-    ∙ merge a f k (l && (m && (n && (o && (p && z))))) (λ h. ef (de (cd (bc (ab h)))))
-    ∙ ap (λ x. f && x) (to-left k l m n o p z)
 
 -- an answer of the reader, and then a question of the same number
 asked-after : (s : List ℕ) (at : ℕ) (b : Bool) → andThen (answerAt s at) (ask (question b 12 0 ∷ [])) ≡ ask (question (yes? (answerAt s at) && b) 12 0 ∷ [])
@@ -128,43 +102,45 @@ asked-after s at b = go (sectionAt s at)
     go missing = refl
     go (between a z) = refl
 
--- six sections that the reader takes, each from where it stands, and the question on their lengths
-pub six-read : (l₀ l₁ l₂ l₃ l₄ l₅ : ℕ) (s : List ℕ) → (let ls = l₀ ∷ l₁ ∷ l₂ ∷ l₃ ∷ l₄ ∷ l₅ ∷ [] in
-    andThen (answerAt s (readTo s 5)) (ask (question (sixExact (bytesAt s (readTo s 0)) (bytesAt s (readTo s 1)) (bytesAt s (readTo s 2)) (bytesAt s (readTo s 3)) (bytesAt s (readTo s 4)) (bytesAt s (readTo s 5)) ls (readTo s 6) (length s)) 12 0 ∷ []))
-    ≡ ask (question (framed ls s) 12 0 ∷ []))
-unfolding sixExact readTo
-six-read l₀ l₁ l₂ l₃ l₄ l₅ s =
-    let p₁ = nextAt s 0 in
-    let p₂ = nextAt s p₁ in
-    let p₃ = nextAt s p₂ in
-    let p₄ = nextAt s p₃ in
-    let p₅ = nextAt s p₄ in
-    let p₆ = nextAt s p₅ in
-    let w : p₆ ≤ length s = within s p₅ (within s p₄ (within s p₃ (within s p₂ (within s p₁ (within s 0 (omega arith)))))) in
-    let y : ℕ → Bool = λ at. yes? (answerAt s at) in
-    let t : ℕ → ℕ → Bool = λ at l. eqb (length (bytesAt s at)) l in
-    asked-after s p₅ _
-    ∙ ap (λ b. ask (question b 12 0 ∷ []))
-    (sym
-    (section-first l₀ (l₁ ∷ l₂ ∷ l₃ ∷ l₄ ∷ l₅ ∷ []) s 0
-    ∙ ap (λ x. y 0 && (t 0 l₀ && x)) (section-first l₁ (l₂ ∷ l₃ ∷ l₄ ∷ l₅ ∷ []) s p₁)
-    ∙ ap (λ x. y 0 && (t 0 l₀ && (y p₁ && (t p₁ l₁ && x)))) (section-first l₂ (l₃ ∷ l₄ ∷ l₅ ∷ []) s p₂)
-    ∙ ap (λ x. y 0 && (t 0 l₀ && (y p₁ && (t p₁ l₁ && (y p₂ && (t p₂ l₂ && x)))))) (section-first l₃ (l₄ ∷ l₅ ∷ []) s p₃)
-    ∙ ap (λ x. y 0 && (t 0 l₀ && (y p₁ && (t p₁ l₁ && (y p₂ && (t p₂ l₂ && (y p₃ && (t p₃ l₃ && x)))))))) (section-first l₄ (l₅ ∷ []) s p₄)
-    ∙ ap (λ x. y 0 && (t 0 l₀ && (y p₁ && (t p₁ l₁ && (y p₂ && (t p₂ l₂ && (y p₃ && (t p₃ l₃ && (y p₄ && (t p₄ l₄ && x)))))))))) (section-first l₅ [] s p₅)
-    ∙ ap (λ x. y 0 && (t 0 l₀ && (y p₁ && (t p₁ l₁ && (y p₂ && (t p₂ l₂ && (y p₃ && (t p₃ l₃ && (y p₄ && (t p₄ l₄ && (y p₅ && (t p₅ l₅ && x)))))))))))) (follow-end s p₆ w)
-    ∙ six-tests (y 0) (y p₁) (y p₂) (y p₃) (y p₄) (y p₅) (t 0 l₀) (t p₁ l₁) (t p₂ l₂) (t p₃ l₃) (t p₄ l₄) (t p₅ l₅) (eqb p₆ (length s))
-    (still-missing s 0) (still-missing s p₁) (still-missing s p₂) (still-missing s p₃) (still-missing s p₄)))
+-- a turn of the reader's: from index at on the lengths from i on have to follow, and `read_on` has told r of the section there
+module _ (ls s : List ℕ) (at i : ℕ) (h : i < length ls) (left : framed ls s ≡ framed (drop i ls) (drop at s)) (r : ReadOn) (said : ReadsOn s at r) where
+  l : ℕ
+  l = getD ls i 0
 
-pub six-of : (ls : List ℕ) → length ls ≡ 6 → ls ≡ getD ls 0 0 ∷ getD ls 1 0 ∷ getD ls 2 0 ∷ getD ls 3 0 ∷ getD ls 4 0 ∷ getD ls 5 0 ∷ []
-six-of (a ∷ b ∷ c ∷ d ∷ e ∷ f ∷ []) h = refl
-six-of [] h = absurd (omega arith)
-six-of (a ∷ []) h = absurd (omega arith)
-six-of (a ∷ b ∷ []) h = absurd (omega arith)
-six-of (a ∷ b ∷ c ∷ []) h = absurd (omega arith)
-six-of (a ∷ b ∷ c ∷ d ∷ []) h = absurd (omega arith)
-six-of (a ∷ b ∷ c ∷ d ∷ e ∷ []) h = absurd (omega arith)
-six-of (a ∷ b ∷ c ∷ d ∷ e ∷ f ∷ g ∷ hs) h = absurd (omega arith)
+  others : Bool
+  others = framed (drop (suc i) ls) (drop (nextAt s at) s)
+
+  first : framed ls s ≡ (yes? (answerAt s at) && (eqb (length (bytesAt s at)) l && others))
+  unfolding l others
+  first = left ∙ ap (λ k. framed k (drop at s)) (drop-cons ls i 0 h) ∙ section-first (getD ls i 0) (drop (suc i) ls) s at
+
+  -- it leaves with the reader's own refusal
+  pub read-refused : {f : Refusal} → r .answer ≡ Refused f → answerOf (r .answer) ≡ ask (question (framed ls s) 12 0 ∷ [])
+  read-refused p =
+      let b = eqb (length (bytesAt s at)) l && others in
+      let x = ask (question b 12 0 ∷ []) in
+      stop-at x p ∙ ap (λ a. andThen a x) (said .0) ∙ asked-after s at b ∙ ap (λ b. ask (question b 12 0 ∷ [])) (sym first)
+
+  -- a section of another length
+  pub read-other : (r .length ≡ getD ls i 0 → ⊥) → framed ls s ≡ false
+  unfolding l
+  read-other n = first ∙ and-no (yes? (answerAt s at)) _ (ap (λ b. b && others) (eqb-other (length (bytesAt s at)) (getD ls i 0) (λ e. n (said .1 ∙ e))))
+
+  -- the reader goes on
+  pub read-next : r .answer ≡ Accepted → r .length ≡ getD ls i 0 → framed ls s ≡ framed (drop (suc i) ls) (drop (r .at) s)
+  unfolding l others yes?
+  read-next p e =
+      let y : yes? (answerAt s at) ≡ true = ap yes? (sym (said .0) ∙ ap answerOf p) in
+      first ∙ ap (λ b. b && (eqb (length (bytesAt s at)) (getD ls i 0) && others)) y ∙ ap (λ b. b && others) (eqb-same (length (bytesAt s at)) (getD ls i 0) (sym (said .1) ∙ e))
+      ∙ ap (λ k. framed (drop (suc i) ls) (drop k s)) (sym (said .2))
+
+-- one place more
+pub places-more : (at : List ℕ) (i next : ℕ) (f : ℕ → ℕ) → i < length at → next ≡ f i → ((k : ℕ) → k < i → getD at k 0 ≡ f k) → (k : ℕ) → k < i + 1 → getD (set at i next) k 0 ≡ f k
+places-more at i next f room e before k h = go (ℕ-discrete k i)
+  where
+    go : Dec (k ≡ i) → getD (set at i next) k 0 ≡ f k
+    go (yes s) = ap (λ j. getD (set at i next) j 0) s ∙ getD-set-same at i next 0 room ∙ e ∙ ap f (sym s)
+    go (no n) = getD-set-other at i k next 0 n ∙ before k (omega (arith, n, h))
 
 -- of a string of sections of given lengths, the reader has read i of them where the lengths say
 read-to : (ls s : List ℕ) (i : ℕ) → i ≤ length ls → framed ls s ≡ true → readTo s i ≡ framedLength (take i ls)

@@ -1,19 +1,18 @@
 -- Reading section after section gives exactly the strings of sections of given lengths, and the sections are those that the definition names.
 -- Assumes nothing.
-use mathlib.Core.Path.{_≡_, refl, sym, ap, _∙_, subst}
+use mathlib.Core.Path.{_≡_, sym, ap, _∙_, subst}
 use mathlib.Core.Bool.{true}
 use mathlib.Core.List.{List, [], _∷_}
 use Prim.Native.Nat.{ℕ, zero, suc, _+_, _-_, _≤_, _<_}
 use native.Mathlib.Nat.{add-sub-cancel-left}
 use native.Mathlib.Omega.{arith}
-use lib.ListN.{length, getD, take, drop}
+use lib.ListN.{length, getD, drop}
 use lib.Seq.{drop-drop}
 use Rattle.protocol.specs.Lists.{table, part}
-use Rattle.protocol.specs.Frames.{num4, framed, sectionNo}
-use Rattle.protocol.specs.Reader.{between, sectionAt}
+use Rattle.protocol.specs.Frames.{framed, sectionNo}
 use Rattle.protocol.specs.Binary.{bits256}
 use Rattle.protocol.specs.Shape.{Shape}
-use Rattle.protocol.specs.Sections.{Sections, lengths, sectionsIn}
+use Rattle.protocol.specs.Sections.{lengths, sectionsIn}
 use Rattle.protocol.proofs.TestLaws.{eqb-same, eqb-eq}
 use Rattle.sections.specs.Reading.{Reads}
 use Rattle.sections.proofs.SectionLaws.{section-is, whole, follow-next, follow-end}

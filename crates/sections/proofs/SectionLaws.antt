@@ -1,6 +1,6 @@
 -- Reading sections by the counts that stand there is reading a string of sections of given lengths, one after the other.
 -- Assumes nothing.
-use mathlib.Core.Path.{_≡_, refl, sym, ap, ap₂, _∙_}
+use mathlib.Core.Path.{_≡_, refl, sym, ap, _∙_}
 use mathlib.Core.Bool.{Bool, true, false, _&&_, false≢true}
 use mathlib.Core.List.{List, [], _∷_}
 use Prim.Native.Nat.{ℕ, zero, suc, _+_, _-_, _≤_, _<_}
@@ -9,13 +9,13 @@ use native.Mathlib.Nat.{add-zero, add-assoc}
 use native.Mathlib.Numerals.{add-one}
 use native.Mathlib.Omega.{arith}
 use lib.Dec.{eqb, leb}
-use lib.ListN.{length, getD, take, drop, length-take, length-drop}
+use lib.ListN.{length, getD, take, drop, length-drop}
 use lib.Seq.{drop-drop, getD-drop, drop-cons, drop-length, length-take-le}
 use Rattle.algebra.proofs.CountLaws.{and-left, and-right}
 use Rattle.protocol.specs.Lists.{part}
 use Rattle.protocol.specs.Frames.{num2, num4, framed, sectionNo, framedLength}
 use Rattle.protocol.specs.Reader.{Extent, between, missing, sectionAt}
-use Rattle.protocol.proofs.TestLaws.{T-false, eqb-same, eqb-eq, leb-yes, leb-no, leb-le, both-true, bool-iff}
+use Rattle.protocol.proofs.TestLaws.{eqb-same, eqb-eq, leb-yes, leb-no, leb-le, both-true, bool-iff}
 
 -- ---- one section
 

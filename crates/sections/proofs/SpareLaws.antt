@@ -4,12 +4,12 @@ use mathlib.Core.Path.{_≡_, refl, sym, ap, ap₂, _∙_}
 use mathlib.Core.Bool.{Bool, true, false, _&&_}
 use mathlib.Core.List.{List}
 use Prim.Native.Nat.{ℕ, zero, suc, _+_, _*_, _-_, _/_, _%_, _^_, _≤_, _<_}
-use native.Mathlib.Nat.{zero-div, zero-mul, one-mul, min-le-left}
+use native.Mathlib.Nat.{zero-div, zero-mul, min-le-left}
 use native.Mathlib.Numerals.{add-one}
 use native.Mathlib.Omega.{arith}
-use lib.Bits.{bitOr, bitAnd, or-zero-l, or-add-and, and-le-l, and-le-r}
+use lib.Bits.{bitOr, or-zero-l, or-add-and, and-le-l, and-le-r}
 use lib.Dec.{eqb}
-use lib.ListN.{length, getD, take, drop, length-take}
+use lib.ListN.{length, getD, drop, length-take}
 use lib.Pow.{shr-shr, shr-lt}
 use lib.Seq.{take-all}
 use Rattle.algebra.proofs.CountLaws.{and-left, and-right}
@@ -17,7 +17,7 @@ use Rattle.protocol.specs.Lists.{allBelow, part, blockAt}
 use Rattle.protocol.specs.Strings.{bytesFor, bit, fromBits, spareZero}
 use Rattle.protocol.specs.Binary.{bits256}
 use Rattle.protocol.specs.Key.{rowsSpare}
-use Rattle.protocol.proofs.TestLaws.{eqb-same, eqb-eq, and-true, both-true, bool-iff, all-at, all-of}
+use Rattle.protocol.proofs.TestLaws.{eqb-same, eqb-eq, and-true, both-true, bool-iff, all-of}
 use Rattle.protocol.proofs.ListLaws.{row-end, length-block, block-getD}
 use Rattle.protocol.proofs.StringLaws.{bits-of, bits-congr, spare-at}
 

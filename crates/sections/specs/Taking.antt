@@ -3,13 +3,9 @@
 --   nextAt s at == how far has been read after it: up to the section's end; where the section is missing, no further than at
 --   bytesAt s at == the section itself, as part of s; nothing where it is missing
 --   readTo s i == how far has been read after i sections, from the front on
---   sixExact c d u v p q ls at n == the six strings have the lengths ls, and the index at is n
 -- Assumes nothing.
-use mathlib.Core.Bool.{Bool, _&&_}
 use mathlib.Core.List.{List, []}
 use Prim.Native.Nat.{ℕ, zero, suc, _-_}
-use lib.Dec.{eqb}
-use lib.ListN.{length, getD}
 use Rattle.protocol.specs.Lists.{part}
 use Rattle.protocol.specs.Reader.{Extent, between, missing, sectionAt}
 use Rattle.protocol.specs.Answers.{Answer, accepted, refused}
@@ -38,7 +34,3 @@ bytesAt s at = bytesOn s (sectionAt s at)
 unfoldable pub readTo : List ℕ → ℕ → ℕ
 readTo s zero = 0
 readTo s (suc i) = nextAt s (readTo s i)
-
-unfoldable pub sixExact : (c d u v p q ls : List ℕ) → ℕ → ℕ → Bool
-sixExact c d u v p q ls at n =
-    eqb (length c) (getD ls 0 0) && eqb (length d) (getD ls 1 0) && eqb (length u) (getD ls 2 0) && eqb (length v) (getD ls 3 0) && eqb (length p) (getD ls 4 0) && eqb (length q) (getD ls 5 0) && eqb at n

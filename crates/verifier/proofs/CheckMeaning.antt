@@ -1,12 +1,10 @@
 -- What the two checks on bytes are in 01's terms, where a table holds the verifier's vectors in its lanes.
 -- Assumes nothing.
 use mathlib.Core.Path.{_≡_, refl, sym, ap, ap₂, _∙_}
-use mathlib.Core.Bool.{Bool, true}
 use mathlib.Core.List.{List}
 use Prim.Native.Nat.{ℕ, _+_, _*_, _≤_, _<_}
 use native.Mathlib.Omega.{arith}
 use lib.Dec.{eqb}
-use lib.ListN.{length}
 use lib.Bits.{bitXor}
 use Rattle.algebra.specs.Ring.{Ring}
 use Rattle.algebra.specs.Coded.{mulByte}

@@ -1,11 +1,11 @@
 -- The first index that fails a test, from what a loop knows that looks for it; and two tests that agree below the bound.
 -- Assumes nothing.
-use mathlib.Core.Path.{_≡_, refl, sym, ap, ap₂, _∙_}
-use mathlib.Core.Bool.{Bool, true, false, false≢true}
+use mathlib.Core.Path.{_≡_, refl, ap, ap₂}
+use mathlib.Core.Bool.{Bool, true, false}
 use Prim.Native.Nat.{ℕ, zero, suc, _≤_, _<_}
 use native.Mathlib.Omega.{arith}
 use Rattle.protocol.specs.Lists.{allBelow, firstNot}
-use Rattle.protocol.proofs.TestLaws.{all-at, all-of, first-before}
+use Rattle.protocol.proofs.TestLaws.{all-of, first-before}
 
 pub first-at : (n : ℕ) (p : ℕ → Bool) (i : ℕ) → i < n → ((k : ℕ) → k < i → p k ≡ true) → p i ≡ false → firstNot n p ≡ i
 unfolding firstNot
@@ -23,14 +23,6 @@ unfolding firstNot
 first-congr zero p r same = refl
 first-congr (suc n) p r same =
     ap₂ (λ (b : Bool) (k : ℕ). elim b as (λ x. ℕ) [ true ↦ suc k | false ↦ 0 ]) (same 0 (omega arith)) (first-congr n (λ k. p (suc k)) (λ k. r (suc k)) (λ k h. same (suc k) (omega arith)))
-
--- a test that fails below the bound fails for all
-pub all-not : (n : ℕ) (p : ℕ → Bool) (i : ℕ) → i < n → p i ≡ false → allBelow n p ≡ false
-all-not n p i l fails = go (allBelow n p) refl
-  where
-    go : (b : Bool) → allBelow n p ≡ b → allBelow n p ≡ false
-    go true h = absurd (false≢true (sym fails ∙ all-at n p h i l))
-    go false h = h
 
 pub first-all : (n : ℕ) (p : ℕ → Bool) → n ≤ firstNot n p → allBelow n p ≡ true
 first-all n p h = all-of n p (λ i l. first-before n p i (omega (arith, h, l)))

@@ -1,6 +1,6 @@
 -- What an accepted answer to the verifier's questions on form says; and what the opened table is once it is loaded.
 -- Assumes nothing.
-use mathlib.Core.Path.{_≡_}
+use mathlib.Core.Path.{_≡_, sym, ap, subst, _∙_}
 use mathlib.Core.Bool.{true}
 use mathlib.Core.List.{List, [], _∷_}
 use Prim.Native.Nat.{ℕ, _*_}
@@ -8,16 +8,20 @@ use lib.ListN.{length}
 use Rattle.protocol.specs.Binary.{bits256}
 use Rattle.protocol.specs.Shape.{Shape, shapeOf, perOpened, perTree, wOf}
 use Rattle.protocol.specs.Sections.{sectionsIn}
-use Rattle.protocol.specs.Answers.{accepted, ask}
+use Rattle.protocol.specs.Answers.{Answer, accepted, ask}
 use Rattle.protocol.specs.Questions.{ΔExact, hExact, χExact, leavesExact}
-use Rattle.protocol.specs.Calls.{verifyQuestions}
+use Rattle.protocol.specs.Calls.{verifyAnswer}
 use Rattle.protocol.proofs.TestLaws.{eqb-eq, leb-le, all-true}
 use Rattle.protocol.proofs.AnswerLaws.{ask-accepts, all-yes}
 use Rattle.lanes.specs.Lanes.{lanes}
 use Rattle.tables.specs.Opened.{OpenedTableIs}
 use Rattle.format.proofs.FitLaws.{batching-of}
 use Rattle.verifier.specs.Proved.{Opened}
-use Rattle.verifier.specs.Given.{VerifyFacts}
+use Rattle.format.specs.Verdict.{andThen}
+use Rattle.format.proofs.AskLaws.{then-ask}
+use Rattle.questions.specs.Asking.{keyQuestions, verifyInputs, proofQuestions}
+use Rattle.questions.specs.Facts.{KeyFacts, ProofForm}
+use Rattle.verifier.specs.Given.{VerifyFacts, checkQuestions}
 
 challenge-of : (s : Shape) (Δ : List ℕ) → ΔExact bits256 s Δ ≡ true → length Δ ≡ s .τ
 unfolding ΔExact
@@ -27,20 +31,38 @@ opened-of : (s : Shape) (opened : List ℕ) → leavesExact bits256 s (perOpened
 unfolding leavesExact perOpened perTree
 opened-of s opened h = eqb-eq _ _ h
 
-pub verify-facts : (key Δ H′ χ opened proof : List ℕ) → ask (verifyQuestions bits256 key Δ H′ χ opened proof) ≡ accepted → VerifyFacts (shapeOf key) key Δ H′ χ opened proof
-verify-facts key Δ H′ χ opened proof h =
-    let s = shapeOf key in
-    let t = all-yes (verifyQuestions bits256 key Δ H′ χ opened proof) (ask-accepts (verifyQuestions bits256 key Δ H′ χ opened proof) .0 h) in
-    let r = t .1 .1 .1 .1 in
-    let q = all-true (ΔExact bits256 s Δ ∷ hExact bits256 s H′ ∷ χExact bits256 s χ ∷ []) (r .0) in
+-- from the acceptance of the questions on the key
+pub key-facts : (s : Shape) (key : List ℕ) → s ≡ shapeOf key → ask (keyQuestions key) ≡ accepted → KeyFacts s key
+key-facts s key e h =
+    let t = all-yes (keyQuestions key) (ask-accepts (keyQuestions key) .0 h) in
+    subst (λ (z : Shape). KeyFacts z key) (sym e) (record { header = leb-le _ _ (t .0); in-range = t .1 .0; key-exact = t .1 .1 .0; key-spare = t .1 .1 .1 .0 })
+
+-- from that, and the acceptance of those on the other inputs
+pub verify-facts : (s : Shape) (key Δ H′ χ opened proof : List ℕ) → KeyFacts s key → ask (verifyInputs s Δ H′ χ opened) ≡ accepted → ProofForm s proof → VerifyFacts s key Δ H′ χ opened proof
+verify-facts s key Δ H′ χ opened proof facts h form =
+    let t = all-yes (verifyInputs s Δ H′ χ opened) (ask-accepts (verifyInputs s Δ H′ χ opened) .0 h) in
+    let q = all-true (ΔExact bits256 s Δ ∷ hExact bits256 s H′ ∷ χExact bits256 s χ ∷ []) (t .0) in
     record {
-      of-key = record { header = leb-le _ _ (t .0); in-range = t .1 .0; key-exact = t .1 .1 .0; key-spare = t .1 .1 .1 .0 };
+      of-key = facts;
       of-challenge = challenge-of s Δ (q .0);
-      of-hash = record { hash-exact = q .1 .0; hash-spare = r .1 .0 };
+      of-hash = record { hash-exact = q .1 .0; hash-spare = t .1 .0 };
       of-batching = batching-of s χ (q .1 .1 .0);
-      of-opened = opened-of s opened (r .1 .1 .0);
-      of-proof = r .1 .1 .1 .1 .0;
+      of-opened = opened-of s opened (t .1 .1 .0);
+      of-proof = form;
     }
+
+-- the questions on the key, on the other inputs, on the proof, and the checks, each only where all before got a yes: the verifier's answer
+pub all-asked : (s : Shape) (key Δ H′ χ opened proof : List ℕ) → s ≡ shapeOf key → {a b c d : Answer} → a ≡ ask (keyQuestions key) → b ≡ ask (verifyInputs s Δ H′ χ opened)
+    → c ≡ ask (proofQuestions s proof) → d ≡ ask (checkQuestions s key Δ H′ χ opened proof) → andThen a (andThen b (andThen c d)) ≡ verifyAnswer bits256 key Δ H′ χ opened proof
+unfolding verifyAnswer
+all-asked s key Δ H′ χ opened proof e {a} {b} {c} {d} of-key of-inputs of-proof checked =
+    let z = shapeOf key in
+    then-ask (keyQuestions key) _ of-key
+    (ap (andThen a)
+    (then-ask (verifyInputs z Δ H′ χ opened) _ (of-inputs ∙ ap (λ (z : Shape). ask (verifyInputs z Δ H′ χ opened)) e)
+    (ap (andThen b)
+    (then-ask (proofQuestions z proof) (checkQuestions z key Δ H′ χ opened proof) (of-proof ∙ ap (λ (z : Shape). ask (proofQuestions z proof)) e)
+    (ap (andThen c) (checked ∙ ap (λ (z : Shape). ask (checkQuestions z key Δ H′ χ opened proof)) e))))))
 
 -- over a width that is w, and corrections that are C
 pub opened-is : (s : Shape) (Δ opened proof T C : List ℕ) (w : ℕ) → w ≡ wOf bits256 s → C ≡ sectionsIn bits256 s proof .C → length T ≡ 8 * wOf bits256 s * lanes

@@ -1,11 +1,10 @@
 -- A row's entries tested together, by one or of all differences, with masks for the bits of ũ.
 -- Assumes nothing.
 use mathlib.Core.Path.{_≡_, refl, sym, ap, ap₂, _∙_}
-use mathlib.Core.Bool.{Bool, true, false, false≢true, _&&_}
+use mathlib.Core.Bool.{_&&_}
 use mathlib.Core.List.{List}
-use Prim.Native.Nat.{ℕ, _+_, _*_, _≤_, _<_}
+use Prim.Native.Nat.{ℕ, _+_, _*_, _<_}
 use native.Mathlib.Numerals.{add-one}
-use native.Mathlib.Omega.{arith}
 use lib.Bits.{bitXor, bitAnd, bitOr, xor-self, xor-zero-l, xor-zero-r}
 use lib.Dec.{eqb}
 use lib.ListN.{length}
@@ -13,7 +12,7 @@ use Rattle.field.proofs.ProductLaws.{mask-times}
 use Rattle.protocol.specs.Lists.{allBelow}
 use Rattle.protocol.specs.Strings.{bit}
 use Rattle.protocol.proofs.StringLaws.{bit-lt}
-use Rattle.protocol.proofs.TestLaws.{bool-iff, eqb-same, eqb-eq, all-at, all-of}
+use Rattle.protocol.proofs.TestLaws.{bool-iff, eqb-same, eqb-eq}
 use Rattle.sections.proofs.SpareLaws.{or-zero, all-more}
 use Rattle.strings.specs.Sums.{byteAt}
 use Rattle.strings.proofs.XorLaws.{xor-assoc}
@@ -39,11 +38,3 @@ module _ (hashed v u : List ℕ) (δ : ℕ) where
       ∙ or-zero found _
       ∙ ap₂ _&&_ done (xor-test (byteAt hashed ρ) (bitXor (byteAt v ρ) (δ * bit u ρ)))
       ∙ rw add-one (sym (all-more ρ (λ ρ. eqb (byteAt hashed ρ) (bitXor (byteAt v ρ) (δ * bit u ρ)))))
-
-  -- a part that is not consistent
-  pub part-not : (n t : ℕ) → n ≤ t → rowConsistent hashed v u δ n ≡ false → rowConsistent hashed v u δ t ≡ false
-  part-not n t le fails = go (rowConsistent hashed v u δ t) refl
-    where
-      go : (b : Bool) → rowConsistent hashed v u δ t ≡ b → rowConsistent hashed v u δ t ≡ false
-      go true h = absurd (false≢true (sym fails ∙ all-of n _ (λ k l. all-at t _ h k (omega arith))))
-      go false h = h

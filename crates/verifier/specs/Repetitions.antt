@@ -1,5 +1,6 @@
 -- The two checks of each repetition on bytes, as the code makes them.
 --   rowConsistent hashed v u δ t == the consistency check of one repetition: hashed, of t entries, is v + δ·u
+--   RowsOf Δ t hashed v == hashed and v have a row of t entries for each repetition
 --   firstInconsistent == the first repetition whose rows of t entries do not pass it, or their number
 --   BitMasks u masks == byte i of masks is 255 where bit i of u is set, and 0 elsewhere
 --   firstDiffering == the first repetition whose left side of the product check is not QS0 + QS1·δ, or their number
@@ -22,6 +23,9 @@ rowConsistent hashed v u δ t = allBelow t (λ ρ. eqb (byteAt hashed ρ) (bitXo
 
 abbrev pub BitMasks : List ℕ → List ℕ → Type 0
 BitMasks u masks = (i : ℕ) → i < length masks → byteAt masks i ≡ bit u i * 255
+
+abbrev pub RowsOf : List ℕ → ℕ → List ℕ → List ℕ → Type 0
+RowsOf Δ t hashed v = (length hashed ≡ length Δ * t) × (length v ≡ length Δ * t)
 
 abbrev pub firstInconsistent : List ℕ → List ℕ → List ℕ → List ℕ → ℕ → ℕ
 firstInconsistent hashed v u Δ t = firstNot (length Δ) (λ e. rowConsistent (blockAt hashed t e) (blockAt v t e) u (byteAt Δ e) t)

@@ -1,14 +1,24 @@
 // The consistency check (01, verifier's rules): H·W_e = Ṽ_e + δ_e·ũ.
 ghost use mathlib.Core.Path.{_≡_};
+ghost use mathlib.Core.Bool.{true};
 ghost use mathlib.Core.List.{List};
-ghost use Prim.Native.Nat.{ℕ, _+_, _*_, _<_, _≤_};
+ghost use Prim.Native.Nat.{ℕ, _*_, _≤_};
 ghost use lib.Dec.{eqb};
 ghost use lib.ListN.{length};
-ghost use Rattle.protocol.specs.Strings.{bit};
-ghost use Rattle.verifier.specs.Repetitions.{BitMasks, rowConsistent, firstInconsistent};
-
-// Room for the bits of ũ as masks: a key has at most as many hash rows (01).
-const MASKS: usize = 160;
+ghost use Rattle.protocol.specs.Binary.{bits256};
+ghost use Rattle.protocol.specs.Shape.{limits, wOf};
+ghost use Rattle.lanes.specs.Lanes.{lanes};
+ghost use Rattle.format.specs.Sizes.{shapeFor};
+ghost use Rattle.questions.specs.Facts.{HashForm, PlacesOf};
+ghost use Rattle.verifier.specs.Repetitions.{BitMasks, RowsOf, rowConsistent, firstInconsistent};
+ghost use Rattle.verifier.specs.Proved.{FirstInconsistent};
+use format::sizes::MOST_HASH_ROWS;
+use format::sizes::Sizes;
+use lanes::LANES;
+use questions::proof::U;
+use questions::proof::V;
+use questions::proof::proof_section;
+use sections::reader::Places;
 
 // masks[ρ] is 255 where bit ρ of ũ is set, and 0 elsewhere.
 fn fill_masks(masks: &mut [u8], u: &[u8])
@@ -22,8 +32,8 @@ fn fill_masks(masks: &mut [u8], u: &[u8])
     }
 }
 
-// 0 where each of the first entries of a repetition's hash, one for each mask, is that of Ṽ plus δ times the bit of ũ. All are looked at,
-// whatever is found, so that the loop is one of whole registers.
+// 0 where each entry of a repetition's hash, one for each mask, is that of Ṽ plus δ times the bit of ũ. All are looked
+// at, whatever is found, so that the loop is one of whole registers.
 fn difference(hashed: &[u8], v: &[u8], masks: &[u8], delta: u8) -> u8
     requires { ⌜ (length (now masks) ≤ length (now hashed)) × (length (now masks) ≤ length (now v)) ⌝ }
     ensures { λ r. ⌜ ((u : List ℕ) → BitMasks u (now (masks .entry)) → eqb r 0 ≡ rowConsistent (now (hashed .entry)) (now (v .entry)) u delta (length (now (masks .entry)))) ⌝ }
@@ -37,38 +47,21 @@ fn difference(hashed: &[u8], v: &[u8], masks: &[u8], delta: u8) -> u8
     found
 }
 
-// Is each entry of a repetition's hash that of Ṽ plus δ times the bit of ũ? Those past the masks, which no key has, are taken one by one.
-fn row_consistent(hashed: &[u8], v: &[u8], u: &[u8], masks: &[u8], delta: u8) -> bool
-    requires { ⌜ (length (now v) ≡ length (now hashed)) × (length (now hashed) ≤ length (now u) * 8) × (length (now masks) ≤ length (now hashed)) × BitMasks (now u) (now masks) ⌝ }
-    ensures { λ r. ⌜ r ≡ rowConsistent (now (hashed .entry)) (now (v .entry)) (now (u .entry)) delta (length (now (hashed .entry))) ⌝ }
-{
-    if difference(hashed, v, masks, delta) != 0 {
-        return false;
-    }
-    let mut k = masks.len();
-    while k < hashed.len() {
-        if hashed[k] != v[k] ^ delta * strings::bit_at(u, k) {
-            return false;
-        }
-        k += 1;
-    }
-    true
-}
-
 // The first repetition that is not consistent, or their number where all are, with the masks made.
-fn first_of(hashed: &[u8], v: &[u8], u: &[u8], masks: &[u8], delta: &[u8], t: usize) -> usize
-    requires { ⌜ (length (now hashed) ≡ length (now delta) * t) × (length (now v) ≡ length (now delta) * t) × (t ≤ length (now u) * 8) × (length (now masks) ≤ t) × BitMasks (now u) (now masks) ⌝ }
-    ensures { λ r. ⌜ r ≡ firstInconsistent (now (hashed .entry)) (now (v .entry)) (now (u .entry)) (now (delta .entry)) t ⌝ }
+fn first_of(hashed: &[u8], v: &[u8], masks: &[u8], delta: &[u8], t: usize) -> usize
+    requires { ⌜ RowsOf (now delta) t (now hashed) (now v) × (length (now masks) ≡ t) ⌝ }
+    ensures { λ r. ⌜ ((u : List ℕ) → BitMasks u (now (masks .entry)) → r ≡ firstInconsistent (now (hashed .entry)) (now (v .entry)) u (now (delta .entry)) t) ⌝ }
 {
     let mut e = 0;
     while e < delta.len() {
-        if !row_consistent(
+        if difference(
             strings::row_at(hashed, t, e),
             strings::row_at(v, t, e),
-            u,
             masks,
             delta[e],
-        ) {
+        )
+            != 0
+        {
             return e;
         }
         e += 1;
@@ -85,19 +78,70 @@ fn first_masked(
     delta: &[u8],
     t: usize,
 ) -> usize
-    requires { ⌜ (length (now hashed) ≡ length (now delta) * t) × (length (now v) ≡ length (now delta) * t) × (t ≤ length (now u) * 8) × (length (now masks) ≤ t) ⌝ }
+    requires { ⌜ RowsOf (now delta) t (now hashed) (now v) × (length (now masks) ≡ t) × (t ≤ length (now u) * 8) ⌝ }
     ensures { λ r. ⌜ r ≡ firstInconsistent (now (hashed .entry)) (now (v .entry)) (now (u .entry)) (now (delta .entry)) t ⌝ }
 {
     fill_masks(masks, u);
-    first_of(hashed, v, u, masks, delta, t)
+    first_of(hashed, v, masks, delta, t)
 }
 
-// The first repetition that is not consistent, or their number where all are (question 14).
-pub fn first_inconsistent(hashed: &[u8], v: &[u8], u: &[u8], delta: &[u8], t: usize) -> usize
-    requires { ⌜ (length (now hashed) ≡ length (now delta) * t) × (length (now v) ≡ length (now delta) * t) × (t ≤ length (now u) * 8) ⌝ }
+// The first repetition that is not consistent, or their number where all are.
+fn first_inconsistent(hashed: &[u8], v: &[u8], u: &[u8], delta: &[u8], t: usize) -> usize
+    requires { ⌜ RowsOf (now delta) t (now hashed) (now v) × (t ≤ 160) × (t ≤ length (now u) * 8) ⌝ }
     ensures { λ r. ⌜ r ≡ firstInconsistent (now (hashed .entry)) (now (v .entry)) (now (u .entry)) (now (delta .entry)) t ⌝ }
 {
-    let mut masks = [0u8; MASKS];
-    let count = strings::least(t, MASKS);
-    first_masked(&mut masks[..count], hashed, v, u, delta, t)
+    let mut masks = [0u8; MOST_HASH_ROWS];
+    first_masked(&mut masks[..t], hashed, v, u, delta, t)
+}
+
+// Question 14 in a buffer of exact length.
+fn check_hashed(
+    hashed: &mut [u8],
+    table: &[u8],
+    matrix: &[u8],
+    delta: &[u8],
+    proof: &[u8],
+    places: Places,
+    s: Sizes,
+) -> usize
+    requires { ⌜ (limits (shapeFor s) ≡ true) × HashForm (shapeFor s) (now matrix) × PlacesOf (shapeFor s) (now proof) places × (length (now delta) ≡ s .tau) ⌝ }
+    requires { ⌜ (length (now table) ≡ 8 * wOf bits256 (shapeFor s) * lanes) × (length (now hashed) ≡ s .tau * s .t) ⌝ }
+    ensures { λ r. ⌜ FirstInconsistent (shapeFor s) (now (delta .entry)) (now (matrix .entry)) (now (proof .entry)) (now (table .entry)) r ⌝ }
+{
+    let t = s.t;
+    hash::vectors::hash_all(hashed, matrix, table, s);
+    first_inconsistent(
+        hashed,
+        proof_section(proof, places, V),
+        proof_section(proof, places, U),
+        delta,
+        t,
+    )
+}
+
+// Question 14: the first repetition that is not consistent, or their number where all are.
+pub fn check_consistency(
+    table: &[u8],
+    matrix: &[u8],
+    delta: &[u8],
+    proof: &[u8],
+    places: Places,
+    s: Sizes,
+) -> usize
+    requires { ⌜ (limits (shapeFor s) ≡ true) × HashForm (shapeFor s) (now matrix) × PlacesOf (shapeFor s) (now proof) places × (length (now delta) ≡ s .tau) ⌝ }
+    requires { ⌜ length (now table) ≡ 8 * wOf bits256 (shapeFor s) * lanes ⌝ }
+    ensures { λ r. ⌜ FirstInconsistent (shapeFor s) (now (delta .entry)) (now (matrix .entry)) (now (proof .entry)) (now (table .entry)) r ⌝ }
+{
+    let tau = s.tau;
+    let t = s.t;
+    let mut hashed = [0u8; LANES * MOST_HASH_ROWS];
+    check_hashed(
+        &mut hashed[..tau * t],
+        table,
+        matrix,
+        delta,
+        proof,
+        places,
+        s,
+    )
 }

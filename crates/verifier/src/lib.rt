@@ -1,70 +1,73 @@
-// The verifier: its questions on form, and then 14 and 15, 14 over all repetitions before 15 over any. All that it is lent is public.
-pub mod checks;
-pub mod consistency;
-pub mod differing;
-pub mod keys;
-pub mod product;
+// The verifier: its questions on form, and then 14 and 15, 14 over all repetitions before 15 over any. All that it is
+// lent is public.
+mod consistency;
+mod product;
 
 ghost use mathlib.Core.Path.{_≡_};
-ghost use mathlib.Core.List.{[], _∷_};
 ghost use Prim.Native.Nat.{_*_};
 ghost use lib.ListN.{length};
 ghost use Rattle.protocol.specs.Binary.{bits256};
-ghost use Rattle.protocol.specs.Shape.{shapeOf, wOf};
+ghost use Rattle.protocol.specs.Shape.{wOf};
 ghost use Rattle.protocol.specs.Answers.{ask};
 ghost use Rattle.protocol.specs.Calls.{verifyAnswer};
-ghost use Rattle.protocol.specs.Questions.{q14, q15};
 ghost use Rattle.lanes.specs.Lanes.{lanes};
 ghost use Rattle.format.specs.Sizes.{shapeFor};
 ghost use Rattle.format.specs.Verdict.{answerOf};
-ghost use Rattle.verifier.specs.Given.{VerifyFacts};
-use checks::check_consistency;
-use checks::check_product;
+ghost use Rattle.sections.specs.Moved.{PlacesIn};
+ghost use Rattle.verifier.specs.Given.{VerifyFacts, checkQuestions};
+use consistency::check_consistency;
 use format::Reason;
-use format::Sizes;
 use format::Verdict;
-use format::sizes::MOST_HASH_ROWS;
 use format::sizes::MOST_LEAF;
+use format::sizes::Sizes;
+use format::sizes::leaf_bytes;
+use format::sizes::sizes_of;
 use format::verdicts::answer;
 use lanes::LANES;
+use product::check_product;
+use questions::calls::verify_inputs;
+use questions::key::key_form;
+use questions::proof::C;
+use questions::proof::proof_form;
 use questions::proof::proof_section;
+use sections::reader::Places;
 
-// Both questions, in buffers of exact length.
+// Questions 14 and 15, with a table of exact length.
 fn ask_checks(
     table: &mut [u8],
-    hashed: &mut [u8],
     key: &[u8],
     delta: &[u8],
     matrix: &[u8],
     batching: &[u8],
     opened: &[u8],
     proof: &[u8],
+    places: Places,
     s: Sizes,
 ) -> Verdict
-    requires { ⌜ (shapeFor s ≡ shapeOf (now key)) × VerifyFacts (shapeFor s) (now key) (now delta) (now matrix) (now batching) (now opened) (now proof) ⌝ }
-    requires { ⌜ (length (now table) ≡ 8 * wOf bits256 (shapeFor s) * lanes) × (length (now hashed) ≡ s .tau * s .t) ⌝ }
-    ensures { λ r. ⌜ answerOf r ≡ ask (q14 bits256 (shapeFor s) (now (delta .entry)) (now (matrix .entry)) (now (opened .entry)) (now (proof .entry)) ∷ q15 bits256 (shapeFor s) (now (key .entry)) (now (delta .entry)) (now (batching .entry)) (now (opened .entry)) (now (proof .entry)) ∷ []) ⌝ }
+    requires { ⌜ VerifyFacts (shapeFor s) (now key) (now delta) (now matrix) (now batching) (now opened) (now proof) × PlacesIn (now proof) places ⌝ }
+    requires { ⌜ length (now table) ≡ 8 * wOf bits256 (shapeFor s) * lanes ⌝ }
+    ensures { λ r. ⌜ answerOf r ≡ ask (checkQuestions (shapeFor s) (now (key .entry)) (now (delta .entry)) (now (matrix .entry)) (now (batching .entry)) (now (opened .entry)) (now (proof .entry))) ⌝ }
 {
     let tau = s.tau;
-    let w = format::sizes::leaf_bytes(s);
+    let w = leaf_bytes(s);
     tables::opened::load_opened(
         table,
         opened,
         delta,
-        proof_section(proof, s, questions::proof::C),
+        proof_section(proof, places, C),
         tau,
         w,
     );
-    let inconsistent = check_consistency(hashed, table, matrix, delta, opened, proof, s);
+    let inconsistent = check_consistency(table, matrix, delta, proof, places, s);
     let consistent = answer(Reason::Inconsistent, inconsistent, tau);
     let Verdict::Accepted = consistent else {
         return consistent;
     };
-    let differing = check_product(table, key, delta, batching, opened, proof, s);
+    let differing = check_product(table, key, delta, batching, proof, places, s);
     answer(Reason::ProductDiffers, differing, tau)
 }
 
-// Both questions.
+// Questions 14 and 15.
 fn both_checks(
     key: &[u8],
     delta: &[u8],
@@ -72,25 +75,23 @@ fn both_checks(
     batching: &[u8],
     opened: &[u8],
     proof: &[u8],
+    places: Places,
     s: Sizes,
 ) -> Verdict
-    requires { ⌜ (shapeFor s ≡ shapeOf (now key)) × VerifyFacts (shapeFor s) (now key) (now delta) (now matrix) (now batching) (now opened) (now proof) ⌝ }
-    ensures { λ r. ⌜ answerOf r ≡ ask (q14 bits256 (shapeFor s) (now (delta .entry)) (now (matrix .entry)) (now (opened .entry)) (now (proof .entry)) ∷ q15 bits256 (shapeFor s) (now (key .entry)) (now (delta .entry)) (now (batching .entry)) (now (opened .entry)) (now (proof .entry)) ∷ []) ⌝ }
+    requires { ⌜ VerifyFacts (shapeFor s) (now key) (now delta) (now matrix) (now batching) (now opened) (now proof) × PlacesIn (now proof) places ⌝ }
+    ensures { λ r. ⌜ answerOf r ≡ ask (checkQuestions (shapeFor s) (now (key .entry)) (now (delta .entry)) (now (matrix .entry)) (now (batching .entry)) (now (opened .entry)) (now (proof .entry))) ⌝ }
 {
-    let tau = s.tau;
-    let t = s.t;
-    let w = format::sizes::leaf_bytes(s);
+    let w = leaf_bytes(s);
     let mut table = [0u8; 8 * MOST_LEAF * LANES];
-    let mut hashed = [0u8; LANES * MOST_HASH_ROWS];
     ask_checks(
         &mut table[..8 * w * LANES],
-        &mut hashed[..tau * t],
         key,
         delta,
         matrix,
         batching,
         opened,
         proof,
+        places,
         s,
     )
 }
@@ -106,17 +107,20 @@ pub fn verify(
 ) -> Verdict
     ensures { λ r. ⌜ answerOf r ≡ verifyAnswer bits256 (now (key .entry)) (now (delta .entry)) (now (matrix .entry)) (now (batching .entry)) (now (opened .entry)) (now (proof .entry)) ⌝ }
 {
-    let form = questions::calls::verify_form(key, delta, matrix, batching, opened, proof);
-    let Verdict::Accepted = form else {
-        return form;
+    let of_key = key_form(key);
+    let Verdict::Accepted = of_key else {
+        return of_key;
     };
-    both_checks(
-        key,
-        delta,
-        matrix,
-        batching,
-        opened,
-        proof,
-        format::sizes::sizes_of(key),
-    )
+    let s = sizes_of(key);
+    let of_inputs = verify_inputs(delta, matrix, batching, opened, s);
+    let Verdict::Accepted = of_inputs else {
+        return of_inputs;
+    };
+    let read = proof_form(proof, s);
+    let of_proof = read.answer;
+    let Verdict::Accepted = of_proof else {
+        return of_proof;
+    };
+    let places = read.places;
+    both_checks(key, delta, matrix, batching, opened, proof, places, s)
 }

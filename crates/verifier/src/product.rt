@@ -1,14 +1,52 @@
-// The left side of the product check (01, verifier's rules), in every repetition. All of it is public.
+// The product check (01, verifier's rules): K_e, the left side in every repetition, and the right side, to which it is
+// held. All of it is public.
 ghost use mathlib.Core.Path.{_≡_};
 ghost use Prim.Native.Nat.{ℕ, _+_, _*_, _<_, _≤_};
 ghost use lib.ListN.{length};
+ghost use lib.Bits.{bitXor};
 ghost use Rattle.field.specs.Gf256.{gf256};
-ghost use Rattle.protocol.specs.Strings.{bytesFor, bit};
+ghost use Rattle.protocol.specs.Strings.{bit};
+ghost use Rattle.protocol.specs.Binary.{bits256};
+ghost use Rattle.protocol.specs.Shape.{wOf};
 ghost use Rattle.strings.specs.Sums.{byteAt, xorSum};
-ghost use Rattle.lanes.specs.Lanes.{lanes};
-ghost use Rattle.verifier.specs.Product.{valueByte, productByte};
+ghost use Rattle.lanes.specs.Lanes.{lanes, laneAt};
+ghost use Rattle.format.specs.Sizes.{shapeFor};
+ghost use Rattle.questions.specs.Facts.{KeyFacts, PlacesOf};
+ghost use Rattle.verifier.specs.Product.{KeyLanes, EquationsOf, valueByte, LeftSides};
+ghost use Rattle.verifier.specs.Repetitions.{firstDiffering};
+ghost use Rattle.verifier.specs.Proved.{FirstDiffers};
 use equations::VARIABLES;
+use field::Gf256;
+use format::sizes::Sizes;
 use lanes::LANES;
+use questions::proof::D;
+use questions::proof::QS0;
+use questions::proof::QS1;
+use questions::proof::proof_section;
+use sections::reader::Places;
+
+// Adds δ_e to coordinate c of each lane, where the bit is set.
+fn add_bit(table: &mut [u8], c: usize, bit: u8, delta: &[u8])
+    requires { ⌜ (c * lanes + lanes ≤ length (now table)) × (length (now delta) ≡ lanes) × (bit < 2) ⌝ }
+    ensures { λ _. ⌜ ((e : ℕ) → e < lanes → laneAt (now (table .exit)) c e ≡ bitXor (laneAt (now (table .entry)) c e) (bit * byteAt (now (delta .entry)) e)) ⌝ }
+    ensures { λ _. ⌜ ((q e : ℕ) → (q ≡ c → ⊥) → e < lanes → laneAt (now (table .exit)) q e ≡ laneAt (now (table .entry)) q e) ⌝ }
+{
+    let at = c * LANES;
+    lanes::add_masked(&mut table[at..at + LANES], bit, delta);
+}
+
+// W_e becomes K_e in its first n coordinates; the others stay, and with them the mask's.
+fn add_difference(table: &mut [u8], d: &[u8], n: usize, delta: &[u8])
+    requires { ⌜ (n * lanes ≤ length (now table)) × (n ≤ length (now d) * 8) × (length (now delta) ≡ lanes) ⌝ }
+    ensures { λ _. ⌜ KeyLanes n (now (d .entry)) (now (delta .entry)) (now (table .entry)) (now (table .exit)) ⌝ }
+    ensures { λ _. ⌜ ((c e : ℕ) → n ≤ c → e < lanes → laneAt (now (table .exit)) c e ≡ laneAt (now (table .entry)) c e) ⌝ }
+{
+    let mut c = 0;
+    while c < n {
+        add_bit(table, c, strings::bit_at(d, c), delta);
+        c += 1;
+    }
+}
 
 // Σ_i row_i·y_i, the y_i being bits.
 fn weigh(row: &[u8], y: &[u8]) -> u8
@@ -36,22 +74,25 @@ fn batch_values(out: &mut [u8], y: &[u8], chi: &[u8], m: usize, tau: usize)
     }
 }
 
-// The left side in each repetition: the batched equations of the sections a, b, y of a key at the table's vectors, with the masks.
-pub fn product_lanes(
+// The left side in each repetition: the batched equations of the sections a, b, y of a key at the table's vectors, with
+// the masks.
+fn product_lanes(
     left: &mut [u8],
     a: &[u8],
     b: &[u8],
     y: &[u8],
     chi: &[u8],
     delta: &[u8],
-    n: usize,
-    m: usize,
-    tau: usize,
+    s: Sizes,
     table: &[u8],
 )
-    requires { ⌜ (length (now left) ≡ lanes) × (length (now delta) ≡ lanes) × (n ≤ 160) × (tau ≤ lanes) × (length (now a) ≡ m * (n * bytesFor n)) × (length (now b) ≡ m * bytesFor n) × (m ≤ length (now y) * 8) × (length (now chi) ≡ tau * m) × ((n + gf256 .degree) * lanes ≤ length (now table)) × (0 < m) × (m ≤ 160) × (0 < tau) ⌝ }
-    ensures { λ _. ⌜ ((e : ℕ) → e < tau → byteAt (now (left .exit)) e ≡ productByte n m (now (a .entry)) (now (b .entry)) (now (y .entry)) (now (chi .entry)) (byteAt (now (delta .entry)) e) (now (table .entry)) e) ⌝ }
+    requires { ⌜ EquationsOf (shapeFor s) (now a) (now b) (now y) (now chi) ⌝ }
+    requires { ⌜ (length (now left) ≡ lanes) × (length (now delta) ≡ lanes) × ((s .n + gf256 .degree) * lanes ≤ length (now table)) ⌝ }
+    ensures { λ _. ⌜ LeftSides (shapeFor s) (now (a .entry)) (now (b .entry)) (now (y .entry)) (now (chi .entry)) (now (delta .entry)) (now (table .entry)) (now (left .exit)) ⌝ }
 {
+    let n = s.n;
+    let m = s.m;
+    let tau = s.tau;
     let mut linear = [0u8; LANES];
     let mut values = [0u8; LANES];
     let mut square = [0u8; LANES];
@@ -76,4 +117,68 @@ pub fn product_lanes(
     lanes::accumulate(&mut square, delta, delta);
     lanes::accumulate(left, &square, &values);
     lanes::add_mask(left, table, n);
+}
+
+// The right side: the first repetition whose left side is not QS0_e + QS1_e·δ_e, or their number where none is.
+fn first_differing(left: &[u8], qs0: &[u8], qs1: &[u8], delta: &[u8]) -> usize
+    requires { ⌜ (length (now delta) ≤ length (now left)) × (length (now qs0) ≡ length (now delta)) × (length (now qs1) ≡ length (now delta)) ⌝ }
+    ensures { λ r. ⌜ r ≡ firstDiffering (now (left .entry)) (now (qs0 .entry)) (now (qs1 .entry)) (now (delta .entry)) ⌝ }
+{
+    let mut e = 0;
+    while e < delta.len() {
+        if left[e] != qs0[e] ^ Gf256::multiply(qs1[e], delta[e]) {
+            return e;
+        }
+        e += 1;
+    }
+    e
+}
+
+// out[e] = δ_e, in a row of lanes.
+fn load_challenge(out: &mut [u8], delta: &[u8])
+    requires { ⌜ length (now delta) ≤ length (now out) ⌝ }
+    ensures { λ _. ⌜ ((e : ℕ) → e < length (now (delta .entry)) → byteAt (now (out .exit)) e ≡ byteAt (now (delta .entry)) e) ⌝ }
+{
+    let mut e = 0;
+    while e < delta.len() {
+        out[e] = delta[e];
+        e += 1;
+    }
+}
+
+// Question 15: the first repetition whose product differs, or their number where none does. W_e becomes K_e in the table.
+pub fn check_product(
+    table: &mut [u8],
+    key: &[u8],
+    delta: &[u8],
+    batching: &[u8],
+    proof: &[u8],
+    places: Places,
+    s: Sizes,
+) -> usize
+    requires { ⌜ KeyFacts (shapeFor s) (now key) × PlacesOf (shapeFor s) (now proof) places × (length (now delta) ≡ s .tau) ⌝ }
+    requires { ⌜ (length (now batching) ≡ s .tau * s .m) × (length (now table) ≡ 8 * wOf bits256 (shapeFor s) * lanes) ⌝ }
+    ensures { λ r. ⌜ FirstDiffers (shapeFor s) (now (key .entry)) (now (delta .entry)) (now (batching .entry)) (now (proof .entry)) (now (table .entry)) r ⌝ }
+{
+    let n = s.n;
+    let mut challenge = [0u8; LANES];
+    let mut left = [0u8; LANES];
+    load_challenge(&mut challenge, delta);
+    add_difference(table, proof_section(proof, places, D), n, &challenge);
+    product_lanes(
+        &mut left,
+        questions::key::section_a(key, s),
+        questions::key::section_b(key, s),
+        questions::key::section_y(key, s),
+        batching,
+        &challenge,
+        s,
+        table,
+    );
+    first_differing(
+        &left,
+        proof_section(proof, places, QS0),
+        proof_section(proof, places, QS1),
+        delta,
+    )
 }

@@ -2,19 +2,19 @@
 -- Assumes nothing.
 use borrow.Author.Needs.{needs}
 use Prim.Native.Nat.{ℕ}
-use mathlib.Core.Path.{_≡_, subst, _∙_}
+use mathlib.Core.Path.{_≡_, _∙_}
 use mathlib.Core.Bool.{Bool}
 use mathlib.Core.List.{[], _∷_}
 use native.Mathlib.Omega.{arith}
 use denote.Ref.{now}
-use lib.Dec.{lit<}
 use Rattle.protocol.specs.Binary.{bits256}
-use Rattle.protocol.specs.Shape.{Shape}
-use Rattle.protocol.specs.Questions.{consistentIn, productIn, q14, q15}
+use Rattle.protocol.specs.Answers.{ask}
+use Rattle.protocol.specs.Questions.{consistentIn, productIn, q14}
 use Rattle.format.specs.Sizes.{shapeFor}
+use Rattle.format.specs.Verdict.{answerOf}
 use Rattle.format.proofs.AskLaws.{then-ask, go-on, stop-at}
 use Rattle.format.proofs.SizeLaws.{in-limits, w-most}
-use Rattle.questions.specs.Facts.{KeyFacts}
+use Rattle.verifier.specs.Proved.{Opened}
 use Rattle.verifier.proofs.ProvedLaws.{section-lengths}
 use Rattle.verifier.proofs.AnswerLaws.{asked-of-each}
 use Rattle.verifier.proofs.GivenLaws.{opened-is}
@@ -22,33 +22,51 @@ use Rattle.verifier.proofs.ask_checks.Statement.{statement}
 use Rattle.verifier.proofs.ask_checks.Tie as tie
 
 leaf-bytes-requires : tie.Need-leaf-bytes-requires
-leaf-bytes-requires c κs = c .before .before .before .before .before .before .before .before .pre .0 .1 .of-key .in-range
+leaf-bytes-requires c κs = search needs
 
 proof-section-requires : tie.Need-proof-section-requires
-proof-section-requires c κs =
-    let facts = c .before .before .before .before .before .before .before .before .before .before .pre .0 .1 in
-    (facts .of-key .in-range, facts .of-proof, lit< tt)
+proof-section-requires c κs = search needs
 
 load-opened-requires : tie.Need-load-opened-requires
 load-opened-requires c κs =
-    let s = c .before .before .before .before .before .before .before .before .before .before .before in
+    let s = c .before .before .before .before .before .before .before .before .before .before in
     let shape = shapeFor (s .args .s) in
-    let facts = s .pre .0 .1 in
-    rw (c .before .before .leaf-bytes .ensures)
-    (s .pre .1 .0, facts .of-opened, facts .of-challenge, c .proof-section .ensures .1 ∙ section-lengths shape .c-length, in-limits shape (facts .of-key .in-range) .τ-most, omega (arith, w-most shape (facts .of-key .in-range)))
+    let facts = s .pre .0 .0 in
+    rw (c .before .before .leaf-bytes .ensures) (
+      s .pre .1,
+      facts .of-opened,
+      facts .of-challenge,
+      c .proof-section .ensures shape (facts .of-proof) .1 ∙ section-lengths shape .c-length,
+      in-limits shape (facts .of-key .in-range) .τ-most,
+      omega (arith, w-most shape (facts .of-key .in-range)),
+    )
+
+-- the table is then W_e of every repetition
+loaded : (c : tie.After-load-opened) → let a = c .before .before .before .before .before .before .before .before .before .before .before .args in Opened (shapeFor (a .s)) (now (a .delta)) (now (a .opened)) (now (a .proof)) (c .load-opened .last .0)
+loaded c =
+    let s = c .before .before .before .before .before .before .before .before .before .before .before in
+    let a = s .args in
+    let shape = shapeFor (a .s) in
+    opened-is shape (now (a .delta)) (now (a .opened)) (now (a .proof)) (c .load-opened .last .0) (now (c .before .proof-section .result)) (c .before .before .before .leaf-bytes .result) (c .before .before .before .leaf-bytes .ensures)
+    (c .before .proof-section .ensures shape (s .pre .0 .0 .of-proof) .0) (c .load-opened .kept .0 ∙ s .pre .1) (c .load-opened .ensures)
 
 check-consistency-requires : tie.Need-check-consistency-requires
 check-consistency-requires c κs =
-    let s = c .before .before .before .before .before .before .before .before .before .before .before .before .before .before .before .before in
-    let a = s .args in
-    let facts = s .pre .0 .1 in
-    let load = c .before .before .before .before .load-opened in
-    ((facts .of-key .in-range, facts .of-hash, facts .of-proof, facts .of-challenge, opened-is (shapeFor (a .s)) (now (a .delta)) (now (a .opened)) (now (a .proof)) (load .last .0) (now (c .before .before .before .before .before .proof-section .result)) (c .before .before .before .before .before .before .before .leaf-bytes .result) (c .before .before .before .before .before .before .before .leaf-bytes .ensures) (c .before .before .before .before .before .proof-section .ensures .0) (load .kept .0 ∙ s .pre .1 .0) (load .ensures)), s .pre .1 .1)
+    let s = c .before .before .before .before .before .before .before .before .before .before .before .before .before .before in
+    let facts = s .pre .0 .0 in
+    ((facts .of-key .in-range, facts .of-hash, (facts .of-proof, s .pre .0 .1), facts .of-challenge), c .before .before .before .load-opened .kept .0 ∙ s .pre .1)
 
 answer-requires : tie.Need-answer-requires
 answer-requires c κs =
-    let s = c .before .before .before .before .before .before .before .before .before .before .before .before .before .before .before .before .before .before .before in
-    omega (arith, in-limits (shapeFor (s .args .s)) (s .pre .0 .1 .of-key .in-range) .τ-most)
+    let s = c .before .before .before .before .before .before .before .before .before .before .before .before .before .before .before in
+    omega (arith, in-limits (shapeFor (s .args .s)) (s .pre .0 .0 .of-key .in-range) .τ-most)
+
+-- the answer to question 14
+consistent : (c : tie.After-answer) → let a = c .before .before .before .before .before .before .before .before .before .before .before .before .before .before .before .before .args in answerOf (c .answer .result) ≡ ask (q14 bits256 (shapeFor (a .s)) (now (a .delta)) (now (a .matrix)) (now (a .opened)) (now (a .proof)) ∷ [])
+consistent c =
+    let a = c .before .before .before .before .before .before .before .before .before .before .before .before .before .before .before .before .args in
+    let p : ℕ → Bool = consistentIn bits256 (shapeFor (a .s)) (now (a .delta)) (now (a .matrix)) (now (a .opened)) (now (a .proof)) in
+    asked-of-each (a .s .tau) p 14 (c .before .check-consistency .result) (c .before .check-consistency .ensures (now (a .opened)) (loaded (c .before .before .before .before .before))) (c .answer .ensures)
 
 enum-told : tie.Need-enum-told
 enum-told c = search needs
@@ -59,47 +77,29 @@ enum-told-2 c = search needs
 same-length : tie.Need-same-length
 same-length c = search needs
 
-same-length-2 : tie.Need-same-length-2
-same-length-2 c = search needs
-
 returns : tie.Need-returns
-returns c =
-    let a = c .before .before .before .before .before .before .before .before .before .before .before .before .before .before .before .before .before .before .before .before .before .before .args in
-    let shape = shapeFor (a .s) in
-    let first = q14 bits256 shape (now (a .delta)) (now (a .matrix)) (now (a .opened)) (now (a .proof)) in
-    let second = q15 bits256 shape (now (a .key)) (now (a .delta)) (now (a .batching)) (now (a .opened)) (now (a .proof)) in
-    let p : ℕ → Bool = consistentIn bits256 shape (now (a .delta)) (now (a .matrix)) (now (a .opened)) (now (a .proof)) in
-    then-ask (first ∷ []) (second ∷ []) (asked-of-each (a .s .tau) p 14 (c .before .before .before .before .before .check-consistency .result) (c .before .before .before .before .before .check-consistency .ensures) (c .before .before .answer .ensures)) (stop-at _ (c .enum-told2 .given .1))
+returns c = then-ask _ _ (consistent (c .before .before)) (stop-at _ (c .enum-told2 .given .1))
 
 check-product-requires : tie.Need-check-product-requires
 check-product-requires c κs =
-    let s = c .before .before .before .before .before .before .before .before .before .before .before .before .before .before .before .before .before .before .before .before .before .before .before in
-    let a = s .args in
-    let facts = s .pre .0 .1 in
-    let load = c .before .before .before .before .before .before .before .before .before .before .before .load-opened in
-    (subst (λ (z : Shape). KeyFacts z (now (a .key))) (s .pre .0 .0) (facts .of-key), s .pre .0 .0, facts .of-proof, facts .of-challenge, facts .of-batching, opened-is (shapeFor (a .s)) (now (a .delta)) (now (a .opened)) (now (a .proof)) (load .last .0) (now (c .before .before .before .before .before .before .before .before .before .before .before .before .proof-section .result)) (c .before .before .before .before .before .before .before .before .before .before .before .before .before .before .leaf-bytes .result) (c .before .before .before .before .before .before .before .before .before .before .before .before .before .before .leaf-bytes .ensures) (c .before .before .before .before .before .before .before .before .before .before .before .before .proof-section .ensures .0) (load .kept .0 ∙ s .pre .1 .0) (load .ensures))
+    let s = c .before .before .before .before .before .before .before .before .before .before .before .before .before .before .before .before .before .before .before in
+    let facts = s .pre .0 .0 in
+    ((facts .of-key, (facts .of-proof, s .pre .0 .1), facts .of-challenge), (facts .of-batching, c .before .before .before .before .before .before .before .before .load-opened .kept .0 ∙ s .pre .1))
 
 answer-requires-2 : tie.Need-answer-requires-2
 answer-requires-2 c κs =
-    let s = c .before .before .before .before .before .before .before .before .before .before .before .before .before .before .before .before .before .before .before .before .before .before .before .before .before .before in
-    omega (arith, in-limits (shapeFor (s .args .s)) (s .pre .0 .1 .of-key .in-range) .τ-most)
+    let s = c .before .before .before .before .before .before .before .before .before .before .before .before .before .before .before .before .before .before .before .before .before .before in
+    omega (arith, in-limits (shapeFor (s .args .s)) (s .pre .0 .0 .of-key .in-range) .τ-most)
 
-same-length-3 : tie.Need-same-length-3
-same-length-3 c = search needs
-
-same-length-4 : tie.Need-same-length-4
-same-length-4 c = search needs
+same-length-2 : tie.Need-same-length-2
+same-length-2 c = search needs
 
 returns-2 : tie.Need-returns-2
 returns-2 c =
-    let a = c .before .before .before .before .before .before .before .before .before .before .before .before .before .before .before .before .before .before .before .before .before .before .before .before .before .before .before .args in
-    let shape = shapeFor (a .s) in
-    let first = q14 bits256 shape (now (a .delta)) (now (a .matrix)) (now (a .opened)) (now (a .proof)) in
-    let second = q15 bits256 shape (now (a .key)) (now (a .delta)) (now (a .batching)) (now (a .opened)) (now (a .proof)) in
-    let p : ℕ → Bool = consistentIn bits256 shape (now (a .delta)) (now (a .matrix)) (now (a .opened)) (now (a .proof)) in
-    let r : ℕ → Bool = productIn bits256 shape (now (a .key)) (now (a .delta)) (now (a .batching)) (now (a .opened)) (now (a .proof)) in
-    then-ask (first ∷ []) (second ∷ []) (asked-of-each (a .s .tau) p 14 (c .before .before .before .before .before .before .before .before .before .before .check-consistency .result) (c .before .before .before .before .before .before .before .before .before .before .check-consistency .ensures) (c .before .before .before .before .before .before .before .answer .ensures))
-    (go-on (c .before .before .before .before .before .enum-told .given .1) (asked-of-each (a .s .tau) r 15 (c .before .before .before .check-product .result) (c .before .before .before .check-product .ensures) (c .answer2 .ensures)))
+    let a = c .before .before .before .before .before .before .before .before .before .before .before .before .before .before .before .before .before .before .before .before .before .before .before .args in
+    let r : ℕ → Bool = productIn bits256 (shapeFor (a .s)) (now (a .key)) (now (a .delta)) (now (a .batching)) (now (a .opened)) (now (a .proof)) in
+    let p = c .before .before .before .check-product in
+    then-ask _ _ (consistent (c .before .before .before .before .before .before .before)) (go-on (c .before .before .before .before .before .enum-told .given .1) (asked-of-each (a .s .tau) r 15 (p .result) (p .ensures (now (a .opened)) (loaded (c .before .before .before .before .before .before .before .before .before .before .before .before))) (c .answer2 .ensures)))
 
 pub ask-checks-spec : {M : Type 1} → statement M
 ask-checks-spec =
@@ -113,10 +113,8 @@ ask-checks-spec =
     enum-told
     enum-told-2
     same-length
-    same-length-2
     returns
     check-product-requires
     answer-requires-2
-    same-length-3
-    same-length-4
+    same-length-2
     returns-2)

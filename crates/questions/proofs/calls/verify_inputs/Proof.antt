@@ -26,7 +26,7 @@ hash-matrix-form-requires c κs =
     let Δ? = d .challenge-exact .result in
     let H? = h .hash-matrix-exact .result in
     let χ? = c .batching-exact .result in
-    (d .before .before .before .before .before .before .pre, λ e. sym (h .hash-matrix-exact .ensures) ∙ and-right Δ? H? (and-left (Δ? && H?) χ? e))
+    (d .before .before .before .before .before .pre, λ e. sym (h .hash-matrix-exact .ensures) ∙ and-right Δ? H? (and-left (Δ? && H?) χ? e))
 
 sub-leaves-form : tie.Need-sub-leaves-form
 sub-leaves-form c = search needs
@@ -34,17 +34,13 @@ sub-leaves-form c = search needs
 leaves-form-requires : tie.Need-leaves-form-requires
 leaves-form-requires c κs = search needs
 
-proof-form-requires : tie.Need-proof-form-requires
-proof-form-requires c κs = search needs
-
 returns : tie.Need-returns
 unfolding perOpened perTree
 returns c =
-    let l = c .before in
-    let h = l .before in
+    let h = c .before in
     let b = h .before in
     let q = same-first 5 0 _ (all-three (b .before .before .challenge-exact .ensures) (b .before .hash-matrix-exact .ensures) (b .batching-exact .ensures)) (h .hash-matrix-form .ensures) in
-    then-ask _ _ (then-ask _ _ q (l .leaves-form .ensures)) (c .proof-form .ensures)
+    then-ask _ _ q (c .leaves-form .ensures)
 
 pub verify-inputs-spec : {M : Type 1} → statement M
 verify-inputs-spec =
@@ -56,5 +52,4 @@ verify-inputs-spec =
     hash-matrix-form-requires
     sub-leaves-form
     leaves-form-requires
-    proof-form-requires
     returns)

@@ -10,12 +10,13 @@ use lib.ListN.{drop}
 use Rattle.protocol.specs.Frames.{framed}
 use Rattle.protocol.specs.Binary.{bits256}
 use Rattle.protocol.specs.Shape.{shapeOf, limits}
-use Rattle.protocol.specs.Key.{keyLengths, keyExact}
+use Rattle.protocol.specs.Key.{keyLengths, keyExact, keySpare}
 use Rattle.protocol.specs.Answers.{question, ask}
 use Rattle.protocol.proofs.TestLaws.{leb-yes, leb-no}
 use Rattle.format.specs.Verdict.{answerOf}
 use Rattle.questions.specs.Asking.{KeyForm}
 use Rattle.format.proofs.AskLaws.{no-of, yes-of, says-no, says-yes, said-yes, stop-at, then-ask, same-first, same-also}
+use Rattle.questions.proofs.KeyLaws.{sized-key}
 use Rattle.questions.proofs.key.key_form.Statement.{statement}
 use Rattle.questions.proofs.key.key_form.Tie as tie
 
@@ -85,7 +86,9 @@ returns-3 c =
     says-yes _ 1 0 _ (leb-yes 8 _ (q .before .before .before .if1 .left)) (says-yes _ 2 0 _ (sized q) (then-ask _ _ (exact p) (stop-at _ (c .enum-told2 .given .1))))
 
 key-spare-requires : tie.Need-key-spare-requires
-key-spare-requires c κs = formed c
+key-spare-requires c κs =
+    let p = c .before .before in
+    sized-key _ (keyAt p) (p .before .before .before .before .before .sizes-of .ensures) (formed c)
 
 also-requires : tie.Need-also-requires
 also-requires c κs = search needs
@@ -94,7 +97,7 @@ returns-4 : tie.Need-returns-4
 returns-4 c =
     let p = c .before .before in
     let f = formed p in
-    says-yes _ 1 0 _ (leb-yes 8 _ (f .header)) (says-yes _ 2 0 _ (f .sizes) (then-ask _ _ (exact (p .before .before)) (same-also 4 _ (c .before .key-spare .ensures) (c .also .ensures))))
+    says-yes _ 1 0 _ (leb-yes 8 _ (f .header)) (says-yes _ 2 0 _ (f .sizes) (then-ask _ _ (exact (p .before .before)) (same-also 4 _ (c .before .key-spare .ensures ∙ ap (λ S. keySpare bits256 S (keyAt (p .before .before))) (p .before .before .before .before .before .before .before .sizes-of .ensures)) (c .also .ensures))))
 
 pub key-form-spec : {M : Type 1} → statement M
 key-form-spec =

@@ -1,6 +1,6 @@
 -- `sections::reader::step_at` meets its contract: the section that `find` found; or the refusal 12, place 0, nothing, and no further.
 -- Assumes nothing.
-use mathlib.Core.Path.{ap, _∙_, refl}
+use mathlib.Core.Path.{ap, _∙_}
 use native.Mathlib.Omega.{arith}
 use borrow.Author.Needs.{needs}
 use Rattle.protocol.specs.Lists.{part}

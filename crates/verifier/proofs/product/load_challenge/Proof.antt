@@ -1,15 +1,15 @@
--- `verifier::checks::load_challenge` meets its contract. Each element is changed once (`Elementwise`).
+-- `verifier::product::load_challenge` meets its contract. Each element is changed once (`Elementwise`).
 -- Assumes nothing.
 use borrow.Author.Needs.{needs}
-use Prim.Native.Nat.{ℕ, _-_, _≤_, _<_}
+use Prim.Native.Nat.{_-_, _≤_}
 use mathlib.Core.Path.{_≡_, refl}
 use native.Mathlib.Omega.{arith}
 use denote.Ref.{now}
 use lib.ListN.{length, length-set}
 use Rattle.strings.specs.Sums.{byteAt}
 use Rattle.strings.proofs.Elementwise.{changed, changed-more, changed-at}
-use Rattle.verifier.proofs.checks.load_challenge.Statement.{statement}
-use Rattle.verifier.proofs.checks.load_challenge.Tie as tie
+use Rattle.verifier.proofs.product.load_challenge.Statement.{statement}
+use Rattle.verifier.proofs.product.load_challenge.Tie as tie
 
 abbrev Inv-loop : tie.InvT-loop
 Inv-loop out₀ delta e₀ out e = (e ≤ length delta) × (out ≡ changed (λ k y. byteAt delta k) out₀ e) × (length out ≡ length out₀)

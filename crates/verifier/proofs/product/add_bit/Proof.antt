@@ -1,4 +1,4 @@
--- `verifier::keys::add_bit` meets its contract. The part that was lent is row c, and the others stand outside it.
+-- `verifier::product::add_bit` meets its contract. The part that was lent is row c, and the others stand outside it.
 -- Assumes nothing.
 use borrow.Author.Needs.{needs}
 use Prim.Native.Nat.{ℕ, _+_, _*_, _-_, _≤_, _<_}
@@ -12,8 +12,8 @@ use Rattle.protocol.specs.Lists.{part, blockAt}
 use Rattle.strings.specs.Sums.{byteAt}
 use Rattle.strings.proofs.Rows.{put-in, put-other, row-byte}
 use Rattle.lanes.specs.Lanes.{lanes}
-use Rattle.verifier.proofs.keys.add_bit.Statement.{statement}
-use Rattle.verifier.proofs.keys.add_bit.Tie as tie
+use Rattle.verifier.proofs.product.add_bit.Statement.{statement}
+use Rattle.verifier.proofs.product.add_bit.Tie as tie
 
 mul-at : tie.Need-mul-at
 mul-at c = search needs

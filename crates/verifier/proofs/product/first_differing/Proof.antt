@@ -1,4 +1,4 @@
--- `verifier::differing::first_differing` meets its contract. The invariant: the repetitions passed hold.
+-- `verifier::product::first_differing` meets its contract. The invariant: the repetitions passed hold.
 -- Assumes nothing.
 use borrow.Author.Needs.{needs}
 use borrow.Author.Count.{below-more}
@@ -15,8 +15,8 @@ use Rattle.field.specs.Gf256.{gf256}
 use Rattle.protocol.proofs.TestLaws.{eqb-same, eqb-other}
 use Rattle.strings.specs.Sums.{byteAt}
 use Rattle.verifier.proofs.FirstLaws.{first-at, first-none}
-use Rattle.verifier.proofs.differing.first_differing.Statement.{statement}
-use Rattle.verifier.proofs.differing.first_differing.Tie as tie
+use Rattle.verifier.proofs.product.first_differing.Statement.{statement}
+use Rattle.verifier.proofs.product.first_differing.Tie as tie
 
 abbrev Inv-loop : tie.InvT-loop
 Inv-loop left qs0 qs1 delta e₀ e = (e ≤ length delta) × ((k : ℕ) → k < e → eqb (byteAt left k) (bitXor (byteAt qs0 k) (mulByte gf256 (byteAt qs1 k) (byteAt delta k))) ≡ true)

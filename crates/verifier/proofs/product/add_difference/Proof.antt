@@ -1,8 +1,8 @@
--- `verifier::keys::add_difference` meets its contract. The invariant: the coordinates passed are changed, and no other.
+-- `verifier::product::add_difference` meets its contract. The invariant: the coordinates passed are changed, and no other.
 -- Assumes nothing.
 use borrow.Author.Needs.{needs}
-use Prim.Native.Nat.{ℕ, _+_, _*_, _-_, _≤_, _<_}
-use mathlib.Core.Path.{_≡_, refl, ap, ap₂, _∙_}
+use Prim.Native.Nat.{ℕ, _*_, _-_, _≤_, _<_}
+use mathlib.Core.Path.{_≡_, refl, ap₂, _∙_}
 use mathlib.Core.Logic.{⊎-elim}
 use native.Mathlib.Nat.{eq-or-lt-of-le, le-of-suc-le-suc}
 use native.Mathlib.Numerals.{add-one}
@@ -15,8 +15,8 @@ use Rattle.protocol.proofs.StringLaws.{bit-lt}
 use Rattle.strings.specs.Sums.{byteAt}
 use Rattle.strings.proofs.Rows.{row-end}
 use Rattle.lanes.specs.Lanes.{lanes, laneAt}
-use Rattle.verifier.proofs.keys.add_difference.Statement.{statement}
-use Rattle.verifier.proofs.keys.add_difference.Tie as tie
+use Rattle.verifier.proofs.product.add_difference.Statement.{statement}
+use Rattle.verifier.proofs.product.add_difference.Tie as tie
 
 abbrev Inv-loop : tie.InvT-loop
 Inv-loop table₀ d n delta c₀ table c = (c ≤ n) × (length table ≡ length table₀) × ((q e : ℕ) → q < c → e < lanes → laneAt table q e ≡ bitXor (laneAt table₀ q e) (bit d q * byteAt delta e)) × ((q e : ℕ) → c ≤ q → e < lanes → laneAt table q e ≡ laneAt table₀ q e)

@@ -1,0 +1,43 @@
+-- `verifier::consistency::check_consistency` meets its contract: the buffer holds the hashes of the largest key, and so those of this one.
+-- Assumes nothing.
+use mathlib.Core.Path.{sym}
+use Prim.Native.Nat.{_*_}
+use native.Mathlib.Omega.{arith}
+use Rattle.format.specs.Sizes.{shapeFor}
+use Rattle.format.proofs.FitLaws.{room}
+use Rattle.sections.proofs.Writes.{prefix-length}
+use Rattle.verifier.proofs.consistency.check_consistency.Statement.{statement}
+use Rattle.verifier.proofs.consistency.check_consistency.Tie as tie
+
+mul-hashed : tie.Need-mul-hashed
+mul-hashed c =
+    let s = c .before .before .before .before in
+    omega (arith, room (shapeFor (s .args .s)) (s .pre .0 .0) .hashed-room)
+
+array-borrow-prefix-hashed : tie.Need-array-borrow-prefix-hashed
+array-borrow-prefix-hashed c =
+    let s = c .before .before .before .before in
+    room (shapeFor (s .args .s)) (s .pre .0 .0) .hashed-room
+
+slice-aggregate-check-hashed : tie.Need-slice-aggregate-check-hashed
+slice-aggregate-check-hashed c =
+    let s = c .before .before .before .before .before in
+    sym (prefix-length (s .args .s .tau * s .args .s .t) 7680 (room (shapeFor (s .args .s)) (s .pre .0 .0) .hashed-room))
+
+check-hashed-requires : tie.Need-check-hashed-requires
+check-hashed-requires c κs =
+    let s = c .before .before .before .before .before in
+    (s .pre .0, (s .pre .1, prefix-length (s .args .s .tau * s .args .s .t) 7680 (room (shapeFor (s .args .s)) (s .pre .0 .0) .hashed-room)))
+
+returns : tie.Need-returns
+returns c = c .before .check-hashed .ensures
+
+pub check-consistency-spec : {M : Type 1} → statement M
+check-consistency-spec =
+    tie.close
+    (tie.spec
+    mul-hashed
+    array-borrow-prefix-hashed
+    slice-aggregate-check-hashed
+    check-hashed-requires
+    returns)
