@@ -1,7 +1,7 @@
 -- The edges, computed on the definitions.
 -- Assumes nothing.
 use mathlib.Core.Path.{refl}
-use Rattle.protocol.specs.SmallSitting.{key, witness, leaves, H′, χ, Δ, proof, opened}
+use Rattle.protocol.specs.SmallExample.{key, witness, leaves, H′, χ, Δ, proof, opened}
 use Rattle.protocol.specs.Edges.{Limits, Forms, Order, Steps, Words}
 use Rattle.protocol.proofs.Computing.{computing}
 

@@ -1,5 +1,5 @@
 pub mod Computing
-pub mod SmallSitting
+pub mod SmallExample
 pub mod Edges
 pub mod Agreement
 pub mod TestLaws

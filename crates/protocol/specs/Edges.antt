@@ -1,5 +1,5 @@
 -- Where a no begins: at the sizes, at spare bits and exact lengths, and where two questions get a no. proofs/Edges computes each statement.
--- Key, leaves and proof are those of SmallSitting with bytes changed; where a spare bit is set, it is one of the last row.
+-- Key, leaves and proof are those of SmallExample with bytes changed; where a spare bit is set, it is one of the last row.
 --   allowed n m τ t == the limits admit these sizes
 -- Assumes nothing.
 use mathlib.Core.Path.{_≡_}
@@ -13,7 +13,7 @@ use Rattle.protocol.specs.Sections.{sectionsIn}
 use Rattle.protocol.specs.Answers.{Answer, accepted, refused, word}
 use Rattle.protocol.specs.Questions.{hSpare, leavesSpare, witnessForm, solves, proofSpare}
 use Rattle.protocol.specs.Calls.{testAnswer, commitAnswer, hashAnswer, batchAnswer, proveAnswer, verifyAnswer}
-use Rattle.protocol.specs.SmallSitting.{bits16, changed, sizes, key, witness, leaves, H′, χ, Δ, proof, opened}
+use Rattle.protocol.specs.SmallExample.{bits16, changed, sizes, key, witness, leaves, H′, χ, Δ, proof, opened}
 
 abbrev pub allowed : ℕ → ℕ → ℕ → ℕ → Bool
 allowed n m τ t = limits (record { n = n; m = m; τ = τ; t = t })

@@ -19,5 +19,5 @@ pub mod Coefficients
 pub mod Check
 pub mod Statements
 pub mod Demands
-pub mod SmallSitting
+pub mod SmallExample
 pub mod Edges
