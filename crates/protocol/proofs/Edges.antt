@@ -2,7 +2,7 @@
 -- Assumes nothing.
 use mathlib.Core.Path.{refl}
 use Rattle.protocol.specs.SmallExample.{key, witness, leaves, H′, χ, Δ, proof, opened}
-use Rattle.protocol.specs.Edges.{Limits, Forms, Order, Steps, Words}
+use Rattle.protocol.specs.Edges.{Limits, Forms, Numbers, Lengths, Order, Steps, Words}
 use Rattle.protocol.proofs.Computing.{computing}
 
 pub limits-are : Limits
@@ -25,25 +25,74 @@ unfolding computing key witness leaves H′ proof opened
 forms-are = record {
   key-exact = refl;
   count-wrong = refl;
+  count-second = refl;
+  count-third = refl;
+  count-fourth = refl;
   key-long = refl;
   key-spare = refl;
   A-spare-set = refl;
+  A-first-row = refl;
   b-spare-set = refl;
+  b-first-row = refl;
   y-spare-set = refl;
+  y-last = refl;
   H-spare = refl;
   H-spare-set = refl;
+  H-first-row = refl;
   leaves-spare = refl;
   leaves-spare-set = refl;
+  leaves-first-row = refl;
   opened-spare = refl;
   opened-spare-set = refl;
+  opened-first-row = refl;
   witness-form = refl;
   witness-spare-set = refl;
+  witness-last = refl;
   proof-spare = refl;
   C-spare-set = refl;
   d-spare-set = refl;
+  d-last = refl;
   ũ-spare-set = refl;
+  ũ-last = refl;
   solved = refl;
   not-solved = refl;
+}
+
+pub numbers-are : Numbers
+unfolding computing
+numbers-are = record {
+  num2-is = refl;
+  num4-is = refl;
+  count4-is = refl;
+}
+
+pub lengths-are : Lengths
+unfolding computing key witness leaves H′ χ Δ proof opened
+lengths-are = record {
+  test-empty = refl;
+  commit-empty = refl;
+  hash-empty = refl;
+  batch-empty = refl;
+  prove-empty = refl;
+  verify-empty = refl;
+  header-short = refl;
+  header-alone = refl;
+  n-high = refl;
+  m-high = refl;
+  τ-high = refl;
+  t-high = refl;
+  Δ-long = refl;
+  Δ-short = refl;
+  H-long = refl;
+  H-short = refl;
+  χ-long = refl;
+  χ-short = refl;
+  hash-long = refl;
+  prove-H-long = refl;
+  prove-χ-long = refl;
+  opened-short = refl;
+  count-third = refl;
+  proof-long = refl;
 }
 
 pub order-is : Order

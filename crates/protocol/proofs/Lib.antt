@@ -1,5 +1,7 @@
 pub mod Computing
+pub mod QuestionNumbers
 pub mod SmallExample
+pub mod ThreeRepetitions
 pub mod Edges
 pub mod Agreement
 pub mod TestLaws

@@ -1,12 +1,14 @@
 -- Where a no begins: at the sizes, at spare bits and exact lengths, and where two questions get a no. proofs/Edges computes each statement.
--- Key, leaves and proof are those of SmallExample with bytes changed; where a spare bit is set, it is one of the last row.
+-- Key, leaves and proof are those of SmallExample with bytes changed. A spare bit that is set is the first one of the last row
+-- (A-spare-set), the last one of the first row (A-first-row), or the last one of the only row (y-last).
 --   allowed n m τ t == the limits admit these sizes
 -- Assumes nothing.
 use mathlib.Core.Path.{_≡_}
 use mathlib.Core.Bool.{Bool, true, false}
 use mathlib.Core.List.{List, [], _∷_, _++_}
 use Prim.Native.Nat.{ℕ}
-use lib.ListN.{replicate}
+use lib.ListN.{replicate, take}
+use Rattle.protocol.specs.Frames.{num2, num4, count4}
 use Rattle.protocol.specs.Shape.{limits, perTree, perOpened}
 use Rattle.protocol.specs.Key.{keyExact, keySpare}
 use Rattle.protocol.specs.Sections.{sectionsIn}
@@ -33,25 +35,70 @@ pub record Limits : Type 0 where
 pub record Forms : Type 0 where
   pub key-exact : keyExact bits16 sizes key ≡ true
   pub count-wrong : keyExact bits16 sizes (changed key 8 0x01) ≡ false
+  pub count-second : keyExact bits16 sizes (changed key 9 0x01) ≡ false
+  pub count-third : keyExact bits16 sizes (changed key 10 0x01) ≡ false
+  pub count-fourth : keyExact bits16 sizes (changed key 11 0x01) ≡ false
   pub key-long : keyExact bits16 sizes (key ++ (0x00 ∷ [])) ≡ false
   pub key-spare : keySpare bits16 sizes key ≡ true
   pub A-spare-set : keySpare bits16 sizes (changed key 47 0x02) ≡ false
+  pub A-first-row : keySpare bits16 sizes (changed key 13 0x80) ≡ false
   pub b-spare-set : keySpare bits16 sizes (changed key 55 0x02) ≡ false
+  pub b-first-row : keySpare bits16 sizes (changed key 53 0x80) ≡ false
   pub y-spare-set : keySpare bits16 sizes (changed key 60 0x04) ≡ false
+  pub y-last : keySpare bits16 sizes (changed key 60 0x80) ≡ false
   pub H-spare : hSpare bits16 sizes H′ ≡ true
   pub H-spare-set : hSpare bits16 sizes (changed H′ 3 0x20) ≡ false
+  pub H-first-row : hSpare bits16 sizes (changed H′ 1 0x80) ≡ false
   pub leaves-spare : leavesSpare bits16 sizes (perTree bits16) leaves ≡ true
   pub leaves-spare-set : leavesSpare bits16 sizes (perTree bits16) (changed leaves 63 0x80) ≡ false
+  pub leaves-first-row : leavesSpare bits16 sizes (perTree bits16) (changed leaves 1 0x80) ≡ false
   pub opened-spare : leavesSpare bits16 sizes (perOpened bits16) opened ≡ true
   pub opened-spare-set : leavesSpare bits16 sizes (perOpened bits16) (changed opened 59 0x80) ≡ false
+  pub opened-first-row : leavesSpare bits16 sizes (perOpened bits16) (changed opened 1 0x80) ≡ false
   pub witness-form : witnessForm bits16 sizes witness ≡ true
   pub witness-spare-set : witnessForm bits16 sizes (changed witness 1 0x02) ≡ false
+  pub witness-last : witnessForm bits16 sizes (changed witness 1 0x80) ≡ false
   pub proof-spare : proofSpare bits16 sizes (sectionsIn bits16 sizes proof) ≡ true
   pub C-spare-set : proofSpare bits16 sizes (sectionsIn bits16 sizes (changed proof 5 0x80)) ≡ false
   pub d-spare-set : proofSpare bits16 sizes (sectionsIn bits16 sizes (changed proof 11 0x02)) ≡ false
+  pub d-last : proofSpare bits16 sizes (sectionsIn bits16 sizes (changed proof 11 0x80)) ≡ false
   pub ũ-spare-set : proofSpare bits16 sizes (sectionsIn bits16 sizes (changed proof 16 0x04)) ≡ false
+  pub ũ-last : proofSpare bits16 sizes (sectionsIn bits16 sizes (changed proof 16 0x80)) ≡ false
   pub solved : solves bits16 sizes key witness ≡ true
   pub not-solved : solves bits16 sizes key (changed witness 0 0x01) ≡ false
+
+-- Numbers in bytes, lowest first.
+pub record Numbers : Type 0 where
+  pub num2-is : num2 (0x01 ∷ 0x02 ∷ []) 0 ≡ 0x0201
+  pub num4-is : num4 (0x01 ∷ 0x02 ∷ 0x03 ∷ 0x04 ∷ []) 0 ≡ 0x04030201
+  pub count4-is : count4 0x04030201 ≡ 0x01 ∷ 0x02 ∷ 0x03 ∷ 0x04 ∷ []
+
+-- A key without a whole header; a size whose high byte is set; a count whose third byte is set; a byte too many or too few.
+pub record Lengths : Type 0 where
+  pub test-empty : testAnswer bits16 [] witness 0 ≡ refused 1 0
+  pub commit-empty : commitAnswer bits16 [] leaves witness [] 0 ≡ refused 1 0
+  pub hash-empty : hashAnswer bits16 [] leaves H′ [] ≡ refused 1 0
+  pub batch-empty : batchAnswer bits16 [] leaves witness χ [] 0 ≡ refused 1 0
+  pub prove-empty : proveAnswer bits16 [] leaves witness H′ χ [] 0 ≡ refused 1 0
+  pub verify-empty : verifyAnswer bits16 [] Δ H′ χ opened proof ≡ refused 1 0
+  pub header-short : testAnswer bits16 (take 7 key) witness 0 ≡ refused 1 0
+  pub header-alone : testAnswer bits16 (take 8 key) witness 0 ≡ refused 3 0
+  pub n-high : testAnswer bits16 (changed key 1 0x01) witness 0 ≡ refused 2 0
+  pub m-high : testAnswer bits16 (changed key 3 0x01) witness 0 ≡ refused 2 0
+  pub τ-high : testAnswer bits16 (changed key 5 0x01) witness 0 ≡ refused 2 0
+  pub t-high : testAnswer bits16 (changed key 7 0x01) witness 0 ≡ refused 2 0
+  pub Δ-long : verifyAnswer bits16 key (Δ ++ (0x00 ∷ [])) H′ χ opened proof ≡ refused 5 0
+  pub Δ-short : verifyAnswer bits16 key (take 1 Δ) H′ χ opened proof ≡ refused 5 0
+  pub H-long : verifyAnswer bits16 key Δ (H′ ++ (0x00 ∷ [])) χ opened proof ≡ refused 5 0
+  pub H-short : verifyAnswer bits16 key Δ (take 3 H′) χ opened proof ≡ refused 5 0
+  pub χ-long : verifyAnswer bits16 key Δ H′ (χ ++ (0x00 ∷ [])) opened proof ≡ refused 5 0
+  pub χ-short : verifyAnswer bits16 key Δ H′ (take 3 χ) opened proof ≡ refused 5 0
+  pub hash-long : hashAnswer bits16 key leaves (H′ ++ (0x00 ∷ [])) [] ≡ refused 5 0
+  pub prove-H-long : proveAnswer bits16 key leaves witness (H′ ++ (0x00 ∷ [])) χ [] 0 ≡ refused 5 0
+  pub prove-χ-long : proveAnswer bits16 key leaves witness H′ (χ ++ (0x00 ∷ [])) [] 0 ≡ refused 5 0
+  pub opened-short : verifyAnswer bits16 key Δ H′ χ (take 59 opened) proof ≡ refused 7 0
+  pub count-third : verifyAnswer bits16 key Δ H′ χ opened (changed proof 2 0x01) ≡ refused 12 0
+  pub proof-long : verifyAnswer bits16 key Δ H′ χ opened (proof ++ (0x00 ∷ [])) ≡ refused 12 0
 
 -- Two questions get a no, and the first in 01's order refuses.
 pub record Order : Type 0 where

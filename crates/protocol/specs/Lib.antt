@@ -20,4 +20,6 @@ pub mod Check
 pub mod Statements
 pub mod Demands
 pub mod SmallExample
+pub mod ThreeRepetitions
+pub mod QuestionNumbers
 pub mod Edges

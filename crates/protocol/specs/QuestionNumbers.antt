@@ -1,0 +1,21 @@
+-- The questions that each call puts, by their numbers and in order, whatever the call is lent. proofs/QuestionNumbers computes each statement.
+--   numbers qs == the numbers of the questions qs, in order
+--   QuestionNumbers A == 01's list of questions, as far as it concerns each call's inputs
+-- Assumes nothing.
+use mathlib.Core.Path.{_≡_}
+use mathlib.Core.List.{List, [], _∷_, map}
+use Prim.Native.Nat.{ℕ}
+use Rattle.protocol.specs.Alphabet.{Alphabet}
+use Rattle.protocol.specs.Answers.{Question}
+use Rattle.protocol.specs.Calls.{testPuts, commitPuts, hashQuestions, batchPuts, provePuts, verifyPuts}
+
+abbrev pub numbers : List Question → List ℕ
+numbers qs = map (λ x. x .number) qs
+
+pub record QuestionNumbers (A : Alphabet) : Type 0 where
+  pub test-puts : (key x : List ℕ) (p : ℕ) → numbers (testPuts A key x p) ≡ 1 ∷ 2 ∷ 3 ∷ 4 ∷ 9 ∷ 11 ∷ []
+  pub commit-puts : (key leaves x out : List ℕ) (p : ℕ) → numbers (commitPuts A key leaves x out p) ≡ 1 ∷ 2 ∷ 3 ∷ 4 ∷ 7 ∷ 8 ∷ 9 ∷ 10 ∷ 11 ∷ []
+  pub hash-puts : (key leaves H′ out : List ℕ) → numbers (hashQuestions A key leaves H′ out) ≡ 1 ∷ 2 ∷ 3 ∷ 4 ∷ 5 ∷ 6 ∷ 7 ∷ 8 ∷ 10 ∷ []
+  pub batch-puts : (key leaves x χ out : List ℕ) (p : ℕ) → numbers (batchPuts A key leaves x χ out p) ≡ 1 ∷ 2 ∷ 3 ∷ 4 ∷ 5 ∷ 7 ∷ 8 ∷ 9 ∷ 10 ∷ 11 ∷ []
+  pub prove-puts : (key leaves x H′ χ out : List ℕ) (p : ℕ) → numbers (provePuts A key leaves x H′ χ out p) ≡ 1 ∷ 2 ∷ 3 ∷ 4 ∷ 5 ∷ 6 ∷ 7 ∷ 8 ∷ 9 ∷ 10 ∷ 11 ∷ []
+  pub verify-puts : (key Δ H′ χ opened proof : List ℕ) → numbers (verifyPuts A key Δ H′ χ opened proof) ≡ 1 ∷ 2 ∷ 3 ∷ 4 ∷ 5 ∷ 6 ∷ 7 ∷ 8 ∷ 12 ∷ 13 ∷ 14 ∷ 15 ∷ []
