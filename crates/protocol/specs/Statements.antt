@@ -78,6 +78,13 @@ module _ (A : Alphabet) where
     pub batch-refuses : (key leaves x χ out : List ℕ) (a : Answer) → batchForm A key leaves x χ out ≡ true → BatchReply A key leaves x χ out a → RefusedIff key x a
     pub prove-refuses : (key leaves x H′ χ out : List ℕ) (a : Answer) → proveForm A key leaves x H′ χ out ≡ true → ProveReply A key leaves x H′ χ out a → RefusedIff key x a
 
+  -- For all inputs there is a reply that the papers allow.
+  pub record AlwaysReplies : Type 0 where
+    pub test-replies : (key x : List ℕ) → (a : Answer) × TestReply A key x a
+    pub commit-replies : (key leaves x out : List ℕ) → (a : Answer) × CommitReply A key leaves x out a
+    pub batch-replies : (key leaves x χ out : List ℕ) → (a : Answer) × BatchReply A key leaves x χ out a
+    pub prove-replies : (key leaves x H′ χ out : List ℕ) → (a : Answer) × ProveReply A key leaves x H′ χ out a
+
   -- The two descriptions of opened leaves agree, and what is opened has the right form.
   abbrev pub OpenedByPlace : Type 0
   OpenedByPlace = (s : Shape) (leaves Δ : List ℕ) → leavesExact A s (perTree A) leaves ≡ true → ((e : ℕ) → e < s .τ → getD Δ e 0 < size)
