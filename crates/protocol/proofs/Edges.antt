@@ -1,8 +1,9 @@
 -- The edges, computed on the definitions.
 -- Assumes nothing.
 use mathlib.Core.Path.{refl}
+use Rattle.protocol.specs.Reader.{sectionAt}
 use Rattle.protocol.specs.SmallExample.{key, witness, leaves, H′, χ, Δ, proof, opened}
-use Rattle.protocol.specs.Edges.{Limits, Forms, Numbers, Lengths, Order, Steps, Words}
+use Rattle.protocol.specs.Edges.{Limits, Forms, Numbers, Lengths, Order, Derived, Extents, Words}
 use Rattle.protocol.proofs.Computing.{computing}
 
 pub limits-are : Limits
@@ -47,6 +48,8 @@ forms-are = record {
   opened-first-row = refl;
   witness-form = refl;
   witness-spare-set = refl;
+  witness-long = refl;
+  witness-short = refl;
   witness-last = refl;
   proof-spare = refl;
   C-spare-set = refl;
@@ -69,30 +72,16 @@ numbers-are = record {
 pub lengths-are : Lengths
 unfolding computing key witness leaves H′ χ Δ proof opened
 lengths-are = record {
-  test-empty = refl;
-  commit-empty = refl;
-  hash-empty = refl;
-  batch-empty = refl;
-  prove-empty = refl;
-  verify-empty = refl;
   header-short = refl;
   header-alone = refl;
-  n-high = refl;
   m-high = refl;
   τ-high = refl;
   t-high = refl;
   Δ-long = refl;
   Δ-short = refl;
-  H-long = refl;
   H-short = refl;
-  χ-long = refl;
   χ-short = refl;
-  hash-long = refl;
-  prove-H-long = refl;
-  prove-χ-long = refl;
-  opened-short = refl;
   count-third = refl;
-  proof-long = refl;
 }
 
 pub order-is : Order
@@ -106,22 +95,32 @@ order-is = record {
   nine-ten = refl;
   ten-eleven = refl;
   eleven = refl;
-  none = refl;
 }
 
-pub steps-are : Steps
-unfolding computing key witness leaves H′ χ
-steps-are = record {
-  test-taken = refl;
-  test-eleven = refl;
-  commit-taken = refl;
-  commit-ten = refl;
-  hash-taken = refl;
-  hash-six = refl;
-  batch-taken = refl;
-  batch-five = refl;
+pub derived-are : Derived
+unfolding computing
+derived-are = record {
+  k-is = refl;
+  L-is = refl;
+  w-is = refl;
+  tree-is = refl;
+  opened-is = refl;
+}
+
+pub extents-are : Extents
+unfolding computing sectionAt proof
+extents-are = record {
+  first = refl;
+  last = refl;
+  cut = refl;
+  count-cut = refl;
+  at-end = refl;
+  count-third = refl;
 }
 
 pub words-are : Words
 unfolding computing
-words-are = record { accepted-is = refl; refused-is = refl }
+words-are = record {
+  accepted-is = refl;
+  refused-is = refl;
+}

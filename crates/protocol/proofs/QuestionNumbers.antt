@@ -12,4 +12,6 @@ question-numbers A = record {
   batch-puts = λ key leaves x χ out p. refl;
   prove-puts = λ key leaves x H′ χ out p. refl;
   verify-puts = λ key Δ H′ χ opened proof. refl;
+  honest = λ key leaves x H′ χ. refl;
+  well-formed = λ key leaves H′ χ proof. refl;
 }

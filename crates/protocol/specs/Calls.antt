@@ -3,8 +3,8 @@
 --   testPuts, commitPuts, batchPuts, provePuts, verifyPuts == all questions that the call puts, in order; hash has none but those on form
 --   testAnswer, commitAnswer, hashAnswer, batchAnswer, proveAnswer, verifyAnswer == the answers of the six calls
 --   testForm, commitForm, batchForm, proveForm, verifyForm == every question on form gets a yes
---   honestForm == every question of prove on form but 10: a proof's bytes do not depend on the output's length
---   wellFormed key leaves H′ χ proof == demand 3's: the questions on form, of full leaves
+--   honestQuestions, honestForm == every question of prove on form but 10: a proof's bytes do not depend on the output's length
+--   wellFormedQuestions, wellFormed == demand 3's: the questions on form, of full leaves
 --   TestReply, CommitReply, BatchReply, ProveReply == the replies that the papers allow, where a place is free
 -- Assumes nothing.
 use mathlib.Core.Bool.{Bool}
@@ -95,17 +95,21 @@ module _ (A : Alphabet) (key : List ℕ) where
   unfoldable pub verifyForm : List ℕ → List ℕ → List ℕ → List ℕ → List ℕ → Bool
   verifyForm Δ H′ χ opened proof = allYes (verifyQuestions Δ H′ χ opened proof)
 
+  abbrev pub honestQuestions : List ℕ → List ℕ → List ℕ → List ℕ → List Question
+  honestQuestions leaves x H′ χ =
+      q1 A s key ∷ q2 A s ∷ q3 A s key ∷ q4 A s key ∷ q5 A s (hExact A s H′ ∷ χExact A s χ ∷ []) ∷ q6 A s H′ ∷ q7 A s (perTree A) leaves
+      ∷ q8 A s (perTree A) leaves ∷ q9 A s x ∷ []
+
+  abbrev pub wellFormedQuestions : List ℕ → List ℕ → List ℕ → List ℕ → List Question
+  wellFormedQuestions leaves H′ χ proof =
+      q1 A s key ∷ q2 A s ∷ q3 A s key ∷ q4 A s key ∷ q5 A s (hExact A s H′ ∷ χExact A s χ ∷ []) ∷ q6 A s H′ ∷ q7 A s (perTree A) leaves
+      ∷ q8 A s (perTree A) leaves ∷ q12 A s proof ∷ q13 A s proof ∷ []
+
   unfoldable pub honestForm : List ℕ → List ℕ → List ℕ → List ℕ → Bool
-  honestForm leaves x H′ χ =
-      allYes
-      (q1 A s key ∷ q2 A s ∷ q3 A s key ∷ q4 A s key ∷ q5 A s (hExact A s H′ ∷ χExact A s χ ∷ []) ∷ q6 A s H′ ∷ q7 A s (perTree A) leaves
-      ∷ q8 A s (perTree A) leaves ∷ q9 A s x ∷ [])
+  honestForm leaves x H′ χ = allYes (honestQuestions leaves x H′ χ)
 
   unfoldable pub wellFormed : List ℕ → List ℕ → List ℕ → List ℕ → Bool
-  wellFormed leaves H′ χ proof =
-      allYes
-      (q1 A s key ∷ q2 A s ∷ q3 A s key ∷ q4 A s key ∷ q5 A s (hExact A s H′ ∷ χExact A s χ ∷ []) ∷ q6 A s H′ ∷ q7 A s (perTree A) leaves
-      ∷ q8 A s (perTree A) leaves ∷ q12 A s proof ∷ q13 A s proof ∷ [])
+  wellFormed leaves H′ χ proof = allYes (wellFormedQuestions leaves H′ χ proof)
 
   abbrev pub TestReply : List ℕ → Answer → Type 0
   TestReply x = Reply (testAnswer x) (namesFailing A s key x)

@@ -23,3 +23,5 @@ pub mod SmallExample
 pub mod ThreeRepetitions
 pub mod QuestionNumbers
 pub mod Edges
+pub mod Refusals
+pub mod CheckEdges

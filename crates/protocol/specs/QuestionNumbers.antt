@@ -7,7 +7,7 @@ use mathlib.Core.List.{List, [], _∷_, map}
 use Prim.Native.Nat.{ℕ}
 use Rattle.protocol.specs.Alphabet.{Alphabet}
 use Rattle.protocol.specs.Answers.{Question}
-use Rattle.protocol.specs.Calls.{testPuts, commitPuts, hashQuestions, batchPuts, provePuts, verifyPuts}
+use Rattle.protocol.specs.Calls.{testPuts, commitPuts, hashQuestions, batchPuts, provePuts, verifyPuts, honestQuestions, wellFormedQuestions}
 
 abbrev pub numbers : List Question → List ℕ
 numbers qs = map (λ x. x .number) qs
@@ -19,3 +19,6 @@ pub record QuestionNumbers (A : Alphabet) : Type 0 where
   pub batch-puts : (key leaves x χ out : List ℕ) (p : ℕ) → numbers (batchPuts A key leaves x χ out p) ≡ 1 ∷ 2 ∷ 3 ∷ 4 ∷ 5 ∷ 7 ∷ 8 ∷ 9 ∷ 10 ∷ 11 ∷ []
   pub prove-puts : (key leaves x H′ χ out : List ℕ) (p : ℕ) → numbers (provePuts A key leaves x H′ χ out p) ≡ 1 ∷ 2 ∷ 3 ∷ 4 ∷ 5 ∷ 6 ∷ 7 ∷ 8 ∷ 9 ∷ 10 ∷ 11 ∷ []
   pub verify-puts : (key Δ H′ χ opened proof : List ℕ) → numbers (verifyPuts A key Δ H′ χ opened proof) ≡ 1 ∷ 2 ∷ 3 ∷ 4 ∷ 5 ∷ 6 ∷ 7 ∷ 8 ∷ 12 ∷ 13 ∷ 14 ∷ 15 ∷ []
+  -- the questions on form that completeness and the forgery count suppose: 9 and 10 concern the witness and the output
+  pub honest : (key leaves x H′ χ : List ℕ) → numbers (honestQuestions A key leaves x H′ χ) ≡ 1 ∷ 2 ∷ 3 ∷ 4 ∷ 5 ∷ 6 ∷ 7 ∷ 8 ∷ 9 ∷ []
+  pub well-formed : (key leaves H′ χ proof : List ℕ) → numbers (wellFormedQuestions A key leaves H′ χ proof) ≡ 1 ∷ 2 ∷ 3 ∷ 4 ∷ 5 ∷ 6 ∷ 7 ∷ 8 ∷ 12 ∷ 13 ∷ []
