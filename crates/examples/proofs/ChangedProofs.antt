@@ -9,19 +9,14 @@ use Rattle.protocol.specs.Frames.{num2}
 use Rattle.protocol.specs.Calls.{wellFormed}
 use Rattle.protocol.specs.Counting.{acceptedCount}
 use Rattle.protocol.specs.SmallExample.{bits16, changed, key, leaves, H′, χ, Δ, opened, proof}
-use Rattle.examples.specs.SecondExample.{key as key₂, leaves as leaves₂, H′ as H₂, χ as χ₂, Δ as Δ₂, opened as opened₂, proof as proof₂}
 use Rattle.protocol.proofs.Computing.{computing}
 use Rattle.protocol.proofs.Theorems.{forgery-count}
 use Rattle.examples.proofs.ExampleFactors.{both}
-use Rattle.examples.specs.ChangedProofs.{Small, Second, ChangedProofs}
+use Rattle.examples.specs.ChangedProofs.{Small, ChangedProofs}
 
 C-1 : Small 4 1 983041 16 2
 unfolding computing key leaves H′ χ Δ opened proof
 C-1 = record { reply-is = refl; factors-are = both bits16 key leaves H′ χ refl (lit< tt) (changed proof 4 1) 16 2 refl refl }
-
-C-2 : Small 4 2 983041 16 2
-unfolding computing key leaves H′ χ Δ opened proof
-C-2 = record { reply-is = refl; factors-are = both bits16 key leaves H′ χ refl (lit< tt) (changed proof 4 2) 16 2 refl refl }
 
 d-1 : Small 10 1 983040 2 2
 unfolding computing key leaves H′ χ Δ opened proof
@@ -36,17 +31,9 @@ d-1-count : acceptedCount bits16 key leaves H′ χ (changed proof 10 1) ≡ 4
 unfolding num2 key
 d-1-count = forgery-count bits16 key leaves H′ χ (changed proof 10 1) well-formed .count-is-product ∙ ap (λ l. getD l 0 0 * (getD l 1 0 * 1)) (d-1 .factors-are)
 
-d-2 : Small 10 2 983040 2 2
-unfolding computing key leaves H′ χ Δ opened proof
-d-2 = record { reply-is = refl; factors-are = both bits16 key leaves H′ χ refl (lit< tt) (changed proof 10 2) 2 2 refl refl }
-
 ũ-1 : Small 16 1 917504 1 1
 unfolding computing key leaves H′ χ Δ opened proof
 ũ-1 = record { reply-is = refl; factors-are = both bits16 key leaves H′ χ refl (lit< tt) (changed proof 16 1) 1 1 refl refl }
-
-ũ-2 : Small 16 2 917504 1 1
-unfolding computing key leaves H′ χ Δ opened proof
-ũ-2 = record { reply-is = refl; factors-are = both bits16 key leaves H′ χ refl (lit< tt) (changed proof 16 2) 1 1 refl refl }
 
 Ṽ-1 : Small 21 1 917504 0 16
 unfolding computing key leaves H′ χ Δ opened proof
@@ -72,29 +59,16 @@ qs1-2 : Small 36 2 983041 16 1
 unfolding computing key leaves H′ χ Δ opened proof
 qs1-2 = record { reply-is = refl; factors-are = both bits16 key leaves H′ χ refl (lit< tt) (changed proof 36 2) 16 1 refl refl }
 
-C-second : Second 5 1 983041 16 2
-unfolding computing key₂ leaves₂ H₂ χ₂ Δ₂ opened₂ proof₂
-C-second = record { reply-is = refl; factors-are = both bits16 key₂ leaves₂ H₂ χ₂ refl (lit< tt) (changed proof₂ 5 1) 16 2 refl refl }
-
-d-second : Second 11 8 983040 1 2
-unfolding computing key₂ leaves₂ H₂ χ₂ Δ₂ opened₂ proof₂
-d-second = record { reply-is = refl; factors-are = both bits16 key₂ leaves₂ H₂ χ₂ refl (lit< tt) (changed proof₂ 11 8) 1 2 refl refl }
-
 pub changed-proofs : ChangedProofs
 changed-proofs = record {
   C-1 = C-1;
-  C-2 = C-2;
   d-1 = d-1;
   d-1-count = d-1-count;
-  d-2 = d-2;
   ũ-1 = ũ-1;
-  ũ-2 = ũ-2;
   Ṽ-1 = Ṽ-1;
   Ṽ-2 = Ṽ-2;
   QS0-1 = qs0-1;
   QS0-2 = qs0-2;
   QS1-1 = qs1-1;
   QS1-2 = qs1-2;
-  C-second = C-second;
-  d-second = d-second;
 }

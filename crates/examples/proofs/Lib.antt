@@ -8,7 +8,6 @@ pub mod ToyForged
 pub mod PublishedEntries
 pub mod Hypotheses
 pub mod CheckLine
-pub mod SecondExample
 pub mod ExampleFactors
 pub mod ChangedProofs
 pub mod CountedExample

@@ -2,7 +2,6 @@ pub mod Toy
 pub mod PublishedEntries
 pub mod Hypotheses
 pub mod CheckLine
-pub mod SecondExample
 pub mod ChangedProofs
 pub mod CountedExample
 pub mod FullExample
