@@ -1,4 +1,5 @@
--- The check program's lines for the toy: the input computed to be the six sections, and their answers as the table has them.
+-- The check program's lines for the toy: the input computed to be the six sections, and their answers as the table has
+-- them.
 --   reading == names nothing: a declaration that says `unfolding reading` computes how the input is read
 -- Assumes nothing.
 use mathlib.Core.Path.{_≡_, refl, ap, _∙_}

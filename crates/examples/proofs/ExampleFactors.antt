@@ -1,4 +1,5 @@
--- Factors of an example with two repetitions: the coefficients of the conditions are computed, and the elements that pass them counted.
+-- Factors of an example with two repetitions: the coefficients of the conditions are computed, and the elements that
+-- pass them counted.
 --   passed p e == how many elements pass the conditions of repetition e;  both == from these, the factors
 -- Assumes nothing.
 use mathlib.Core.Path.{_≡_, ap₂, _∙_}

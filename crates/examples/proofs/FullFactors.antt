@@ -1,4 +1,5 @@
--- The factors of the full example's changed proofs: the coefficients of the conditions are computed from the tables of u and v.
+-- The factors of the full example's changed proofs: the coefficients of the conditions are computed from the tables of
+-- u and v.
 -- Assumes nothing.
 use mathlib.Core.Path.{_≡_, refl, sym, ap, ap₂, _∙_, subst}
 use mathlib.Core.Bool.{true}

@@ -1,4 +1,5 @@
--- Sections and checks from tables: each reads u, v and W at the coordinates below L only, so that tables of these give the same bytes and answers.
+-- Sections and checks from tables: each reads u, v and W at the coordinates below L only, so that tables of these give
+-- the same bytes and answers.
 --   entry l c == the element that byte c of l writes;  Near f g == f and g agree below L
 --   cOf, maskedOf, ũOf, ṼOf, qs0Of, qs1Of == the sections C, d, ũ, Ṽ, QS0, QS1, with any vectors û e, v̂ e for u_e, v_e
 -- Assumes nothing.

@@ -1,5 +1,7 @@
--- The challenges at which a proof over the toy's leaves is accepted: they pass conditions whose coefficients the checker can compute. And their number.
---   shiftOf, candidateOf u, conditionsOf v u == `shift`, `candidate` and `conditions` of protocol, at any vectors;  coefficients == at v₄ and u₄
+-- The challenges at which a proof over the toy's leaves is accepted: they pass conditions whose coefficients the
+-- checker can compute. And their number.
+--   shiftOf, candidateOf u, conditionsOf v u == `shift`, `candidate` and `conditions` of protocol, at any vectors
+--   coefficients == at v₄ and u₄
 --   conditionsWith a c1 c2 == the conditions a = 0 and c1·Δ + c2·Δ² = 0
 -- Assumes nothing.
 use mathlib.Core.Path.{_≡_, refl, ap, ap₂, _∙_}

@@ -1,4 +1,5 @@
--- With y = 0 and QS1 = 05 the toy's verifier accepts at 00 and 52 only: where Δ + 05·Δ² = 0, a test that the checker computes at each of the 256 elements.
+-- With y = 0 and QS1 = 05 the toy's verifier accepts at 00 and 52 only: where Δ + 05·Δ² = 0, a test that the checker
+-- computes at each of the 256 elements.
 -- Assumes nothing.
 use mathlib.Core.Path.{_≡_, refl, ap, _∙_, subst}
 use mathlib.Core.Bool.{Bool, true, false, not, _||_}

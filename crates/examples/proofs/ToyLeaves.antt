@@ -1,5 +1,7 @@
--- The toy's leaves from leaf 4 on are 0, so that u and v, sums over 256 leaves, are sums over the first four. The checker computes with these: 4 terms for 256.
---   toy == the sizes of the toy's keys;  R, F == the ring of GF(256) and its elements;  u₄, v₄ == the sums over four leaves
+-- The toy's leaves from leaf 4 on are 0, so that u and v, sums over 256 leaves, are sums over the first four.
+-- The checker computes with these: 4 terms for 256.
+--   toy == the sizes of the toy's keys;  R, F == the ring of GF(256) and its elements
+--   u₄, v₄ == the sums over four leaves
 -- Assumes nothing.
 use mathlib.Core.Path.{_≡_, refl, ap, _∙_}
 use mathlib.Core.Logic.{_≢_}

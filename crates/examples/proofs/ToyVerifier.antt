@@ -1,5 +1,6 @@
 -- What the verifier answers to the toy's proofs, computed.
---   W₄ == W, by the VOLE identity, from sums over four leaves;  checks w == the answer to questions 14 and 15, where the vector is w
+--   W₄ == W, by the VOLE identity, from sums over four leaves
+--   checks w == the answer to questions 14 and 15, where the vector is w
 -- Assumes nothing.
 use mathlib.Core.Path.{_≡_, refl, ap, ap₂, _∙_}
 use mathlib.Core.Bool.{true}

@@ -1,4 +1,5 @@
--- With y = 0 the toy's witness fails equation 0: computed. The four calls that take a witness refuse it with 11 and place 0, and no other reply is allowed.
+-- With y = 0 the toy's witness fails equation 0: computed.
+-- The four calls that take a witness refuse it with 11 and place 0, and no other reply is allowed.
 -- Assumes nothing.
 use mathlib.Core.Path.{_≡_, refl, ap, _∙_}
 use Prim.Native.Nat.{ℕ, _<_}

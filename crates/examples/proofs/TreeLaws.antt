@@ -1,5 +1,7 @@
--- The sums over a tree of leaves, with its bytes walked once from the front and no product with a bit, so that they compute over 256 leaves.
---   pick x a == 0 if x is 0, and a if not;  walk n w g s j == g j (block 0 of s) + g (j + 1) (block 1) + .., n blocks of w bytes
+-- The sums over a tree of leaves, with its bytes walked once from the front and no product with a bit, so that they
+-- compute over 256 leaves.
+--   pick x a == 0 if x is 0, and a if not
+--   walk n w g s j == g j (block 0 of s) + g (j + 1) (block 1) + .., n blocks of w bytes
 --   weighed a == Σ_j a_j·ℓ(e, j), walked;  openedWeighed == W, walked over the opened tree
 -- Assumes nothing.
 use mathlib.Core.Path.{_≡_, refl, sym, ap, ap₂, _∙_}

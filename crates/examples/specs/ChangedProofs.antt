@@ -1,5 +1,6 @@
--- Proofs of SmallExample with one byte changed: the verifier's reply, and the factors of both repetitions. proofs/ChangedProofs
--- computes each statement. They are changed lines of entry 0 of the vectors sittings-degree4.rsp, made from the papers by other hands.
+-- Proofs of SmallExample with one byte changed: the verifier's reply, and the factors of both repetitions.
+-- proofs/ChangedProofs computes each statement. They are changed lines of entry 0 of the vectors sittings-degree4.rsp,
+-- made from the papers by other hands.
 --   factors p == the factors of both repetitions of SmallExample's key, leaves, H′ and χ with the proof p
 --   Small i x r f g == of SmallExample's proof with byte i xor x, the reply is r and the factors are f and g
 -- Assumes nothing.

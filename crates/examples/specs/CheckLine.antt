@@ -1,5 +1,6 @@
 -- The check program's input and line, of the toy. proofs/CheckLine proves them.
---   inputWith k δ p == the input: the key k, Δ = δ, H′, χ, the leaves opened at δ and the proof p, each after its count;  input == the toy's at Δ = 02
+--   inputWith k δ p == the input: the key k, Δ = δ, H′, χ, the leaves opened at δ and the proof p, each after its count
+--   input == the toy's at Δ = 02
 --   lineAccepted, line15, line14, lineUnread == the lines `accepted 0 0`, `refused 15 0`, `refused 14 0`, `unread 0 0`
 --   CheckLines == what is printed
 -- Assumes nothing.

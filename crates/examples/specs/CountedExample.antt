@@ -1,6 +1,9 @@
--- An example over GF(16) with one repetition, n = 5, m = 2, τ = 1, t = 6, so small that the accepted challenges are counted one by one. proofs/CountedExample computes it.
--- The data and the expected counts are entry 2 of the vectors sittings-degree4.rsp, made from the papers by other hands.
---   key, leaves, H′, χ, proof == what is lent;  countOf p == how many of the sixteen challenges the verifier's call accepts with the proof p
+-- An example over GF(16) with one repetition, n = 5, m = 2, τ = 1, t = 6, so small that the accepted challenges are
+-- counted one by one. proofs/CountedExample computes it.
+-- The data and the expected counts are entry 2 of the vectors sittings-degree4.rsp, made from the papers by other
+-- hands.
+--   key, leaves, H′, χ, proof == what is lent
+--   countOf p == how many of the sixteen challenges the verifier's call accepts with the proof p
 -- Assumes nothing.
 use mathlib.Core.Path.{_≡_}
 use mathlib.Core.List.{List, [], _∷_}

@@ -1,7 +1,10 @@
--- An example over GF(256), n = 9, m = 3, τ = 2, t = 5, and what the definitions must give for it. The files Full.. of proofs/ compute each statement.
+-- An example over GF(256), n = 9, m = 3, τ = 2, t = 5, and what the definitions must give for it.
+-- The files Full.. of proofs/ compute each statement.
 -- The data and the expected bytes are entry 1 of the vectors sittings-degree8.rsp, made from the papers by other hands.
---   key, witness, leaves, H′, χ, Δ == what is lent;  proof, opened == the proof and the opened leaves that are expected;  sizes == the key's sizes
---   coordinates f == the bytes of f at the L coordinates;  u-0, u-1, v-0, v-1 == those of u_0, u_1, v_0, v_1;  factors p == those of the proof p
+--   key, witness, leaves, H′, χ, Δ == what is lent;  proof, opened == the proof and the opened leaves that are expected
+--   sizes == the key's sizes
+--   coordinates f == the bytes of f at the L coordinates;  u-0, u-1, v-0, v-1 == those of u_0, u_1, v_0, v_1
+--   factors p == those of the proof p
 -- Assumes nothing.
 use mathlib.Core.Path.{_≡_}
 use mathlib.Core.List.{List, [], _∷_}

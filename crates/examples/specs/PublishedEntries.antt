@@ -1,4 +1,5 @@
--- The entries that 01 marks (P), in one table, of the definitions that the contracts cite. 01's words stand above each; proofs/PublishedEntries proves it.
+-- The entries that 01 marks (P), in one table, of the definitions that the contracts cite. 01's words stand above each;
+-- proofs/PublishedEntries proves it.
 --   sections == the six sections that the prover's rules give for the toy;  PublishedEntries == the table
 -- Assumes nothing.
 use mathlib.Core.Path.{_≡_}

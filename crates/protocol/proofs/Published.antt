@@ -1,4 +1,5 @@
--- Every answer of every call is in the published list; 11 is given exactly when some equation fails; and there always is a reply.
+-- Every answer of every call is in the published list; 11 is given exactly when some equation fails;
+-- and there always is a reply.
 -- Assumes nothing.
 use mathlib.Core.Path.{_≡_, refl, sym, ap, _∙_}
 use mathlib.Core.Logic.{_↔_, _≢_}

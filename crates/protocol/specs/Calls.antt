@@ -1,9 +1,12 @@
--- What each call answers: its questions, in 01's order. In the calls that take a witness, p is the place of refusal 11, which is free.
+-- What each call answers: its questions, in 01's order.
+-- In the calls that take a witness, p is the place of refusal 11, which is free.
 --   testQuestions, .., verifyQuestions == the call's questions on form: all but 11, 14 and 15, which come last
---   testPuts, commitPuts, batchPuts, provePuts, verifyPuts == all questions that the call puts, in order; hash has none but those on form
+--   testPuts, commitPuts, batchPuts, provePuts, verifyPuts == all questions that the call puts, in order; hash has none
+--     but those on form
 --   testAnswer, commitAnswer, hashAnswer, batchAnswer, proveAnswer, verifyAnswer == the answers of the six calls
 --   testForm, commitForm, batchForm, proveForm, verifyForm == every question on form gets a yes
---   honestQuestions, honestForm == every question of prove on form but 10: a proof's bytes do not depend on the output's length
+--   honestQuestions, honestForm == every question of prove on form but 10: a proof's bytes do not depend on the
+--     output's length
 --   wellFormedQuestions, wellFormed == demand 3's: the questions on form, of full leaves
 --   TestReply, CommitReply, BatchReply, ProveReply == the replies that the papers allow, where a place is free
 -- Assumes nothing.

@@ -1,4 +1,5 @@
--- The check program's edges: which inputs it reads, and its numbers in decimal. proofs/CheckEdges proves each statement.
+-- The check program's edges: which inputs it reads, and its numbers in decimal.
+-- proofs/CheckEdges proves each statement.
 --   section i input == section i of the input, by the counts that are found
 -- Assumes nothing.
 use mathlib.Core.Path.{_≡_}

@@ -1,6 +1,7 @@
--- Where a no begins: at the sizes, at spare bits and exact lengths, and where two questions get a no. proofs/Edges computes each statement.
--- Key, leaves and proof are those of SmallExample with bytes changed. A spare bit that is set is the first one of the last row
--- (A-spare-set), the last one of the first row (A-first-row), or the last one of the only row (y-last).
+-- Where a no begins: at the sizes, at spare bits and exact lengths, and where two questions get a no.
+-- proofs/Edges computes each statement.
+-- Key, leaves and proof are those of SmallExample with bytes changed. A spare bit that is set is the first one of the
+-- last row (A-spare-set), the last one of the first row (A-first-row), or the last one of the only row (y-last).
 -- That each call is refused by each of its questions, Refusals has.
 --   allowed n m τ t == the limits admit these sizes;  toy == the sizes of 01's toy
 -- Assumes nothing.
@@ -81,7 +82,8 @@ pub record Numbers : Type 0 where
   pub num4-is : num4 (0x01 ∷ 0x02 ∷ 0x03 ∷ 0x04 ∷ []) 0 ≡ 0x04030201
   pub count4-is : count4 0x04030201 ≡ 0x01 ∷ 0x02 ∷ 0x03 ∷ 0x04 ∷ []
 
--- A key without a whole header; a size whose high byte is set; a count whose third byte is set; a byte too many or too few.
+-- A key without a whole header; a size whose high byte is set; a count whose third byte is set;
+-- a byte too many or too few.
 pub record Lengths : Type 0 where
   pub header-short : testAnswer bits16 (take 7 key) witness 0 ≡ refused 1 0
   pub header-alone : testAnswer bits16 (take 8 key) witness 0 ≡ refused 3 0

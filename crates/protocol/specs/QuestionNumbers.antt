@@ -1,4 +1,5 @@
--- The questions that each call puts, by their numbers and in order, whatever the call is lent. proofs/QuestionNumbers computes each statement.
+-- The questions that each call puts, by their numbers and in order, whatever the call is lent.
+-- proofs/QuestionNumbers computes each statement.
 --   numbers qs == the numbers of the questions qs, in order
 --   QuestionNumbers A == 01's list of questions, as far as it concerns each call's inputs
 -- Assumes nothing.

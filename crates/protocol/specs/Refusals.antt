@@ -1,10 +1,14 @@
--- Each call is refused by each of its questions in turn, and taken where all of them get a yes. proofs/Refusals computes each statement.
+-- Each call is refused by each of its questions in turn, and taken where all of them get a yes.
+-- proofs/Refusals computes each statement.
 -- The strings are those of SmallExample. One that is damaged has the number of the question that finds it out.
 --   key₁ == no byte;  key₂ == n with its high byte set;  key₃ == a byte too many;  key₄ == the last spare bit of y set
 --   H₅, χ₅ == a byte too many;  H₆ == a spare bit of the last row set;  leaves₇, opened₇ == a byte missing
---   leaves₈, opened₈ == the spare bit of the last leaf set;  x₉ == a spare bit set;  x₁₁ == a witness that solves nothing
---   out n == n bytes to write on;  proof₁₂ == a byte too many;  proof₁₃ == a spare bit of ũ set;  proof₁₄ == Ṽ changed;  proof₁₅ == QS0 changed
---   refusedBy is == refused by each of the numbers is, with the place 0;  test, .., verify == the calls' answers, 11's place being 0
+--   leaves₈, opened₈ == the spare bit of the last leaf set;  x₉ == a spare bit set
+--   x₁₁ == a witness that solves nothing
+--   out n == n bytes to write on;  proof₁₂ == a byte too many;  proof₁₃ == a spare bit of ũ set;  proof₁₄ == Ṽ changed
+--   proof₁₅ == QS0 changed
+--   refusedBy is == refused by each of the numbers is, with the place 0
+--   test, .., verify == the calls' answers, 11's place being 0
 -- Assumes nothing.
 use mathlib.Core.Path.{_≡_}
 use mathlib.Core.List.{List, [], _∷_, _++_, map}

@@ -1,8 +1,12 @@
--- An example over GF(16), n = 9, m = 2, τ = 2, t = 2, and what the definitions must give for it. proofs/SmallExample computes each statement.
--- The theorems leave the layout open: with χ(e, i) read at i, or every A_i read in matrix 0, all of them still hold. These bytes fix it.
+-- An example over GF(16), n = 9, m = 2, τ = 2, t = 2, and what the definitions must give for it.
+-- proofs/SmallExample computes each statement.
+-- The theorems leave the layout open: with χ(e, i) read at i, or every A_i read in matrix 0, all of them still hold.
+-- These bytes fix it.
 -- An edit of the definitions re-proves this crate, so what is slow to compute stands above it, in the crate `examples`.
--- The data and the expected results are entry 0 of the vectors sittings-degree4.rsp, made from the papers by other hands.
---   bits16 == bits over GF(16);  changed str i x == str with byte i xor x;  sizes == the sizes that the key's header has
+-- The data and the expected results are entry 0 of the vectors sittings-degree4.rsp, made from the papers by other
+-- hands.
+--   bits16 == bits over GF(16);  changed str i x == str with byte i xor x
+--   sizes == the sizes that the key's header has
 --   key, witness, leaves, H′, χ, Δ == what is lent;  proof, opened == the proof and the opened leaves that are expected
 --   row s key i ρ == row ρ of A_i as a key of sizes s has it;  linear s key i == b_i;  constants s key == y
 --   uneven == sizes that all differ;  columns s χ == the columns of χ at sizes s, one for each repetition
@@ -99,7 +103,8 @@ uneven = record { n = 9; m = 3; τ = 2; t = 5 }
 abbrev pub columns : Shape → List ℕ → List (List ℕ)
 columns s χ = table (s .τ) (λ e. table (s .m) (λ i. bits16 .K .byte (χAt bits16 s χ e i)))
 
--- The key read back, beside the bits of its bytes. A and its transpose give the same forms fᵀA·f, so that no answer tells them apart.
+-- The key read back, beside the bits of its bytes. A and its transpose give the same forms fᵀA·f, so that no answer
+-- tells them apart.
 pub record SmallKey : Type 0 where
   pub row-1-2 : row sizes key 1 2 ≡ 1 ∷ 0 ∷ 0 ∷ 1 ∷ 1 ∷ 1 ∷ 0 ∷ 1 ∷ 0 ∷ []
   pub linear-1 : linear sizes key 1 ≡ 0 ∷ 0 ∷ 0 ∷ 1 ∷ 0 ∷ 0 ∷ 0 ∷ 1 ∷ 1 ∷ []
@@ -107,7 +112,8 @@ pub record SmallKey : Type 0 where
   -- the lowest bit of y's byte is y_0
   pub constants-changed : constants sizes (changed key 60 1) ≡ 0 ∷ 1 ∷ []
 
--- The columns of χ at sizes that all differ, so that none can stand for m: prover and verifier read them alike, and no theorem tells.
+-- The columns of χ at sizes that all differ, so that none can stand for m: prover and verifier read them alike, and no
+-- theorem tells.
 pub record SmallColumns : Type 0 where
   pub columns-are : columns uneven (1 ∷ 2 ∷ 3 ∷ 4 ∷ 5 ∷ 6 ∷ []) ≡ (1 ∷ 2 ∷ 3 ∷ []) ∷ (4 ∷ 5 ∷ 6 ∷ []) ∷ []
 
@@ -135,6 +141,7 @@ pub record SmallReplies : Type 0 where
   pub first-named : reply (changed (changed proof 21 1) 23 1) ≡ 917504
   -- QS0 in repetition 0, Ṽ in repetition 1: 14 is asked of every repetition before 15 is of any
   pub fourteen-first : reply (changed (changed proof 29 1) 23 1) ≡ 917505
-  -- the candidate witness of repetition 1: that of an honest proof is the witness, and a bit of C changed changes that bit
+  -- the candidate witness of repetition 1: that of an honest proof is the witness, and a bit of C changed changes that
+  -- bit
   pub candidate-is : candidateBytes bits16 key leaves proof 1 ≡ witness
   pub candidate-changed : candidateBytes bits16 key leaves (changed proof 4 1) 1 ≡ changed witness 0 1

@@ -1,7 +1,10 @@
--- An example over GF(16) with three repetitions, n = 5, m = 1, τ = 3, t = 2: C has two rows, so that their order shows. proofs/ThreeRepetitions computes it.
--- The data and the expected results come from a rendering of the papers in Rust, written by other hands and apart from these definitions.
+-- An example over GF(16) with three repetitions, n = 5, m = 1, τ = 3, t = 2: C has two rows, so that their order shows.
+-- proofs/ThreeRepetitions computes it.
+-- The data and the expected results come from a rendering of the papers in Rust, written by other hands and apart from
+-- these definitions.
 --   key, leaves, H′, χ, Δ == what is lent;  sizes == the sizes that the key's header has
---   proofWith C == the proof, with that section C;  reply p == the verifier's answer to the proof p, the leaves opened at Δ
+--   proofWith C == the proof, with that section C
+--   reply p == the verifier's answer to the proof p, the leaves opened at Δ
 -- Assumes nothing.
 use mathlib.Core.Path.{_≡_}
 use mathlib.Core.List.{List, [], _∷_, _++_}
