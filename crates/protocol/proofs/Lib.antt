@@ -18,6 +18,7 @@ pub mod HashLaws
 pub mod CoefficientLaws
 pub mod AnswerLaws
 pub mod ReplyLaws
+pub mod OwnNumbers
 pub mod CountingLaws
 pub mod LimitLaws
 pub mod SymbolLaws
