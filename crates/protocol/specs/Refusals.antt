@@ -4,7 +4,7 @@
 --   key₁ == no byte;  key₂ == n with its high byte set;  key₃ == a byte too many;  key₄ == the last spare bit of y set
 --   H₅, χ₅ == a byte too many;  H₆ == a spare bit of the last row set;  leaves₇, opened₇ == a byte missing
 --   leaves₈, opened₈ == the spare bit of the last leaf set;  x₉ == a spare bit set
---   x₁₁ == a witness that solves nothing
+--   x₁₁ == a witness that fails
 --   out n == n bytes to write on;  proof₁₂ == a byte too many;  proof₁₃ == a spare bit of ũ set;  proof₁₄ == Ṽ changed
 --   proof₁₅ == QS0 changed
 --   refusedBy is == refused by each of the numbers is, with the place 0
