@@ -51,7 +51,7 @@ cmp include/solfadrus.h "$prefix/include/solfadrus.h"
 
 if [ -x "$mqcheck" ]; then
     cmp "$mqcheck" "$prefix/bin/mqcheck"
-    # The program's own example is the toy sitting of 01 at 02.
+    # The program's own example is the toy example of 01 at 02.
     checked 'accepted 0 0' <crates/mqcheck/stdin
     checked 'unread 0 0' </dev/null
     echo "the check program: the toy is accepted, an empty input is unread"

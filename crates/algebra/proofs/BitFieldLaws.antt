@@ -1,4 +1,5 @@
--- Tests at the basis prove the laws of the product modulo X^r + m, which is additive on both sides; and what passes them is a coded field.
+-- Tests at the basis prove the laws of the product modulo X^r + m, which is additive on both sides;
+-- and what passes them is a coded field.
 -- Assumes nothing.
 use mathlib.Core.Path.{_≡_, refl, ap, _∙_}
 use mathlib.Core.Bool.{Bool, true, false, _||_, false≢true}

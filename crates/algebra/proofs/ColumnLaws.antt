@@ -1,4 +1,5 @@
--- How many columns make a combination of given elements zero: the count goes entry by entry, for every value t of the sum.
+-- How many columns make a combination of given elements zero: the count goes entry by entry, for every value t of the
+-- sum.
 -- Assumes nothing.
 use mathlib.Core.Path.{_≡_, refl, sym, ap, _∙_, _≡⟨_⟩_, _∎}
 use mathlib.Core.Logic.{_⊎_, inl, inr, _≢_}

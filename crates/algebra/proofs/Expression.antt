@@ -1,5 +1,7 @@
--- Expressions over a ring of characteristic 2, and their normal form: a sorted list of monomials, each a sorted list of variables.
---   Ex == expressions;  Equation == two of them, written l := r;  Nary n == an equation of n variables, as a function of them
+-- Expressions over a ring of characteristic 2, and their normal form: a sorted list of monomials, each a sorted list of
+-- variables.
+--   Ex == expressions;  Equation == two of them, written l := r
+--   Nary n == an equation of n variables, as a function of them
 --   norm e == the normal form of e;  value R ρ e == the element that e denotes where variable i is entry i of ρ
 --   Holds R n ρ e == the equation e holds for all elements of R in its n variables
 -- Assumes nothing.

@@ -1,4 +1,5 @@
--- Additive maps of bit vectors: what two of them have at the basis they have everywhere, and the product is additive on both sides.
+-- Additive maps of bit vectors: what two of them have at the basis they have everywhere, and the product is additive on
+-- both sides.
 -- And a test that passes everywhere passes at each vector.
 -- Assumes nothing.
 use mathlib.Core.Path.{_≡_, refl, sym, ap, ap₂, _∙_}

@@ -1,4 +1,5 @@
--- The laws of a ring of characteristic 2 that follow from its record, and the set `ring` by which `simp` brings an expression to a normal form.
+-- The laws of a ring of characteristic 2 that follow from its record, and the set `ring` by which `simp` brings an
+-- expression to a normal form.
 -- Assumes nothing.
 use mathlib.Core.Path.{_≡_, sym, ap, _∙_}
 use Rattle.algebra.specs.Ring.{Ring}

@@ -1,4 +1,5 @@
--- The normal form of an expression has the expression's value, so expressions with one normal form are equal: a decision procedure by computation.
+-- The normal form of an expression has the expression's value, so expressions with one normal form are equal: a
+-- decision procedure by computation.
 -- Assumes nothing.
 use mathlib.Core.Path.{_≡_, refl, sym, ap, ap₂, _∙_, _≡⟨_⟩_, _∎}
 use mathlib.Core.List.{List, [], _∷_}

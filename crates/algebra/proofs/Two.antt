@@ -1,5 +1,7 @@
--- Why a field here has at least four elements: over two, X² + X is not the zero polynomial and yet every element is a root of it.
--- So "as many roots as elements" would not say that all coefficients are zero, and a factor of 2 would be both "2" and "all".
+-- Why a field here has at least four elements: over two, X² + X is not the zero polynomial and yet every element is a
+-- root of it.
+-- So "as many roots as elements" would not say that all coefficients are zero, and a factor of 2 would be both "2" and
+-- "all".
 -- Assumes nothing.
 use mathlib.Core.Path.{_≡_, refl}
 use mathlib.Core.Bool.{Bool, true, false, not, _&&_, and-assoc, and-comm, and-true}

@@ -2,8 +2,10 @@
 --   shift n c v, out n c v == v moved one place up with c coming in below; the bit that falls out above
 --   xtime r m v == X·v;  times r m k a b == Σ_{i<k} a_i·X^i·b;  mul r m a b == a·b
 --   powers r m k x y == y·x^2·x^4 ⋯ x^(2^k);  inverse r m x == x^(2^r - 2)
---   commutes, associates, has-one == a law of the product, at the basis: it is additive on both sides, so that this is enough
---   inverts == x·inverse x = 1 at every x but 0;  Passes r m == the degree is 2 to 8, and the checker has computed the four tests
+--   commutes, associates, has-one == a law of the product, at the basis: it is additive on both sides, so that this is
+--     enough
+--   inverts == x·inverse x = 1 at every x but 0
+--   Passes r m == the degree is 2 to 8, and the checker has computed the four tests
 --   computing == names nothing: a declaration that says `unfolding computing` computes with bits and their products
 -- Assumes nothing.
 use mathlib.Core.Bool.{Bool, false, _||_}

@@ -1,6 +1,8 @@
 -- The columns that make a combination of given elements zero, counted.
---   columnSum K m col f == Σ_{i<m} col_i · f_i;  zeroColumns K m f == how many of all columns of m elements make that sum 0
---   FailingColumns m f == if some f_i is not 0, they are size^(m-1);  AllColumns m f == if every f_i is 0, they are all size^m
+--   columnSum K m col f == Σ_{i<m} col_i · f_i
+--   zeroColumns K m f == how many of all columns of m elements make that sum 0
+--   FailingColumns m f == if some f_i is not 0, they are size^(m-1)
+--   AllColumns m f == if every f_i is 0, they are all size^m
 -- Assumes nothing.
 use mathlib.Core.Path.{_≡_}
 use mathlib.Core.Logic.{_≢_}

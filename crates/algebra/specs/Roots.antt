@@ -1,6 +1,8 @@
--- Conditions on one element Δ: a system of linear equations and one quadratic equation; and how many elements meet them.
+-- Conditions on one element Δ: a system of linear equations and one quadratic equation;
+-- and how many elements meet them.
 --   isZero x == whether x is 0;  Line == an equation a + Δ·b = 0;  Conditions == lines, and c0 + c1·Δ + c2·Δ² = 0
---   lineAt l Δ, quadAt c0 c1 c2 Δ == the left sides at Δ;  linesOk ls Δ == every line holds at Δ;  passing c Δ == all of c holds at Δ
+--   lineAt l Δ, quadAt c0 c1 c2 Δ == the left sides at Δ;  linesOk ls Δ == every line holds at Δ
+--   passing c Δ == all of c holds at Δ
 --   ZeroOneTwoAll all n == n is 0, 1, 2 or all;  ZeroOneAll all n == n is 0, 1 or all
 --   AllZero ls, Trivial c == every coefficient is 0
 --   FourCases c == the number of elements that pass c is 0, 1, 2 or the size of the field

@@ -1,5 +1,6 @@
 -- What pins the modulus: 11D, too, gives a field of 256 elements, but other products.
---   Monic == the modulus has degree 8;  Product5783, Product5713 == the worked products of FIPS 197, section 4.2;  Product0552 == 05 and 52 are inverse
+--   Monic == the modulus has degree 8;  Product5783, Product5713 == the worked products of FIPS 197, section 4.2
+--   Product0552 == 05 and 52 are inverse
 -- Assumes nothing.
 use mathlib.Core.Path.{_≡_}
 use Prim.Native.Nat.{_/_, _^_}

@@ -1,9 +1,26 @@
--- What the definitions agree with: the computed bytes, answers and edges, gathered. No theorem is used, so that an edit of the definitions meets a value.
+-- What the definitions agree with: the computed bytes, answers and edges, gathered.
+-- No theorem is used, so that an edit of the definitions meets a value.
 -- Assumes nothing.
-use Rattle.protocol.specs.SmallSitting.{SmallKey, SmallBytes, SmallProof, SmallReplies}
-use Rattle.protocol.specs.Edges.{Limits, Forms, Order, Steps, Words}
-use Rattle.protocol.proofs.SmallSitting.{small-key, small-bytes, small-proof, small-replies}
-use Rattle.protocol.proofs.Edges.{limits-are, forms-are, order-is, steps-are, words-are}
+use Rattle.protocol.specs.Binary.{bits256}
+use Rattle.protocol.specs.SmallExample.{SmallKey, SmallColumns, SmallBytes, SmallProof, SmallReplies}
+use Rattle.protocol.specs.ThreeRepetitions.{ThreeRepetitions}
+use Rattle.protocol.specs.QuestionNumbers.{QuestionNumbers}
+use Rattle.protocol.specs.Edges.{Limits, Forms, Numbers, Lengths, Order, Derived, Extents, Words}
+use Rattle.protocol.specs.Refusals.{Refusals, Taken}
+use Rattle.protocol.proofs.SmallExample.{small-key, small-columns, small-bytes, small-proof, small-replies}
+use Rattle.protocol.proofs.ThreeRepetitions.{three-repetitions}
+use Rattle.protocol.proofs.QuestionNumbers.{question-numbers}
+use Rattle.protocol.proofs.Edges.{limits-are, forms-are, numbers-are, lengths-are, order-is, derived-are, extents-are, words-are}
+use Rattle.protocol.proofs.Refusals.{refusals-are, all-taken}
 
-pub agreement : SmallKey × SmallBytes × SmallProof × SmallReplies × Limits × Forms × Order × Steps × Words
-agreement = (small-key, small-bytes, small-proof, small-replies, limits-are, forms-are, order-is, steps-are, words-are)
+pub examples : SmallKey × SmallColumns × SmallBytes × SmallProof × SmallReplies × ThreeRepetitions
+examples = (small-key, small-columns, small-bytes, small-proof, small-replies, three-repetitions)
+
+pub edges : Limits × Forms × Numbers × Lengths × Order × Derived × Extents × Words
+edges = (limits-are, forms-are, numbers-are, lengths-are, order-is, derived-are, extents-are, words-are)
+
+pub calls : Refusals × Taken
+calls = (refusals-are, all-taken)
+
+pub questions-put : QuestionNumbers bits256
+questions-put = question-numbers bits256

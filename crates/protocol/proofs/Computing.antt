@@ -1,4 +1,4 @@
--- Every definition that a sitting computes through.
+-- Every definition that an example computes through.
 --   computing == names nothing: a declaration that says `unfolding computing` computes with all of them
 -- Assumes nothing.
 use Prim.Native.Nat.{ℕ}

@@ -1,8 +1,9 @@
 -- The edges, computed on the definitions.
 -- Assumes nothing.
 use mathlib.Core.Path.{refl}
-use Rattle.protocol.specs.SmallSitting.{key, witness, leaves, H′, χ, Δ, proof, opened}
-use Rattle.protocol.specs.Edges.{Limits, Forms, Order, Steps, Words}
+use Rattle.protocol.specs.Reader.{sectionAt}
+use Rattle.protocol.specs.SmallExample.{key, witness, leaves, H′, χ, Δ, proof, opened}
+use Rattle.protocol.specs.Edges.{Limits, Forms, Numbers, Lengths, Order, Derived, Extents, Words}
 use Rattle.protocol.proofs.Computing.{computing}
 
 pub limits-are : Limits
@@ -25,25 +26,62 @@ unfolding computing key witness leaves H′ proof opened
 forms-are = record {
   key-exact = refl;
   count-wrong = refl;
+  count-second = refl;
+  count-third = refl;
+  count-fourth = refl;
   key-long = refl;
   key-spare = refl;
   A-spare-set = refl;
+  A-first-row = refl;
   b-spare-set = refl;
+  b-first-row = refl;
   y-spare-set = refl;
+  y-last = refl;
   H-spare = refl;
   H-spare-set = refl;
+  H-first-row = refl;
   leaves-spare = refl;
   leaves-spare-set = refl;
+  leaves-first-row = refl;
   opened-spare = refl;
   opened-spare-set = refl;
+  opened-first-row = refl;
   witness-form = refl;
   witness-spare-set = refl;
+  witness-long = refl;
+  witness-short = refl;
+  witness-last = refl;
   proof-spare = refl;
   C-spare-set = refl;
   d-spare-set = refl;
+  d-last = refl;
   ũ-spare-set = refl;
+  ũ-last = refl;
   solved = refl;
   not-solved = refl;
+}
+
+pub numbers-are : Numbers
+unfolding computing
+numbers-are = record {
+  num2-is = refl;
+  num4-is = refl;
+  count4-is = refl;
+}
+
+pub lengths-are : Lengths
+unfolding computing key witness leaves H′ χ Δ proof opened
+lengths-are = record {
+  header-short = refl;
+  header-alone = refl;
+  m-high = refl;
+  τ-high = refl;
+  t-high = refl;
+  Δ-long = refl;
+  Δ-short = refl;
+  H-short = refl;
+  χ-short = refl;
+  count-third = refl;
 }
 
 pub order-is : Order
@@ -57,22 +95,32 @@ order-is = record {
   nine-ten = refl;
   ten-eleven = refl;
   eleven = refl;
-  none = refl;
 }
 
-pub steps-are : Steps
-unfolding computing key witness leaves H′ χ
-steps-are = record {
-  test-taken = refl;
-  test-eleven = refl;
-  commit-taken = refl;
-  commit-ten = refl;
-  hash-taken = refl;
-  hash-six = refl;
-  batch-taken = refl;
-  batch-five = refl;
+pub derived-are : Derived
+unfolding computing
+derived-are = record {
+  k-is = refl;
+  L-is = refl;
+  w-is = refl;
+  tree-is = refl;
+  opened-is = refl;
+}
+
+pub extents-are : Extents
+unfolding computing sectionAt proof
+extents-are = record {
+  first = refl;
+  last = refl;
+  cut = refl;
+  count-cut = refl;
+  at-end = refl;
+  count-third = refl;
 }
 
 pub words-are : Words
 unfolding computing
-words-are = record { accepted-is = refl; refused-is = refl }
+words-are = record {
+  accepted-is = refl;
+  refused-is = refl;
+}

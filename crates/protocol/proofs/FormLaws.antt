@@ -1,4 +1,5 @@
--- Laws of the forms of a key, the hash, the mask and the batching: each depends only on the coordinates that it reads, and is linear or quadratic in them.
+-- Laws of the forms of a key, the hash, the mask and the batching: each depends only on the coordinates that it reads,
+-- and is linear or quadratic in them.
 -- Assumes nothing.
 use mathlib.Core.Path.{_≡_, refl, ap, ap₂, _∙_}
 use mathlib.Core.List.{List}

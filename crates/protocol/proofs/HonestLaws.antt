@@ -1,4 +1,5 @@
--- An honest proof: its sections hold what the rules say, read back as they were written, and make every coefficient of every repetition zero.
+-- An honest proof: its sections hold what the rules say, read back as they were written, and make every coefficient of
+-- every repetition zero.
 -- Assumes nothing.
 use mathlib.Core.Path.{_≡_, refl, sym, ap, ap₂, _∙_}
 use mathlib.Core.Bool.{true}

@@ -1,6 +1,10 @@
 pub mod Computing
-pub mod SmallSitting
+pub mod QuestionNumbers
+pub mod SmallExample
+pub mod ThreeRepetitions
 pub mod Edges
+pub mod Refusals
+pub mod CheckEdges
 pub mod Agreement
 pub mod TestLaws
 pub mod ListLaws
@@ -14,6 +18,7 @@ pub mod HashLaws
 pub mod CoefficientLaws
 pub mod AnswerLaws
 pub mod ReplyLaws
+pub mod OwnNumbers
 pub mod CountingLaws
 pub mod LimitLaws
 pub mod SymbolLaws

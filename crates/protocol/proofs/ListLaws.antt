@@ -1,5 +1,6 @@
 -- Laws of lists cut in blocks, and of tables.
---   Each w ss == each string of ss has w entries;  Cut w n P s == s is n blocks of w entries, each of which passes the test P
+--   Each w ss == each string of ss has w entries
+--   Cut w n P s == s is n blocks of w entries, each of which passes the test P
 -- Assumes nothing.
 use mathlib.Core.Path.{_≡_, refl, sym, ap, ap₂, _∙_}
 use mathlib.Core.Bool.{Bool, true}

@@ -1,4 +1,5 @@
--- Every answer of every call is in the published list; and 11 is given exactly when some equation fails.
+-- Every answer of every call is in the published list; 11 is given exactly when some equation fails;
+-- and there always is a reply.
 -- Assumes nothing.
 use mathlib.Core.Path.{_≡_, refl, sym, ap, _∙_}
 use mathlib.Core.Logic.{_↔_, _≢_}
@@ -19,10 +20,10 @@ use Rattle.protocol.specs.Forms.{error}
 use Rattle.protocol.specs.Answers.{Answer, refused, numberOf, placeOf, Question, allYes, ask, Reply, Published, header-short, size-out-of-range, key-length, key-spare-bit, challenge-length, hash-spare-bit, leaf-length, leaf-spare-bit, witness-form, output-length, equation-fails, proof-length, proof-spare-bit, inconsistent, product-differs}
 use Rattle.protocol.specs.Questions.{ΔExact, hExact, χExact, solves, fails, namesFailing, consistentIn, productIn, q1, q2, q3, q4, q5, q6, q7, q8, q9, q10, q11, q12, q13, q14, q15}
 use Rattle.protocol.specs.Calls.{testQuestions, commitQuestions, hashQuestions, batchQuestions, proveQuestions, verifyQuestions, testAnswer, commitAnswer, hashAnswer, batchAnswer, proveAnswer, verifyAnswer, testForm, commitForm, batchForm, proveForm, TestReply, CommitReply, BatchReply, ProveReply}
-use Rattle.protocol.specs.Statements.{AllPublished, SomeFails, RefusesExactly}
+use Rattle.protocol.specs.Statements.{AllPublished, SomeFails, RefusesExactly, AlwaysReplies}
 use Rattle.protocol.proofs.TestLaws.{all-at, first-not}
 use Rattle.protocol.proofs.AnswerLaws.{Listed, published-ask, on-form}
-use Rattle.protocol.proofs.ReplyLaws.{refuses-exactly, reply-exists}
+use Rattle.protocol.proofs.ReplyLaws.{without?, without-by, refuses-exactly, reply-exists}
 
 module _ (A : Alphabet) where
   open Alphabet A using (K)
@@ -188,14 +189,16 @@ module _ (A : Alphabet) where
         refuses-exactly (proveQuestions A key leaves x H′ χ out) (solves A (shapeOf key) key x) (proveAnswer A key leaves x H′ χ out) (λ p. refl) _ f (fails-no key x) (no-fails key x) a r;
   }
 
-  -- The relations are met: for all inputs there is a reply that the papers allow.
-  pub test-replies : (key x : List ℕ) → (a : Answer) × TestReply A key x a
-  unfolding testAnswer
-  test-replies key x =
-      reply-exists (testQuestions A key x) (solves A (shapeOf key) key x) (testAnswer A key x) (λ p. refl) _ (omega arith, (omega arith, (omega arith, (omega arith, (omega arith, tt))))) (first key x) (first-fails key x)
+  -- a call that puts question 11 after questions of other numbers has a reply
+  replies : (key x : List ℕ) (qs : List Question) (answer : ℕ → Answer) → ((p : ℕ) → answer p ≡ ask (qs ++ (q11 A (shapeOf key) key x p ∷ []))) → without? 11 qs ≡ true
+      → (a : Answer) × Reply answer (namesFailing A (shapeOf key) key x) a
+  replies key x qs answer is w = reply-exists qs (solves A (shapeOf key) key x) answer is _ (without-by 11 qs w) (first key x) (first-fails key x)
 
-  pub prove-replies : (key leaves x H′ χ out : List ℕ) → (a : Answer) × ProveReply A key leaves x H′ χ out a
-  unfolding proveAnswer
-  prove-replies key leaves x H′ χ out =
-      reply-exists (proveQuestions A key leaves x H′ χ out) (solves A (shapeOf key) key x) (proveAnswer A key leaves x H′ χ out) (λ p. refl) _
-      (omega arith, (omega arith, (omega arith, (omega arith, (omega arith, (omega arith, (omega arith, (omega arith, (omega arith, (omega arith, tt)))))))))) (first key x) (first-fails key x)
+  pub always-replies : AlwaysReplies A
+  unfolding testAnswer commitAnswer batchAnswer proveAnswer
+  always-replies = record {
+    test-replies = λ key x. replies key x (testQuestions A key x) (testAnswer A key x) (λ p. refl) refl;
+    commit-replies = λ key leaves x out. replies key x (commitQuestions A key leaves x out) (commitAnswer A key leaves x out) (λ p. refl) refl;
+    batch-replies = λ key leaves x χ out. replies key x (batchQuestions A key leaves x χ out) (batchAnswer A key leaves x χ out) (λ p. refl) refl;
+    prove-replies = λ key leaves x H′ χ out. replies key x (proveQuestions A key leaves x H′ χ out) (proveAnswer A key leaves x H′ χ out) (λ p. refl) refl;
+  }

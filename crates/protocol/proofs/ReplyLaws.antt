@@ -2,11 +2,14 @@
 -- Assumes nothing.
 use mathlib.Core.Path.{_≡_, refl, sym, ap, _∙_, subst}
 use mathlib.Core.Logic.{_↔_, _≢_}
-use mathlib.Core.Bool.{Bool, true, false, _&&_, true≢false}
+use mathlib.Core.Bool.{Bool, true, false, not, _&&_, true≢false}
 use mathlib.Core.List.{List, [], _∷_, _++_, append-nil}
 use Prim.Native.Nat.{ℕ}
 use native.Mathlib.Omega.{arith}
+use lib.Dec.{eqb}
 use Rattle.protocol.specs.Answers.{Answer, accepted, refused, numberOf, placeOf, Question, ask, allYes, Reply}
+use Rattle.algebra.proofs.CountLaws.{and-left, and-right}
+use Rattle.protocol.proofs.TestLaws.{eqb-same}
 use Rattle.protocol.proofs.AnswerLaws.{ask-none, ask-no, ask-yes, ask-after, ask-before, ask-first-no, ask-accepts}
 
 zero-not-eleven : _≡_ {A = ℕ} 0 11 → ⊥
@@ -16,6 +19,15 @@ zero-not-eleven h = omega arith
 abbrev pub Without : ℕ → List Question → Type 0
 Without i [] = Unit {0}
 Without i (x ∷ qs) = (x .number ≢ i) × Without i qs
+
+abbrev pub without? : ℕ → List Question → Bool
+without? i [] = true
+without? i (x ∷ qs) = not (eqb (x .number) i) && without? i qs
+
+pub without-by : (i : ℕ) (qs : List Question) → without? i qs ≡ true → Without i qs
+without-by i [] h = tt
+without-by i (x ∷ qs) h =
+    (λ e. true≢false (sym (and-left (not (eqb (x .number) i)) _ h) ∙ ap not (eqb-same (x .number) i e)), without-by i qs (and-right (not (eqb (x .number) i)) _ h))
 
 pub not-number : (i : ℕ) (form qs : List Question) → Without i form → allYes form ≡ false → numberOf (ask (form ++ qs)) ≢ i
 not-number i [] qs d h = absurd (true≢false h)

@@ -1,4 +1,5 @@
--- Packed bits read back, and are bytes; what is cut from bytes or joined of them is bytes; and a string whose spare bits are 0 is its coordinates.
+-- Packed bits read back, and are bytes; what is cut from bytes or joined of them is bytes;
+-- and a string whose spare bits are 0 is its coordinates.
 -- Assumes nothing.
 use mathlib.Core.Path.{_≡_, refl, sym, ap, ap₂, _∙_}
 use mathlib.Core.Bool.{Bool, true, false, cond}

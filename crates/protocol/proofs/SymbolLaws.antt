@@ -1,4 +1,5 @@
--- Symbols: what is read of a string, and what the prover computes from such by sums and products, is a symbol; packed, it is read back.
+-- Symbols: what is read of a string, and what the prover computes from such by sums and products, is a symbol;
+-- packed, it is read back.
 -- Assumes nothing.
 use mathlib.Core.Path.{_≡_, refl, ap, _∙_}
 use mathlib.Core.Bool.{Bool, true, false, cond}

@@ -1,9 +1,13 @@
--- What coordinates are: symbols, how a string of them is written in bytes, and which elements of the field K they stand for.
---   symbols == how many there are;  embed x == the element that symbol x stands for;  symbolOf a == the symbol that stands for a
---   width L == the bytes of a string of L symbols;  at s c == coordinate c of s;  pack L f == the string with the coordinates f
+-- What coordinates are: symbols, how a string of them is written in bytes, and which elements of the field K they stand
+-- for.
+--   symbols == how many there are;  embed x == the element that symbol x stands for
+--   symbolOf a == the symbol that stands for a
+--   width L == the bytes of a string of L symbols;  at s c == coordinate c of s
+--   pack L f == the string with the coordinates f
 --   spareZero s L == what s holds past its L coordinates is 0;  masks == mask coordinates of a repetition
 --   sym A s c == coordinate c of s as an element;  elemAt A s i == byte i of s as an element
--- Equations are written with sym and elemAt only. `Lawful` is what the theorems use of an alphabet; for bits it is proved.
+-- Equations are written with sym and elemAt only. `Lawful` is what the theorems use of an alphabet;
+-- for bits it is proved.
 -- Assumes nothing.
 use mathlib.Core.Path.{_≡_}
 use mathlib.Core.Bool.{Bool, true}

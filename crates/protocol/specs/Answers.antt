@@ -1,9 +1,12 @@
 -- Answers, and how a list of questions gives one.
 --   Answer == accepted, or refused with a number and a place;  numberOf, placeOf == these, 0 where accepted
 --   word == what C receives: number × 65,536 + place, 0 for accepted;  isAccepted == as a Bool
---   Question == a test, and the number and place of the refusal on a no;  ask qs == the refusal of the first question that gets a no
---   allYes qs == every question gets a yes;  written a old new == the output after a call that answers a: a refusal writes nothing
---   Reply answer names a == a is what `answer` gives at a's own place (only refusal 11 uses it), and if a's number is 11, `names` holds of that place
+--   Question == a test, and the number and place of the refusal on a no
+--   ask qs == the refusal of the first question that gets a no
+--   allYes qs == every question gets a yes
+--   written a old new == the output after a call that answers a: a refusal writes nothing
+--   Reply answer names a == a is what `answer` gives at a's own place (only refusal 11 uses it), and if a's number is
+--     11, `names` holds of that place
 --   Published s a == a is accepted or stands in the published list, for a key of sizes s
 -- Assumes nothing.
 use mathlib.Core.Path.{_≡_}

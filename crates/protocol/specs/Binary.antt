@@ -1,4 +1,5 @@
--- The alphabet of 01: bits, which stand for 00 and 01 in K, eight to a byte, with as many mask coordinates as the field's degree.
+-- The alphabet of 01: bits, which stand for 00 and 01 in K, eight to a byte, with as many mask coordinates as the
+-- field's degree.
 --   binary K == bits over the field K;  bits256 == bits over GF(256), the alphabet of every call
 -- Assumes nothing.
 use Prim.Native.Nat.{ℕ, _%_}

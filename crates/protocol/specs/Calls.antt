@@ -1,9 +1,13 @@
--- What each call answers: its questions, in 01's order. In the calls that take a witness, p is the place of refusal 11, which is free.
+-- What each call answers: its questions, in 01's order.
+-- In the calls that take a witness, p is the place of refusal 11, which is free.
 --   testQuestions, .., verifyQuestions == the call's questions on form: all but 11, 14 and 15, which come last
+--   testPuts, commitPuts, batchPuts, provePuts, verifyPuts == all questions that the call puts, in order; hash has none
+--     but those on form
 --   testAnswer, commitAnswer, hashAnswer, batchAnswer, proveAnswer, verifyAnswer == the answers of the six calls
 --   testForm, commitForm, batchForm, proveForm, verifyForm == every question on form gets a yes
---   honestForm == every question of prove on form but 10: a proof's bytes do not depend on the output's length
---   wellFormed key leaves H′ χ proof == demand 3's: the questions on form, of full leaves
+--   honestQuestions, honestForm == every question of prove on form but 10: a proof's bytes do not depend on the
+--     output's length
+--   wellFormedQuestions, wellFormed == demand 3's: the questions on form, of full leaves
 --   TestReply, CommitReply, BatchReply, ProveReply == the replies that the papers allow, where a place is free
 -- Assumes nothing.
 use mathlib.Core.Bool.{Bool}
@@ -46,23 +50,38 @@ module _ (A : Alphabet) (key : List ℕ) where
       q1 A s key ∷ q2 A s ∷ q3 A s key ∷ q4 A s key ∷ q5 A s (ΔExact A s Δ ∷ hExact A s H′ ∷ χExact A s χ ∷ []) ∷ q6 A s H′ ∷ q7 A s (perOpened A) opened
       ∷ q8 A s (perOpened A) opened ∷ q12 A s proof ∷ q13 A s proof ∷ []
 
+  abbrev pub testPuts : List ℕ → ℕ → List Question
+  testPuts x p = testQuestions x ++ (q11 A s key x p ∷ [])
+
+  abbrev pub commitPuts : List ℕ → List ℕ → List ℕ → ℕ → List Question
+  commitPuts leaves x out p = commitQuestions leaves x out ++ (q11 A s key x p ∷ [])
+
+  abbrev pub batchPuts : List ℕ → List ℕ → List ℕ → List ℕ → ℕ → List Question
+  batchPuts leaves x χ out p = batchQuestions leaves x χ out ++ (q11 A s key x p ∷ [])
+
+  abbrev pub provePuts : List ℕ → List ℕ → List ℕ → List ℕ → List ℕ → ℕ → List Question
+  provePuts leaves x H′ χ out p = proveQuestions leaves x H′ χ out ++ (q11 A s key x p ∷ [])
+
+  abbrev pub verifyPuts : List ℕ → List ℕ → List ℕ → List ℕ → List ℕ → List Question
+  verifyPuts Δ H′ χ opened proof = verifyQuestions Δ H′ χ opened proof ++ (q14 A s Δ H′ opened proof ∷ q15 A s key Δ χ opened proof ∷ [])
+
   unfoldable pub testAnswer : List ℕ → ℕ → Answer
-  testAnswer x p = ask (testQuestions x ++ (q11 A s key x p ∷ []))
+  testAnswer x p = ask (testPuts x p)
 
   unfoldable pub commitAnswer : List ℕ → List ℕ → List ℕ → ℕ → Answer
-  commitAnswer leaves x out p = ask (commitQuestions leaves x out ++ (q11 A s key x p ∷ []))
+  commitAnswer leaves x out p = ask (commitPuts leaves x out p)
 
   unfoldable pub hashAnswer : List ℕ → List ℕ → List ℕ → Answer
   hashAnswer leaves H′ out = ask (hashQuestions leaves H′ out)
 
   unfoldable pub batchAnswer : List ℕ → List ℕ → List ℕ → List ℕ → ℕ → Answer
-  batchAnswer leaves x χ out p = ask (batchQuestions leaves x χ out ++ (q11 A s key x p ∷ []))
+  batchAnswer leaves x χ out p = ask (batchPuts leaves x χ out p)
 
   unfoldable pub proveAnswer : List ℕ → List ℕ → List ℕ → List ℕ → List ℕ → ℕ → Answer
-  proveAnswer leaves x H′ χ out p = ask (proveQuestions leaves x H′ χ out ++ (q11 A s key x p ∷ []))
+  proveAnswer leaves x H′ χ out p = ask (provePuts leaves x H′ χ out p)
 
   unfoldable pub verifyAnswer : List ℕ → List ℕ → List ℕ → List ℕ → List ℕ → Answer
-  verifyAnswer Δ H′ χ opened proof = ask (verifyQuestions Δ H′ χ opened proof ++ (q14 A s Δ H′ opened proof ∷ q15 A s key Δ χ opened proof ∷ []))
+  verifyAnswer Δ H′ χ opened proof = ask (verifyPuts Δ H′ χ opened proof)
 
   unfoldable pub testForm : List ℕ → Bool
   testForm x = allYes (testQuestions x)
@@ -79,17 +98,21 @@ module _ (A : Alphabet) (key : List ℕ) where
   unfoldable pub verifyForm : List ℕ → List ℕ → List ℕ → List ℕ → List ℕ → Bool
   verifyForm Δ H′ χ opened proof = allYes (verifyQuestions Δ H′ χ opened proof)
 
+  abbrev pub honestQuestions : List ℕ → List ℕ → List ℕ → List ℕ → List Question
+  honestQuestions leaves x H′ χ =
+      q1 A s key ∷ q2 A s ∷ q3 A s key ∷ q4 A s key ∷ q5 A s (hExact A s H′ ∷ χExact A s χ ∷ []) ∷ q6 A s H′ ∷ q7 A s (perTree A) leaves
+      ∷ q8 A s (perTree A) leaves ∷ q9 A s x ∷ []
+
+  abbrev pub wellFormedQuestions : List ℕ → List ℕ → List ℕ → List ℕ → List Question
+  wellFormedQuestions leaves H′ χ proof =
+      q1 A s key ∷ q2 A s ∷ q3 A s key ∷ q4 A s key ∷ q5 A s (hExact A s H′ ∷ χExact A s χ ∷ []) ∷ q6 A s H′ ∷ q7 A s (perTree A) leaves
+      ∷ q8 A s (perTree A) leaves ∷ q12 A s proof ∷ q13 A s proof ∷ []
+
   unfoldable pub honestForm : List ℕ → List ℕ → List ℕ → List ℕ → Bool
-  honestForm leaves x H′ χ =
-      allYes
-      (q1 A s key ∷ q2 A s ∷ q3 A s key ∷ q4 A s key ∷ q5 A s (hExact A s H′ ∷ χExact A s χ ∷ []) ∷ q6 A s H′ ∷ q7 A s (perTree A) leaves
-      ∷ q8 A s (perTree A) leaves ∷ q9 A s x ∷ [])
+  honestForm leaves x H′ χ = allYes (honestQuestions leaves x H′ χ)
 
   unfoldable pub wellFormed : List ℕ → List ℕ → List ℕ → List ℕ → Bool
-  wellFormed leaves H′ χ proof =
-      allYes
-      (q1 A s key ∷ q2 A s ∷ q3 A s key ∷ q4 A s key ∷ q5 A s (hExact A s H′ ∷ χExact A s χ ∷ []) ∷ q6 A s H′ ∷ q7 A s (perTree A) leaves
-      ∷ q8 A s (perTree A) leaves ∷ q12 A s proof ∷ q13 A s proof ∷ [])
+  wellFormed leaves H′ χ proof = allYes (wellFormedQuestions leaves H′ χ proof)
 
   abbrev pub TestReply : List ℕ → Answer → Type 0
   TestReply x = Reply (testAnswer x) (namesFailing A s key x)

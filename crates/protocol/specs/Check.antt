@@ -1,7 +1,8 @@
 -- The check program: six sections on standard input, each after its count, and one line on standard output.
 --   lengthsIn n s == the counts of the first n sections of s, as they stand
 --   readable n most input == input is at most `most` bytes: n whole sections and nothing more
---   Checked == what is printed: an answer of the verifier, or unread;  decimal x == x in decimal digits;  lineOf == the line;  checkLine input == the whole output
+--   Checked == what is printed: an answer of the verifier, or unread;  decimal x == x in decimal digits
+--   lineOf == the line;  checkLine input == the whole output
 -- Assumes nothing.
 use mathlib.Core.Bool.{Bool, true, false, _&&_}
 use mathlib.Core.List.{List, [], _∷_, _++_}

@@ -1,5 +1,6 @@
 -- A repetition's two checks as polynomials in its challenge δ: one line for each hash row, and one quadratic.
---   shift e == u_e + C_e;  rowLine ρ == row ρ of the consistency check, a + δ·b;  conditions == all of them: the quadratic one is c0 + c1·δ + c2·δ²
+--   shift e == u_e + C_e;  rowLine ρ == row ρ of the consistency check, a + δ·b
+--   conditions == all of them: the quadratic one is c0 + c1·δ + c2·δ²
 -- Assumes nothing.
 use mathlib.Core.List.{List}
 use Prim.Native.Nat.{ℕ, _+_, _*_}

@@ -1,6 +1,8 @@
 -- The words of the forgery count.
---   opening s leaves Δ == the leaves opened at Δ;  acceptedCount == how many Δ of τ bytes the verifier's call accepts, the leaves opened anew for each
---   checksAt == both checks hold in repetition e at δ;  factor == how many elements of K, put for Δ_e, make both hold in e
+--   opening s leaves Δ == the leaves opened at Δ
+--   acceptedCount == how many Δ of τ bytes the verifier's call accepts, the leaves opened anew for each
+--   checksAt == both checks hold in repetition e at δ
+--   factor == how many elements of K, put for Δ_e, make both hold in e
 -- Assumes nothing.
 use mathlib.Core.Bool.{Bool, _&&_}
 use mathlib.Core.List.{List, map}

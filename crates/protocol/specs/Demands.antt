@@ -1,6 +1,9 @@
--- The client's demands 2 and 3, sentence by sentence, over the names that the calls' contracts cite, at GF(256). proofs/Demands proves each.
+-- The client's demands 2 and 3, sentence by sentence, over the names that the calls' contracts cite, at GF(256).
+-- proofs/Demands proves each.
 -- Well-formed is what 01 says: every question on form gets a yes. `wellFormed` and `verifyForm` are those questions.
---   𝟎 == 00 of K;  EachOnce n == each string of n bytes stands exactly once among the strings of n elements of K, a byte being an element
+--   𝟎 == 00 of K
+--   EachOnce n == each string of n bytes stands exactly once among the strings of n elements of K, a byte being an
+--     element
 --   InAll n == those strings are 256^n
 -- Assumes nothing.
 use mathlib.Core.Path.{_≡_}
@@ -40,13 +43,16 @@ EachOnce n = (s : List ℕ) → length s ≡ n → bytes s → count (λ z. same
 abbrev pub InAll : ℕ → Type 0
 InAll n = length (strings (bits256 .K .base) n) ≡ 256 ^ n
 
--- Demand 2. "The prover's every byte equals what the published protocol's equations give for that key, witness, leaves and challenges": `proofOf` is these
--- bytes, and the contracts of the calls cite it. Here: the three steps' bytes, one after the other, are the whole call's.
+-- Demand 2. "The prover's every byte equals what the published protocol's equations give for that key, witness, leaves
+-- and challenges": `proofOf` is these bytes, and the contracts of the calls cite it.
+-- Here: the three steps' bytes, one after the other, are the whole call's.
 abbrev pub StepBytes : Type 0
 StepBytes = (key leaves x H′ χ : List ℕ) → commitBytes bits256 key leaves x ++ (hashBytes bits256 key leaves H′ ++ batchBytes bits256 key leaves x χ) ≡ proofOf bits256 key leaves x H′ χ
 
--- "and, all else being well formed, a call given a witness of the right form refuses it exactly when some equation fails."
--- `RefusedIff`: refused, and refused 11, exactly when some equation fails. The same of the test, of commit and of batch: `RefusesExactly`.
+-- "and, all else being well formed, a call given a witness of the right form refuses it exactly when some equation
+-- fails."
+-- `RefusedIff`: refused, and refused 11, exactly when some equation fails.
+-- The same of the test, of commit and of batch: `RefusesExactly`.
 abbrev pub RefusedExactlyWhen : Type 0
 RefusedExactlyWhen = (key leaves x H′ χ out : List ℕ) (a : Answer) → proveForm bits256 key leaves x H′ χ out ≡ true → ProveReply bits256 key leaves x H′ χ out a
     → ((a ≢ accepted) ↔ SomeFails bits256 key x) × ((numberOf a ≡ 11) ↔ SomeFails bits256 key x)
@@ -64,8 +70,8 @@ HonestProofAccepted = (key leaves x H′ χ Δ : List ℕ) → honestForm bits25
 
 -- Demand 3. "Whatever well-formed key, full set of leaves, hash matrix, batching bytes and proof a stranger hands us,
 module _ (key leaves H′ χ proof : List ℕ) where
-  -- the count of challenge strings that the verifier accepts, the leaves opened anew for each, equals the product of one factor per repetition: the number
-  -- of challenge bytes at which both published checks hold there."
+  -- the count of challenge strings that the verifier accepts, the leaves opened anew for each, equals the product of
+  -- one factor per repetition: the number of challenge bytes at which both published checks hold there."
   abbrev pub CountEqualsProduct : Type 0
   CountEqualsProduct = acceptedCount bits256 key leaves H′ χ proof ≡ product (shapeOf key .τ) (factor bits256 key leaves H′ χ proof)
 
@@ -85,12 +91,14 @@ module _ (key leaves H′ χ proof : List ℕ) where
   abbrev pub LargeCountNeedsFull : Type 0
   LargeCountNeedsFull = 2 ^ (shapeOf key .τ) < acceptedCount bits256 key leaves H′ χ proof → (e : ℕ) × (e < shapeOf key .τ) × (factor bits256 key leaves H′ χ proof e ≡ 256)
 
-  -- and wherever one is, the leaves and corrections spell for that repetition a candidate witness whose equation errors, each times its batching byte, sum
-  -- to zero." The candidate need not solve the system: a batching byte that is zero hides an error.
+  -- and wherever one is, the leaves and corrections spell for that repetition a candidate witness whose equation
+  -- errors, each times its batching byte, sum to zero." The candidate need not solve the system: a batching byte that
+  -- is zero hides an error.
   abbrev pub FullSpellsCandidate : Type 0
   FullSpellsCandidate = (e : ℕ) → e < shapeOf key .τ → factor bits256 key leaves H′ χ proof e ≡ 256 → batchedError bits256 (shapeOf key) key χ leaves (sectionsIn bits256 (shapeOf key) proof) e ≡ 𝟎
 
-  -- "a candidate witness": its bytes are a witness of the right form, at which each equation's error is the candidate's.
+  -- "a candidate witness": its bytes are a witness of the right form, at which each equation's error is the
+  -- candidate's.
   abbrev pub CandidateWitness : Type 0
   CandidateWitness = CandidateIsWitness bits256 key leaves proof × ((e : ℕ) → bytes (candidateBytes bits256 key leaves proof e))
 
@@ -99,8 +107,8 @@ module _ (key leaves H′ χ proof : List ℕ) where
   ThatSum = (e : ℕ) → batchedError bits256 (shapeOf key) key χ leaves (sectionsIn bits256 (shapeOf key) proof) e
       ≡ columnSum (bits256 .K .base) (shapeOf key .m) (table (shapeOf key .m) (χAt bits256 (shapeOf key) χ e)) (errorOf bits256 key leaves proof e)
 
-  -- "For the candidate of every repetition, whatever its factor, exactly 256 to the power m−1 of all batching columns for m equations make that sum zero if
-  -- it fails any equation,
+  -- "For the candidate of every repetition, whatever its factor, exactly 256 to the power m−1 of all batching columns
+  -- for m equations make that sum zero if it fails any equation,
   abbrev pub ColumnsIfFailing : Type 0
   ColumnsIfFailing = (e i : ℕ) → i < shapeOf key .m → errorOf bits256 key leaves proof e i ≢ 𝟎
       → zeroColumns (bits256 .K .base) (shapeOf key .m) (errorOf bits256 key leaves proof e) ≡ 256 ^ (shapeOf key .m - 1)
@@ -110,7 +118,8 @@ module _ (key leaves H′ χ proof : List ℕ) where
   ColumnsIfSolving = (e : ℕ) → ((i : ℕ) → i < shapeOf key .m → errorOf bits256 key leaves proof e i ≡ 𝟎)
       → zeroColumns (bits256 .K .base) (shapeOf key .m) (errorOf bits256 key leaves proof e) ≡ 256 ^ (shapeOf key .m)
 
-  -- "all batching columns": any m elements of K. Each stands exactly once among the columns that are counted, and they are 256^m.
+  -- "all batching columns": any m elements of K. Each stands exactly once among the columns that are counted, and they
+  -- are 256^m.
   abbrev pub EveryColumnOnce : Type 0
   EveryColumnOnce = EachOnce (shapeOf key .m)
 

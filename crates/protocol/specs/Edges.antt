@@ -1,22 +1,31 @@
--- Where a no begins: at the sizes, at spare bits and exact lengths, and where two questions get a no. proofs/Edges computes each statement.
--- Key, leaves and proof are those of SmallSitting with bytes changed; where a spare bit is set, it is one of the last row.
---   allowed n m τ t == the limits admit these sizes
+-- Where a no begins: at the sizes, at spare bits and exact lengths, and where two questions get a no.
+-- proofs/Edges computes each statement.
+-- Key, leaves and proof are those of SmallExample with bytes changed. A spare bit that is set is the first one of the
+-- last row (A-spare-set), the last one of the first row (A-first-row), or the last one of the only row (y-last).
+-- That each call is refused by each of its questions, Refusals has.
+--   allowed n m τ t == the limits admit these sizes;  toy == the sizes of 01's toy
 -- Assumes nothing.
 use mathlib.Core.Path.{_≡_}
 use mathlib.Core.Bool.{Bool, true, false}
 use mathlib.Core.List.{List, [], _∷_, _++_}
 use Prim.Native.Nat.{ℕ}
-use lib.ListN.{replicate}
-use Rattle.protocol.specs.Shape.{limits, perTree, perOpened}
+use lib.ListN.{replicate, take}
+use Rattle.protocol.specs.Frames.{num2, num4, count4}
+use Rattle.protocol.specs.Reader.{between, missing, sectionAt}
+use Rattle.protocol.specs.Binary.{bits256}
+use Rattle.protocol.specs.Shape.{Shape, limits, perTree, perOpened, kOf, lOf, wOf}
 use Rattle.protocol.specs.Key.{keyExact, keySpare}
 use Rattle.protocol.specs.Sections.{sectionsIn}
 use Rattle.protocol.specs.Answers.{Answer, accepted, refused, word}
 use Rattle.protocol.specs.Questions.{hSpare, leavesSpare, witnessForm, solves, proofSpare}
-use Rattle.protocol.specs.Calls.{testAnswer, commitAnswer, hashAnswer, batchAnswer, proveAnswer, verifyAnswer}
-use Rattle.protocol.specs.SmallSitting.{bits16, changed, sizes, key, witness, leaves, H′, χ, Δ, proof, opened}
+use Rattle.protocol.specs.Calls.{testAnswer, proveAnswer, verifyAnswer}
+use Rattle.protocol.specs.SmallExample.{bits16, changed, sizes, key, witness, leaves, H′, χ, Δ, proof, opened}
 
 abbrev pub allowed : ℕ → ℕ → ℕ → ℕ → Bool
 allowed n m τ t = limits (record { n = n; m = m; τ = τ; t = t })
+
+abbrev pub toy : Shape
+toy = record { n = 2; m = 1; τ = 1; t = 1 }
 
 pub record Limits : Type 0 where
   pub least : allowed 1 1 1 1 ≡ true
@@ -33,25 +42,59 @@ pub record Limits : Type 0 where
 pub record Forms : Type 0 where
   pub key-exact : keyExact bits16 sizes key ≡ true
   pub count-wrong : keyExact bits16 sizes (changed key 8 0x01) ≡ false
+  pub count-second : keyExact bits16 sizes (changed key 9 0x01) ≡ false
+  pub count-third : keyExact bits16 sizes (changed key 10 0x01) ≡ false
+  pub count-fourth : keyExact bits16 sizes (changed key 11 0x01) ≡ false
   pub key-long : keyExact bits16 sizes (key ++ (0x00 ∷ [])) ≡ false
   pub key-spare : keySpare bits16 sizes key ≡ true
   pub A-spare-set : keySpare bits16 sizes (changed key 47 0x02) ≡ false
+  pub A-first-row : keySpare bits16 sizes (changed key 13 0x80) ≡ false
   pub b-spare-set : keySpare bits16 sizes (changed key 55 0x02) ≡ false
+  pub b-first-row : keySpare bits16 sizes (changed key 53 0x80) ≡ false
   pub y-spare-set : keySpare bits16 sizes (changed key 60 0x04) ≡ false
+  pub y-last : keySpare bits16 sizes (changed key 60 0x80) ≡ false
   pub H-spare : hSpare bits16 sizes H′ ≡ true
   pub H-spare-set : hSpare bits16 sizes (changed H′ 3 0x20) ≡ false
+  pub H-first-row : hSpare bits16 sizes (changed H′ 1 0x80) ≡ false
   pub leaves-spare : leavesSpare bits16 sizes (perTree bits16) leaves ≡ true
   pub leaves-spare-set : leavesSpare bits16 sizes (perTree bits16) (changed leaves 63 0x80) ≡ false
+  pub leaves-first-row : leavesSpare bits16 sizes (perTree bits16) (changed leaves 1 0x80) ≡ false
   pub opened-spare : leavesSpare bits16 sizes (perOpened bits16) opened ≡ true
   pub opened-spare-set : leavesSpare bits16 sizes (perOpened bits16) (changed opened 59 0x80) ≡ false
+  pub opened-first-row : leavesSpare bits16 sizes (perOpened bits16) (changed opened 1 0x80) ≡ false
   pub witness-form : witnessForm bits16 sizes witness ≡ true
   pub witness-spare-set : witnessForm bits16 sizes (changed witness 1 0x02) ≡ false
+  pub witness-long : witnessForm bits16 sizes (witness ++ (0x00 ∷ [])) ≡ false
+  pub witness-short : witnessForm bits16 sizes (take 1 witness) ≡ false
+  pub witness-last : witnessForm bits16 sizes (changed witness 1 0x80) ≡ false
   pub proof-spare : proofSpare bits16 sizes (sectionsIn bits16 sizes proof) ≡ true
   pub C-spare-set : proofSpare bits16 sizes (sectionsIn bits16 sizes (changed proof 5 0x80)) ≡ false
   pub d-spare-set : proofSpare bits16 sizes (sectionsIn bits16 sizes (changed proof 11 0x02)) ≡ false
+  pub d-last : proofSpare bits16 sizes (sectionsIn bits16 sizes (changed proof 11 0x80)) ≡ false
   pub ũ-spare-set : proofSpare bits16 sizes (sectionsIn bits16 sizes (changed proof 16 0x04)) ≡ false
+  pub ũ-last : proofSpare bits16 sizes (sectionsIn bits16 sizes (changed proof 16 0x80)) ≡ false
   pub solved : solves bits16 sizes key witness ≡ true
   pub not-solved : solves bits16 sizes key (changed witness 0 0x01) ≡ false
+
+-- Numbers in bytes, lowest first.
+pub record Numbers : Type 0 where
+  pub num2-is : num2 (0x01 ∷ 0x02 ∷ []) 0 ≡ 0x0201
+  pub num4-is : num4 (0x01 ∷ 0x02 ∷ 0x03 ∷ 0x04 ∷ []) 0 ≡ 0x04030201
+  pub count4-is : count4 0x04030201 ≡ 0x01 ∷ 0x02 ∷ 0x03 ∷ 0x04 ∷ []
+
+-- A key without a whole header; a size whose high byte is set; a count whose third byte is set;
+-- a byte too many or too few.
+pub record Lengths : Type 0 where
+  pub header-short : testAnswer bits16 (take 7 key) witness 0 ≡ refused 1 0
+  pub header-alone : testAnswer bits16 (take 8 key) witness 0 ≡ refused 3 0
+  pub m-high : testAnswer bits16 (changed key 3 0x01) witness 0 ≡ refused 2 0
+  pub τ-high : testAnswer bits16 (changed key 5 0x01) witness 0 ≡ refused 2 0
+  pub t-high : testAnswer bits16 (changed key 7 0x01) witness 0 ≡ refused 2 0
+  pub Δ-long : verifyAnswer bits16 key (Δ ++ (0x00 ∷ [])) H′ χ opened proof ≡ refused 5 0
+  pub Δ-short : verifyAnswer bits16 key (take 1 Δ) H′ χ opened proof ≡ refused 5 0
+  pub H-short : verifyAnswer bits16 key Δ (take 3 H′) χ opened proof ≡ refused 5 0
+  pub χ-short : verifyAnswer bits16 key Δ H′ (take 3 χ) opened proof ≡ refused 5 0
+  pub count-third : verifyAnswer bits16 key Δ H′ χ opened (changed proof 2 0x01) ≡ refused 12 0
 
 -- Two questions get a no, and the first in 01's order refuses.
 pub record Order : Type 0 where
@@ -63,18 +106,23 @@ pub record Order : Type 0 where
   pub nine-ten : proveAnswer bits16 key leaves (changed witness 1 0x02) H′ χ [] 0 ≡ refused 9 0
   pub ten-eleven : proveAnswer bits16 key leaves (changed witness 0 0x01) H′ χ [] 1 ≡ refused 10 0
   pub eleven : proveAnswer bits16 key leaves (changed witness 0 0x01) H′ χ (replicate 37 0x00) 1 ≡ refused 11 1
-  pub none : proveAnswer bits16 key leaves witness H′ χ (replicate 37 0x00) 0 ≡ accepted
 
--- The other calls: taken with an output of the exact length, and refused by the question that their inputs concern.
-pub record Steps : Type 0 where
-  pub test-taken : testAnswer bits16 key witness 0 ≡ accepted
-  pub test-eleven : testAnswer bits16 key (changed witness 0 0x01) 1 ≡ refused 11 1
-  pub commit-taken : commitAnswer bits16 key leaves witness (replicate 12 0x00) 0 ≡ accepted
-  pub commit-ten : commitAnswer bits16 key leaves witness (replicate 13 0x00) 0 ≡ refused 10 0
-  pub hash-taken : hashAnswer bits16 key leaves H′ (replicate 13 0x00) ≡ accepted
-  pub hash-six : hashAnswer bits16 key leaves (changed H′ 3 0x20) (replicate 13 0x00) ≡ refused 6 0
-  pub batch-taken : batchAnswer bits16 key leaves witness χ (replicate 12 0x00) 0 ≡ accepted
-  pub batch-five : batchAnswer bits16 key leaves witness (χ ++ (0x00 ∷ [])) (replicate 12 0x00) 0 ≡ refused 5 0
+-- 01's numbers, over GF(256), at the sizes of its toy: k, L, w, the leaves of a tree and of an opened one.
+pub record Derived : Type 0 where
+  pub k-is : kOf bits256 toy ≡ 10
+  pub L-is : lOf bits256 toy ≡ 11
+  pub w-is : wOf bits256 toy ≡ 2
+  pub tree-is : perTree bits256 ≡ 256
+  pub opened-is : perOpened bits256 ≡ 255
+
+-- One section of the proof by the count that is found: the first, the last, and one that is cut.
+pub record Extents : Type 0 where
+  pub first : sectionAt proof 0 ≡ between 4 6
+  pub last : sectionAt proof 31 ≡ between 35 37
+  pub cut : sectionAt (take 36 proof) 31 ≡ missing
+  pub count-cut : sectionAt (take 34 proof) 31 ≡ missing
+  pub at-end : sectionAt proof 37 ≡ missing
+  pub count-third : sectionAt (changed proof 33 0x01) 31 ≡ missing
 
 -- What C receives.
 pub record Words : Type 0 where

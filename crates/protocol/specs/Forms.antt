@@ -1,7 +1,9 @@
 -- The forms of a key, the hash, the mask and the batching, of any vector f : ℕ → F.
---   quad key i f g == fᵀ·A_i·g;  lin key i f == b_i·f;  yOf key i == y_i;  error key i f == equation i's left side at f, plus y_i
+--   quad key i f g == fᵀ·A_i·g;  lin key i f == b_i·f;  yOf key i == y_i
+--   error key i f == equation i's left side at f, plus y_i
 --   middle key i f g == the coefficient of X in fᵀA_i·f at f + X·g, plus X·(b_i·(f + X·g))
---   h H′ ρ c == H(ρ, c), H = [H′ | identity];  hash H′ ρ f == row ρ of H·f;  α == the element 02;  maskOf e f == Σ α^s·f(mask coordinate s of e)
+--   h H′ ρ c == H(ρ, c), H = [H′ | identity];  hash H′ ρ f == row ρ of H·f;  α == the element 02
+--   maskOf e f == Σ α^s·f(mask coordinate s of e)
 --   χAt χ e i == χ(e, i);  batch χ e f == Σ χ(e, i)·f(i)
 -- Assumes nothing.
 use mathlib.Core.Bool.{cond}

@@ -1,5 +1,6 @@
 -- The key: its sections A, b, y after the header of eight bytes, and the coefficients that they hold.
---   rowsSpare A L rows str == each of the first `rows` rows of L coordinates of str has spare bits 0;  keyLengths == the lengths of the sections
+--   rowsSpare A L rows str == each of the first `rows` rows of L coordinates of str has spare bits 0
+--   keyLengths == the lengths of the sections
 --   keyExact, keySpare == questions 3 and 4;  aSym key i ρ c == A_i(ρ, c);  bSym key i c == b_i(c);  ySym key i == y_i
 -- Assumes nothing.
 use mathlib.Core.Bool.{Bool}

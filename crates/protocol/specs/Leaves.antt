@@ -1,8 +1,10 @@
--- Leaves: the full string, the opened leaves got from it by leaving out j = δ in each repetition, and where leaf j stands in an opened tree.
+-- Leaves: the full string, the opened leaves got from it by leaving out j = δ in each repetition, and where leaf j
+-- stands in an opened tree.
 --   q == leaves of a tree;  w == bytes of a leaf;  leafAt q w leaves e j == ℓ(e, j)
 --   openTree q w leaves e δ == the leaves of repetition e whose index is not δ, rising: indices are FILTERED
 --   openLeaves q w τ leaves Δ == the opened trees of all repetitions, tree e opened at Δ_e
---   place δ j == where leaf j stands in an opened tree: j below δ, j - 1 above;  openedLeaf w δ tree j == the leaf at that place
+--   place δ j == where leaf j stands in an opened tree: j below δ, j - 1 above
+--   openedLeaf w δ tree j == the leaf at that place
 -- Two descriptions of one thing, joined by a theorem (`OpenedByPlace`), so that no slip of indexing hides in both.
 -- Assumes nothing.
 use mathlib.Core.Bool.{Bool, true, false, cond}

@@ -19,5 +19,9 @@ pub mod Coefficients
 pub mod Check
 pub mod Statements
 pub mod Demands
-pub mod SmallSitting
+pub mod SmallExample
+pub mod ThreeRepetitions
+pub mod QuestionNumbers
 pub mod Edges
+pub mod Refusals
+pub mod CheckEdges

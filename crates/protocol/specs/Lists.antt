@@ -1,6 +1,7 @@
 -- Lists made from functions, and tests at every index.
 --   table n f == f 0, .., f (n - 1);  concat ss == the strings of ss, one after the other
---   allBelow n p == p i for each i < n;  allTrue bs == each of bs;  firstNot n p == the first i < n with not p i (n where there is none)
+--   allBelow n p == p i for each i < n;  allTrue bs == each of bs
+--   firstNot n p == the first i < n with not p i (n where there is none)
 --   blockAt s w i == block i of s, cut in blocks of w entries;  part s at len == len entries of s from index at on
 -- Assumes nothing.
 use mathlib.Core.Bool.{Bool, true, false, _&&_}

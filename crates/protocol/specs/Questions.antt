@@ -1,8 +1,12 @@
 -- The fifteen questions of 01, each with its number; the place is 0 but for 11, 14 and 15.
---   hExact, χExact, ΔExact == a challenge has its exact length;  leavesExact per l == l is `per` leaves for each repetition
---   hSpare, leavesSpare, proofSpare == spare bits are 0;  witnessForm x == question 9;  solves key x == every equation of the key holds at x
---   fails key x i == i is an equation of the key, and it fails at x;  namesFailing key x i == refusal 11 may name i: it fails
---   treeOf opened e == the opened tree of repetition e;  consistentIn, productIn == the checks in repetition e, on what the verifier is lent
+--   hExact, χExact, ΔExact == a challenge has its exact length
+--   leavesExact per l == l is `per` leaves for each repetition
+--   hSpare, leavesSpare, proofSpare == spare bits are 0;  witnessForm x == question 9
+--   solves key x == every equation of the key holds at x
+--   fails key x i == i is an equation of the key, and it fails at x
+--   namesFailing key x i == refusal 11 may name i: it fails
+--   treeOf opened e == the opened tree of repetition e
+--   consistentIn, productIn == the checks in repetition e, on what the verifier is lent
 -- Assumes nothing.
 use mathlib.Core.Path.{_≡_}
 use mathlib.Core.Logic.{_≢_}

@@ -1,5 +1,6 @@
 -- One section of a string of sections: where its bytes stand, by the count that is found there, whatever it is.
---   Extent == from a start up to an end, or missing;  sectionAt s at == the section whose count stands at index at: missing where it is not there whole
+--   Extent == from a start up to an end, or missing
+--   sectionAt s at == the section whose count stands at index at: missing where it is not there whole
 -- Assumes nothing.
 use mathlib.Core.Bool.{true, false, _&&_}
 use mathlib.Core.List.{List}

@@ -1,6 +1,7 @@
 -- A proof's six sections, in order: C, d, ũ, Ṽ, QS0, QS1.
 --   bytesOf p == the proof's bytes, each section after its count;  lengths A s == the sections' lengths
---   commitLengths, hashLengths, batchLengths == those of the two sections that each step writes;  sectionsIn A s proof == the sections of a proof
+--   commitLengths, hashLengths, batchLengths == those of the two sections that each step writes
+--   sectionsIn A s proof == the sections of a proof
 -- Assumes nothing.
 use mathlib.Core.List.{List, [], _∷_}
 use Prim.Native.Nat.{ℕ, _*_, _-_}

@@ -1,4 +1,5 @@
--- What is proved of the definitions, for any alphabet that is lawful. `Demands` gives the client's sentences at GF(256).
+-- What is proved of the definitions, for any alphabet that is lawful.
+-- `Demands` gives the client's sentences at GF(256).
 -- Assumes nothing.
 use mathlib.Core.Path.{_≡_}
 use mathlib.Core.Logic.{_≢_, _⊎_, _↔_}
@@ -65,7 +66,8 @@ module _ (A : Alphabet) where
     pub prove-published : (key leaves x H′ χ out : List ℕ) (a : Answer) → ProveReply A key leaves x H′ χ out a → Published (shapeOf key) a
     pub verify-published : (key Δ H′ χ opened proof : List ℕ) → Published (shapeOf key) (verifyAnswer A key Δ H′ χ opened proof)
 
-  -- All else being well formed, a witness of the right form is refused exactly when some equation fails, and then by the number 11.
+  -- All else being well formed, a witness of the right form is refused exactly when some equation fails, and then by
+  -- the number 11.
   abbrev pub SomeFails : List ℕ → List ℕ → Type 0
   SomeFails key x = (i : ℕ) × fails A (shapeOf key) key x i
 
@@ -77,6 +79,13 @@ module _ (A : Alphabet) where
     pub commit-refuses : (key leaves x out : List ℕ) (a : Answer) → commitForm A key leaves x out ≡ true → CommitReply A key leaves x out a → RefusedIff key x a
     pub batch-refuses : (key leaves x χ out : List ℕ) (a : Answer) → batchForm A key leaves x χ out ≡ true → BatchReply A key leaves x χ out a → RefusedIff key x a
     pub prove-refuses : (key leaves x H′ χ out : List ℕ) (a : Answer) → proveForm A key leaves x H′ χ out ≡ true → ProveReply A key leaves x H′ χ out a → RefusedIff key x a
+
+  -- For all inputs there is a reply that the papers allow.
+  pub record AlwaysReplies : Type 0 where
+    pub test-replies : (key x : List ℕ) → (a : Answer) × TestReply A key x a
+    pub commit-replies : (key leaves x out : List ℕ) → (a : Answer) × CommitReply A key leaves x out a
+    pub batch-replies : (key leaves x χ out : List ℕ) → (a : Answer) × BatchReply A key leaves x χ out a
+    pub prove-replies : (key leaves x H′ χ out : List ℕ) → (a : Answer) × ProveReply A key leaves x H′ χ out a
 
   -- The two descriptions of opened leaves agree, and what is opened has the right form.
   abbrev pub OpenedByPlace : Type 0
@@ -92,7 +101,8 @@ module _ (A : Alphabet) where
   VoleIdentity = (s : Shape) (leaves : List ℕ) → leavesExact A s (perTree A) leaves ≡ true → (p : Sections) (e δ c : ℕ) → e < s .τ → δ < size
       → W A s p e δ (openTree (perTree A) (wOf A s) leaves e δ) c ≡ v A s leaves e c ⊕ elem δ ⊗ (u A s leaves e c ⊕ correctionAt A s p e c)
 
-  -- An equation at f + X·g, as a polynomial in X: at v_e + X·x its coefficients are a₀, a₁ and the error, 0 for a solution.
+  -- An equation at f + X·g, as a polynomial in X: at v_e + X·x its coefficients are a₀, a₁ and the error, 0 for a
+  -- solution.
   abbrev pub Expansion : Type 0
   Expansion = (s : Shape) (key : List ℕ) (i : ℕ) (f g : ℕ → F) (X : F)
       → quad A s key i (λ c. f c ⊕ X ⊗ g c) (λ c. f c ⊕ X ⊗ g c) ⊕ X ⊗ lin A s key i (λ c. f c ⊕ X ⊗ g c) ⊕ yOf A s key i ⊗ (X ⊗ X)
@@ -108,7 +118,8 @@ module _ (A : Alphabet) where
       → length Δ ≡ shapeOf key .τ → ((e : ℕ) → e < length Δ → getD Δ e 0 < size)
       → verifyAnswer A key Δ H′ χ (opening A (shapeOf key) leaves Δ) (proofOf A key leaves x H′ χ) ≡ accepted
 
-  -- The verifier accepts exactly when both checks hold in every repetition; and a refusal 14 or 15 names the first repetition that fails.
+  -- The verifier accepts exactly when both checks hold in every repetition;
+  -- and a refusal 14 or 15 names the first repetition that fails.
   abbrev pub AcceptsExactly : Type 0
   AcceptsExactly = (key Δ H′ χ opened proof : List ℕ) → verifyForm A key Δ H′ χ opened proof ≡ true
       → (verifyAnswer A key Δ H′ χ opened proof ≡ accepted)
@@ -121,7 +132,8 @@ module _ (A : Alphabet) where
         → FirstFailing (shapeOf key .τ) (productIn A (shapeOf key) key Δ χ opened proof) e
         × ((i : ℕ) → i < shapeOf key .τ → consistentIn A (shapeOf key) Δ H′ opened proof i ≡ true)
 
-  -- The steps' bytes, one after the other, are the whole proof's; and a proof reads back as its six sections, with nothing after them.
+  -- The steps' bytes, one after the other, are the whole proof's;
+  -- and a proof reads back as its six sections, with nothing after them.
   abbrev pub StepsAreWhole : Type 0
   StepsAreWhole = (key leaves x H′ χ : List ℕ) → commitBytes A key leaves x ++ (hashBytes A key leaves H′ ++ batchBytes A key leaves x χ) ≡ proofOf A key leaves x H′ χ
 
@@ -147,7 +159,8 @@ module _ (A : Alphabet) where
     abbrev pub CandidateIsWitness : Type 0
     CandidateIsWitness = (e : ℕ) → (witnessForm A (shapeOf key) (candidateBytes e) ≡ true) × ((i : ℕ) → error A (shapeOf key) key i (sym A (candidateBytes e)) ≡ errorOf e i)
 
-    -- The columns that hide a failing candidate, and those that hide one that fails nothing: of anything, well-formed or not.
+    -- The columns that hide a failing candidate, and those that hide one that fails nothing: of anything, well-formed
+    -- or not.
     pub record HidingColumns : Type 0 where
       pub failing : (e i : ℕ) → i < shapeOf key .m → errorOf e i ≢ 𝟘 → zeroColumns base (shapeOf key .m) (errorOf e) ≡ size ^ (shapeOf key .m - 1)
       pub solving : (e : ℕ) → ((i : ℕ) → i < shapeOf key .m → errorOf e i ≡ 𝟘) → zeroColumns base (shapeOf key .m) (errorOf e) ≡ size ^ (shapeOf key .m)

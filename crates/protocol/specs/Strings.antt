@@ -1,4 +1,5 @@
--- Bit strings, as 01 writes them: L bits take ⌈L/8⌉ bytes; coordinate c is bit c mod 8, bit 0 lowest, of byte ⌊c/8⌋; bits past the last are spare.
+-- Bit strings, as 01 writes them: L bits take ⌈L/8⌉ bytes; coordinate c is bit c mod 8, bit 0 lowest, of byte ⌊c/8⌋;
+-- bits past the last are spare.
 --   bytesFor L == ⌈L/8⌉;  bit s c == coordinate c of s, 0 past the end;  spareZero s L == the bits of s from L on are 0
 --   pack L f == the string whose coordinates are f 0, .., f (L - 1) and whose spare bits are 0
 --   fromBits n g == the number with the bits g 0, .., g (n - 1), lowest first;  bytes s == each entry of s is below 256

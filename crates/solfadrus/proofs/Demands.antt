@@ -57,7 +57,7 @@ every-question-put = record {
 }
 
 pub refused-keeps : RefusedKeeps
-refused-keeps reply before after bytes r t n = kept (t .0) before after bytes (t .1 .2) (λ z. n (t .1 .0 ∙ z))
+refused-keeps reply before after string r t n = kept (t .0) before after string (t .1 .2) (λ z. n (t .1 .0 ∙ z))
 
 pub accepted-writes : AcceptedWrites
 accepted-writes = record {

@@ -45,12 +45,12 @@ not-zero s a r F p w i = (λ n. i .0 (λ e. n (w ∙ ap word e ∙ word-accepted
 
 -- ---- the output
 
-pub kept : (a : Answer) (before after bytes : List ℕ) → after ≡ written a before bytes → word a ≢ 0 → after ≡ before
-kept accepted before after bytes e n = absurd (n word-accepted)
-kept (refused i p) before after bytes e n = e
+pub kept : (a : Answer) (before after string : List ℕ) → after ≡ written a before string → word a ≢ 0 → after ≡ before
+kept accepted before after string e n = absurd (n word-accepted)
+kept (refused i p) before after string e n = e
 
-pub wrote : (s : Shape) (a : Answer) (before after bytes : List ℕ) → Published s a → 0 ≡ word a → after ≡ written a before bytes → after ≡ bytes
-wrote s a before after bytes p z e = e ∙ ap (λ b. written b before bytes) (only-accepted s a p (sym z))
+pub wrote : (s : Shape) (a : Answer) (before after string : List ℕ) → Published s a → 0 ≡ word a → after ≡ written a before string → after ≡ string
+wrote s a before after string p z e = e ∙ ap (λ b. written b before string) (only-accepted s a p (sym z))
 
 -- ---- number and place, of a call that first asks for the key's header and then for its sizes, as each does
 

@@ -88,7 +88,7 @@ pub record PlacesNamed : Type 0 where
 
 -- "a refused call changes no lent byte": of any export that writes. Inputs are lent for reading only, and mq_verify is lent nothing else.
 abbrev pub RefusedKeeps : Type 1
-RefusedKeeps = (reply : Answer → Type 0) (before after bytes : List ℕ) (r : ℕ) → Writes reply before after bytes r → r ≢ 0 → after ≡ before
+RefusedKeeps = (reply : Answer → Type 0) (before after string : List ℕ) (r : ℕ) → Writes reply before after string r → r ≢ 0 → after ≡ before
 
 -- An accepted call has written the definition's bytes.
 pub record AcceptedWrites : Type 0 where

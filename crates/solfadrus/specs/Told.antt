@@ -1,6 +1,6 @@
 -- What an export tells C.
 --   Told reply r == r is the word of an answer that `reply` allows
---   Writes reply before after bytes r == the same, and the output holds `bytes` after an accepted call, and else what it held before
+--   Writes reply before after string r == the same, and the output holds `string` after an accepted call, and else what it held before
 -- Assumes nothing.
 use mathlib.Core.Path.{_≡_}
 use mathlib.Core.List.{List}
@@ -11,4 +11,4 @@ abbrev pub Told : (Answer → Type 0) → ℕ → Type 0
 Told reply r = (a : Answer) × ((r ≡ word a) × reply a)
 
 abbrev pub Writes : (Answer → Type 0) → List ℕ → List ℕ → List ℕ → ℕ → Type 0
-Writes reply before after bytes r = (a : Answer) × ((r ≡ word a) × reply a × (after ≡ written a before bytes))
+Writes reply before after string r = (a : Answer) × ((r ≡ word a) × reply a × (after ≡ written a before string))

@@ -67,7 +67,7 @@ fn toy_input() -> Vec<u8> {
     framed(&toy_sections(0x02, 1, 0x01, 0x04))
 }
 
-/// The toy sitting's entries that a verifier answers.
+/// The toy example's entries that a verifier answers.
 pub fn toy() -> Vec<Input> {
     let mut inputs = Vec::new();
     for delta in 0..=255 {

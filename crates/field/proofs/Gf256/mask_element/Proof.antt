@@ -1,4 +1,5 @@
--- `field::Gf256::mask_element` meets its contract: below the degree a test at each number, which the checker computes; from there on both are 0.
+-- `field::Gf256::mask_element` meets its contract: below the degree a test at each number, which the checker computes;
+-- from there on both are 0.
 -- Assumes nothing.
 use mathlib.Core.Path.{_≡_}
 use mathlib.Core.Bool.{Bool}

@@ -1,4 +1,5 @@
--- `field::Gf256::multiply` meets its contract. The invariant: the sum and what the turns that are left still add are the product.
+-- `field::Gf256::multiply` meets its contract. The invariant: the sum and what the turns that are left still add are
+-- the product.
 -- It is a byte, since it is a sum of bytes. Assumes nothing.
 use mathlib.Core.Path.{_≡_, sym, ap, ap₂, _∙_}
 use Prim.Native.Nat.{ℕ, _-_, _/_, _^_, _<_}

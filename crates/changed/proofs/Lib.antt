@@ -1,3 +1,0 @@
-pub mod SecondSitting
-pub mod SittingFactors
-pub mod ChangedProofs

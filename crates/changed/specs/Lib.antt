@@ -1,2 +1,0 @@
-pub mod SecondSitting
-pub mod ChangedProofs

@@ -1,0 +1,84 @@
+-- The full example opened and verified: W is computed by walking the opened leaves, and the checks from a table of it.
+--   w-0, w-1 == W_0 and W_1, a byte for each coordinate
+-- Assumes nothing.
+use mathlib.Core.Path.{_≡_, refl, sym, ap, _∙_, subst}
+use mathlib.Core.Bool.{Bool, true}
+use mathlib.Core.List.{List, [], _∷_}
+use Prim.Native.Nat.{ℕ, zero, suc, _<_}
+use native.Mathlib.Omega.{arith}
+use Rattle.algebra.specs.Ring.{Ring}
+use Rattle.algebra.specs.Field.{Field}
+use Rattle.algebra.specs.Coded.{Coded}
+use Rattle.field.specs.Gf256.{gf256}
+use Rattle.protocol.specs.Alphabet.{Alphabet}
+use Rattle.protocol.specs.Binary.{bits256}
+use Rattle.protocol.specs.Shape.{Shape, shapeOf, perTree}
+use Rattle.protocol.specs.Sections.{Sections, sectionsIn}
+use Rattle.protocol.specs.Verifier.{W, consistent, productHolds, consistentAt, productAt}
+use Rattle.protocol.specs.Questions.{treeOf, consistentIn, productIn}
+use Rattle.protocol.specs.Calls.{verifyForm}
+use Rattle.protocol.proofs.Computing.{computing}
+use Rattle.protocol.proofs.Theorems.{accepts-exactly}
+use Rattle.examples.specs.FullExample.{sizes, key, leaves, H′, χ, Δ, proof, opened, coordinates, FullOpening, FullAccepts}
+use Rattle.examples.proofs.TreeLaws.{openedWeighed, W-walked}
+use Rattle.examples.proofs.TableLaws.{entry, Near, near, consistent-is, product-is}
+use Rattle.examples.proofs.FullSums.{full-sums}
+
+pub full-opening : FullOpening
+unfolding computing leaves Δ opened
+full-opening = refl
+
+unfoldable w-0 : List ℕ
+w-0 = 0x71 ∷ 0xB8 ∷ 0x83 ∷ 0x89 ∷ 0x8F ∷ 0x20 ∷ 0x6E ∷ 0xF9 ∷ 0x15 ∷ 0xDF ∷ 0xEF ∷ 0xA0 ∷ 0x9F ∷ 0x4E ∷ 0x22 ∷ 0x27 ∷ 0x37 ∷ 0x31 ∷ 0xA3 ∷ 0x9D ∷ 0x78 ∷ 0x01 ∷ []
+
+unfoldable w-1 : List ℕ
+w-1 = 0xFE ∷ 0xE0 ∷ 0x78 ∷ 0x1E ∷ 0x42 ∷ 0xB7 ∷ 0x71 ∷ 0xD3 ∷ 0x33 ∷ 0x02 ∷ 0xEE ∷ 0xAE ∷ 0x4D ∷ 0xC0 ∷ 0x27 ∷ 0x49 ∷ 0x4B ∷ 0x9B ∷ 0x09 ∷ 0x11 ∷ 0xFD ∷ 0x3B ∷ []
+
+abbrev p : Sections
+p = sectionsIn bits256 sizes proof
+
+w-0-walked : coordinates (openedWeighed gf256 sizes p 0 0xCB 0x34 (treeOf bits256 sizes opened 0)) ≡ w-0
+unfolding computing proof opened w-0
+w-0-walked = refl
+
+w-1-walked : coordinates (openedWeighed gf256 sizes p 1 0xC6 0x39 (treeOf bits256 sizes opened 1)) ≡ w-1
+unfolding computing proof opened w-1
+w-1-walked = refl
+
+w-0-is : coordinates (W bits256 sizes p 0 0xCB (treeOf bits256 sizes opened 0)) ≡ w-0
+unfolding perTree
+w-0-is = ap coordinates (λ i c. W-walked gf256 sizes p 0 0xCB 0x34 (treeOf bits256 sizes opened 0) c refl i) ∙ w-0-walked
+
+w-1-is : coordinates (W bits256 sizes p 1 0xC6 (treeOf bits256 sizes opened 1)) ≡ w-1
+unfolding perTree
+w-1-is = ap coordinates (λ i c. W-walked gf256 sizes p 1 0xC6 0x39 (treeOf bits256 sizes opened 1) c refl i) ∙ w-1-walked
+
+well-formed : verifyForm bits256 key Δ H′ χ opened proof ≡ true
+unfolding computing key Δ H′ χ opened proof
+well-formed = refl
+
+-- both checks, of a vector for W
+abbrev Checks : ℕ → ℕ → (ℕ → gf256 .base .R .F) → Type 0
+Checks e δ f = (consistent bits256 sizes H′ p e (gf256 .elem δ) f ≡ true) × (productHolds bits256 sizes key χ p e (gf256 .elem δ) f ≡ true)
+
+checks-0 : Checks 0 0xCB (entry gf256 sizes w-0)
+unfolding computing key H′ χ proof w-0
+checks-0 = (refl, refl)
+
+checks-1 : Checks 1 0xC6 (entry gf256 sizes w-1)
+unfolding computing key H′ χ proof w-1
+checks-1 = (refl, refl)
+
+from-table : (e δ : ℕ) (f g : ℕ → gf256 .base .R .F) → Near gf256 sizes f g → Checks e δ g → Checks e δ f
+from-table e δ f g n k = (consistent-is gf256 sizes H′ p e (gf256 .elem δ) f g n ∙ k .0, product-is gf256 sizes key χ p e (gf256 .elem δ) f g n ∙ k .1)
+
+checks : (e : ℕ) → e < 2 → (consistentIn bits256 sizes Δ H′ opened proof e ≡ true) × (productIn bits256 sizes key Δ χ opened proof e ≡ true)
+unfolding consistentIn productIn consistentAt productAt Δ
+checks zero l = from-table 0 0xCB _ (entry gf256 sizes w-0) (near gf256 sizes _ w-0 w-0-is) checks-0
+checks (suc zero) l = from-table 1 0xC6 _ (entry gf256 sizes w-1) (near gf256 sizes _ w-1 w-1-is) checks-1
+checks (suc (suc e)) l = absurd (omega arith)
+
+pub full-accepts : FullAccepts
+full-accepts =
+    accepts-exactly bits256 key Δ H′ χ opened proof well-formed .1
+    (subst (λ s. (e : ℕ) → e < s .τ → (consistentIn bits256 s Δ H′ opened proof e ≡ true) × (productIn bits256 s key Δ χ opened proof e ≡ true)) (sym (full-sums .header-is)) checks)

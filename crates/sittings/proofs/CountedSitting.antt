@@ -1,9 +1,0 @@
--- The counts of accepted challenges, computed on the definitions: no theorem on factors is used.
--- Assumes nothing.
-use mathlib.Core.Path.{refl}
-use Rattle.protocol.proofs.Computing.{computing}
-use Rattle.sittings.specs.CountedSitting.{key, leaves, H′, χ, proof, Counts}
-
-pub counts : Counts
-unfolding computing key leaves H′ χ proof
-counts = record { honest = refl; d-changed = refl }

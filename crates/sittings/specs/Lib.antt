@@ -1,2 +1,0 @@
-pub mod CountedSitting
-pub mod FullSitting

@@ -1,4 +1,0 @@
-pub mod Toy
-pub mod Table
-pub mod Hypotheses
-pub mod CheckLine
