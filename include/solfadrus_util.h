@@ -198,8 +198,8 @@ static inline const char *mq_message(uint32_t word)
 
 /*
  * Overwrites the MQ_STACK_BYTES of stack below its own frame, where the calls made from the same function
- * have worked. After mq_commit, mq_hash, mq_batch and mq_prove these hold u, and u and the section d of the
- * proof give the witness (solfadrus.h, section 4, Wiping).
+ * have worked: there is u after a call that takes leaves, which with the section d of the proof gives the
+ * witness (solfadrus.h, section 4, Wiping).
  *
  *     word = mq_prove(...);
  *     mq_burn_stack();

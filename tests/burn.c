@@ -2,9 +2,10 @@
  * What the calls leave on the stack, and that mq_burn_stack overwrites it.
  *
  * A call that takes secrets runs on a stack that the test owns. Afterwards the test looks there for u, the sum of the
- * leaves of the first repetition, and for the witness. After mq_prove without the burn u must be found, and with the
- * section d of the proof it gives the witness: so the test can see. After the burn no piece of either may be found, and
- * where calls work nothing but zeros and paint. A burn of half the stack must be found out.
+ * leaves of the first repetition, and for the witness, as it is lent and with a byte for each bit. After mq_prove
+ * without the burn u must be found, and with the section d of the proof it gives the witness: so the test can see.
+ * After the burn no piece of these may be found, and where calls work nothing but zeros and paint. Half a burn must be
+ * found out.
  */
 #define _XOPEN_SOURCE 700
 #include <stdio.h>
@@ -16,14 +17,21 @@
 enum {
     STACK = 1 << 20,
     PAINT = 0xA5,
-    PIECE = 8,    /* a piece of a secret: so many bytes one after the other */
     FRAMES = 1024 /* at the top: the caller's frame, and that of the burn */
 };
 
 static const struct sizes usual = { 150, 150, 19, 144 };
 static struct made made;
-static uint8_t *stack, *out, *u;
+static uint8_t *stack, *out;
 static uint32_t word;
+
+/* A secret is cut into pieces of so many bytes, the last of which ends with it. */
+enum secret { U, WITNESS, BITS, SECRETS };
+static struct {
+    const char *name;
+    size_t piece;
+    struct lent lent;
+} secrets[SECRETS] = { { "u", 8, { 0 } }, { "witness", 8, { 0 } }, { "witness by bits", 32, { 0 } } };
 
 /* ---- Calls on the stack ------------------------------------------------------------------- */
 
@@ -115,22 +123,30 @@ static void run(size_t which, void (*caller)(void))
 
 /* ---- What is left ------------------------------------------------------------------------- */
 
-/* Where a secret stands whole, or NULL. */
-static const uint8_t *whole(const uint8_t *secret, size_t len)
+/* Where these bytes stand, no deeper than the burn goes, or NULL. */
+static const uint8_t *find(const uint8_t *bytes, size_t len)
 {
-    for (size_t at = 0; at + len <= STACK; at++)
-        if (memcmp(stack + at, secret, len) == 0)
-            return stack + at;
+    for (const uint8_t *at = stack + STACK - MQ_STACK_BYTES - FRAMES; at + len <= stack + STACK; at++)
+        if (at[0] == bytes[0] && memcmp(at, bytes, len) == 0)
+            return at;
     return NULL;
 }
 
-/* How many pieces of a secret are found. */
-static size_t pieces(const uint8_t *secret, size_t len)
+static size_t pieces(enum secret which)
 {
-    size_t found = 0;
-    for (size_t at = 0; at + PIECE <= len; at++)
-        found += whole(secret + at, PIECE) != NULL;
-    return found;
+    return (secrets[which].lent.len + secrets[which].piece - 1) / secrets[which].piece;
+}
+
+/* How many of them are found. */
+static size_t found(enum secret which)
+{
+    const size_t piece = secrets[which].piece, last = secrets[which].lent.len - piece;
+    size_t count = 0;
+    for (size_t i = 0; i < pieces(which); i++) {
+        const size_t at = i * piece < last ? i * piece : last;
+        count += find(secrets[which].lent.at + at, piece) != NULL;
+    }
+    return count;
 }
 
 /* How many bytes of those that a call may take, but for the frames, are neither zero nor paint. */
@@ -152,60 +168,81 @@ static size_t depth(void)
 }
 
 /* The witness from u, as it was found, and the section d of the proof. */
-static int gives_witness(const uint8_t *found)
+static int gives_witness(const uint8_t *u)
 {
     const uint8_t *const d = out + MQ_OFFSET_D(usual.n, usual.m, usual.tau, usual.t);
-    for (size_t c = 0; c < usual.n; c++)
-        if ((bit(d, c) ^ bit(found, c)) != bit(made.witness.at, c))
+    for (size_t c = 0; u && c < usual.n; c++)
+        if ((bit(d, c) ^ bit(u, c)) != bit(made.witness.at, c))
             return 0;
-    return 1;
+    return u != NULL;
+}
+
+/* ---- The test ----------------------------------------------------------------------------- */
+
+static int right = 1;
+
+static void wrong(const char *name, const char *what, size_t count)
+{
+    printf("%s: %s (%zu)\n", name, what, count);
+    right = 0;
+}
+
+static void make_secrets(void)
+{
+    const size_t leaf = MQ_LEAF_SIZE(usual.n, usual.m, usual.tau, usual.t);
+    made = make_case(1, usual);
+    secrets[U].lent = lend(leaf);
+    secrets[WITNESS].lent = made.witness;
+    secrets[BITS].lent = lend(usual.n);
+    for (size_t i = 0; i < MQ_FIELD_SIZE * leaf; i++)
+        secrets[U].lent.at[i % leaf] ^= made.leaves.at[i];
+    for (size_t c = 0; c < usual.n; c++)
+        secrets[BITS].lent.at[c] = (uint8_t)bit(made.witness.at, c);
+}
+
+static void test_bare(size_t i)
+{
+    run(i, bare);
+    printf("%-10s leaves %6zu bytes; pieces of", calls[i].name, written());
+    for (enum secret which = 0; which < SECRETS; which++)
+        printf("%s %s %zu of %zu", which ? "," : "", secrets[which].name, found(which), pieces(which));
+    printf("\n");
+    if (depth() >= MQ_STACK_BYTES)
+        wrong(calls[i].name, "goes deeper than the burn", depth());
+    if (i == PROVE && !gives_witness(find(secrets[U].lent.at, secrets[U].lent.len)))
+        wrong(calls[i].name, "u is not found, so that the test cannot see", found(U));
+}
+
+static void test_burnt(size_t i)
+{
+    run(i, burnt);
+    for (enum secret which = 0; which < SECRETS; which++)
+        if (found(which))
+            wrong(calls[i].name, "after the burn there are pieces of a secret", found(which));
+    if (written())
+        wrong(calls[i].name, "after the burn there are bytes", written());
+    if (depth() < MQ_STACK_BYTES || depth() >= MQ_STACK_BYTES + FRAMES)
+        wrong(calls[i].name, "the burn goes to another depth", depth());
 }
 
 int main(void)
 {
-    const size_t leaf = MQ_LEAF_SIZE(usual.n, usual.m, usual.tau, usual.t);
-    int right = 1;
     stack = lend(STACK).at;
-    made = make_case(1, usual);
+    make_secrets();
     out = lend(made.proof.len).at;
-    u = lend(leaf).at;
-    for (size_t i = 0; i < MQ_FIELD_SIZE * leaf; i++)
-        u[i % leaf] ^= made.leaves.at[i];
-
     for (size_t i = 0; i < CALLS; i++) {
-        size_t found;
-        run(i, bare);
-        printf("%-10s left %6zu bytes; u %s, pieces of it %zu, of the witness %zu\n", calls[i].name, written(),
-               whole(u, leaf) ? "whole" : "not whole", pieces(u, leaf), pieces(LENT(witness)));
-        if (depth() >= MQ_STACK_BYTES) {
-            printf("%s goes down %zu bytes, deeper than the burn\n", calls[i].name, depth());
-            right = 0;
-        }
-        if (i == PROVE && (!whole(u, leaf) || !gives_witness(whole(u, leaf)))) {
-            printf("the control: u is not found after mq_prove, so that the test cannot see\n");
-            right = 0;
-        }
-        run(i, burnt);
-        found = pieces(u, leaf) + pieces(LENT(witness)) + written();
-        if (found) {
-            printf("%s: after the burn %zu pieces and bytes are left\n", calls[i].name, found);
-            right = 0;
-        }
-    }
-    if (depth() < MQ_STACK_BYTES || depth() >= MQ_STACK_BYTES + FRAMES) {
-        printf("the burn goes down %zu bytes\n", depth());
-        right = 0;
+        test_bare(i);
+        test_burnt(i);
     }
     run(PROVE, half_burnt);
-    if (!written()) {
-        printf("the control: half a burn is not seen\n");
-        right = 0;
-    }
+    if (!written())
+        wrong("the control", "half a burn is not seen", 0);
     if (right)
-        printf("after mq_burn_stack nothing of these is left\n");
+        printf("after mq_burn_stack there is nothing of these\n");
     free(stack);
     free(out);
-    free(u);
+    free(secrets[U].lent.at);
+    free(secrets[BITS].lent.at);
     drop_case(&made);
     return !right;
 }
