@@ -5,12 +5,14 @@
  * steps and at once, verifies it, and shows what is refused: forged proofs, a wrong witness, an output
  * that is too short. Everything random comes from a small seeded generator, so that each run shows the
  * same: real provers and verifiers draw from the system's generator, and a prover keeps it secret.
+ * After calls that took secrets the stack is burnt, and at the end leaves and witness are wiped.
  */
 #include <stdio.h>
 #include <string.h>
 #include <time.h>
 
 #include "solfadrus.h"
+#include "solfadrus_util.h"
 
 /* The sizes of the key: variables, equations, repetitions, hash rows. */
 enum { N = 150, M = 150, TAU = 19, T = 144, ROW = MQ_STRING_SIZE(N) };
@@ -40,84 +42,39 @@ static uint8_t draw(void)
 /* So many strings of so many bits, one after another, spare bits 0. */
 static void draw_strings(uint8_t *at, size_t count, size_t bits)
 {
-    const size_t len = MQ_STRING_SIZE(bits);
-    size_t i, b;
-    for (i = 0; i < count; i++, at += len) {
-        for (b = 0; b < len; b++)
-            at[b] = draw();
-        if (bits % 8 != 0)
-            at[len - 1] &= (uint8_t)((1 << bits % 8) - 1);
-    }
-}
-
-/* ---- The key ------------------------------------------------------------------------------ */
-
-/* Where the sections of the key stand, without their counts. */
-static uint8_t *const A = key + MQ_HEADER_SIZE + MQ_COUNT_SIZE;
-static uint8_t *const b = key + MQ_HEADER_SIZE + 2 * MQ_COUNT_SIZE + M * N * ROW;
-static uint8_t *const y = key + MQ_HEADER_SIZE + 3 * MQ_COUNT_SIZE + M * N * ROW + M * ROW;
-
-static int coordinate(const uint8_t *string, size_t c)
-{
-    return string[c / 8] >> c % 8 & 1;
-}
-
-/* x^T A_i x + b_i x, coordinate by coordinate. */
-static int left_side(size_t i, const uint8_t *x)
-{
-    int sum = 0;
-    size_t r, c;
-    for (r = 0; r < N; r++) {
-        for (c = 0; c < N; c++)
-            sum ^= coordinate(x, r) & coordinate(A + (i * N + r) * ROW, c) & coordinate(x, c);
-        sum ^= coordinate(b + i * ROW, r) & coordinate(x, r);
-    }
-    return sum;
-}
-
-static void put_number(uint8_t *at, size_t number, int bytes)
-{
-    for (; bytes > 0; bytes--, number >>= 8)
-        *at++ = (uint8_t)number;
-}
-
-/* A, b and x at random; y so that x solves every equation. */
-static void make_key(void)
-{
     size_t i;
-    put_number(key, N, 2);
-    put_number(key + 2, M, 2);
-    put_number(key + 4, TAU, 2);
-    put_number(key + 6, T, 2);
-    put_number(A - MQ_COUNT_SIZE, M * N * ROW, MQ_COUNT_SIZE);
-    put_number(b - MQ_COUNT_SIZE, M * ROW, MQ_COUNT_SIZE);
-    put_number(y - MQ_COUNT_SIZE, MQ_STRING_SIZE(M), MQ_COUNT_SIZE);
-    draw_strings(A, M * N, N);
-    draw_strings(b, M, N);
-    draw_strings(witness, 1, N);
-    for (i = 0; i < M; i++)
-        y[i / 8] |= (uint8_t)(left_side(i, witness) << i % 8);
+    for (i = 0; i < count * MQ_STRING_SIZE(bits); i++)
+        at[i] = draw();
+    mq_clear_spare(at, count, bits);
 }
 
 /* ---- What is shown ------------------------------------------------------------------------ */
 
 static int failures;
-static clock_t started;
+static clock_t started, stopped;
 
+/* The processor time between the two is shown as the call's. */
 static void start(void)
 {
     started = clock();
 }
 
-/* Says what a call answered, what it did, and the processor time since `start`. */
+static void stop(void)
+{
+    stopped = clock();
+}
+
+/* Says what a call answered, what it did, and its time. */
 static void show(const char *call, uint32_t word, size_t bytes, const char *what)
 {
-    const double ms = (double)(clock() - started) * 1e3 / CLOCKS_PER_SEC;
+    const double ms = (double)(stopped - started) * 1e3 / CLOCKS_PER_SEC;
     if (word == MQ_ACCEPTED)
         printf("%-10s accepted           ", call);
     else
         printf("%-10s refused %2u place %-3u", call, (unsigned)MQ_NUMBER(word), (unsigned)MQ_PLACE(word));
     printf(" %8.3f ms %5lu bytes written  %s\n", ms, (unsigned long)(word == MQ_ACCEPTED ? bytes : 0), what);
+    if (word != MQ_ACCEPTED)
+        printf("           %s\n", mq_message(word));
 }
 
 static void expect(int yes, const char *what)
@@ -135,6 +92,42 @@ static int unchanged(const uint8_t *bytes, size_t len)
     return 1;
 }
 
+/* Through a volatile pointer, so that the compiler does not leave it out. */
+static void wipe(volatile uint8_t *secret, size_t len)
+{
+    while (len > 0)
+        secret[--len] = 0;
+}
+
+/* ---- The key ------------------------------------------------------------------------------ */
+
+/* Where the sections of the key stand, without their counts. */
+static uint8_t *const A = key + MQ_OFFSET_A(N, M, TAU, T);
+static uint8_t *const b = key + MQ_OFFSET_B(N, M, TAU, T);
+static uint8_t *const y = key + MQ_OFFSET_Y(N, M, TAU, T);
+
+static void put_number(uint8_t *at, size_t number, int bytes)
+{
+    for (; bytes > 0; bytes--, number >>= 8)
+        *at++ = (uint8_t)number;
+}
+
+/* A, b and x at random; y so that x solves every equation. */
+static void make_key(void)
+{
+    put_number(key, N, 2);
+    put_number(key + 2, M, 2);
+    put_number(key + 4, TAU, 2);
+    put_number(key + 6, T, 2);
+    put_number(A - MQ_COUNT_SIZE, M * N * ROW, MQ_COUNT_SIZE);
+    put_number(b - MQ_COUNT_SIZE, M * ROW, MQ_COUNT_SIZE);
+    put_number(y - MQ_COUNT_SIZE, MQ_STRING_SIZE(M), MQ_COUNT_SIZE);
+    draw_strings(A, M * N, N);
+    draw_strings(b, M, N);
+    draw_strings(witness, 1, N);
+    expect(mq_make_y(key, sizeof key, witness, sizeof witness), "y made for the witness");
+}
+
 /* ---- The calls ---------------------------------------------------------------------------- */
 
 static void prove_in_steps(void)
@@ -146,6 +139,7 @@ static void prove_in_steps(void)
 
     start();
     word = mq_commit(key, sizeof key, leaves, sizeof leaves, witness, sizeof witness, out, commit);
+    stop();
     show("mq_commit", word, commit, "corrections C and d");
     failures += word != MQ_ACCEPTED;
 
@@ -153,6 +147,7 @@ static void prove_in_steps(void)
     out += commit;
     start();
     word = mq_hash(key, sizeof key, leaves, sizeof leaves, hash_matrix, sizeof hash_matrix, out, hash);
+    stop();
     show("mq_hash", word, hash, "hashes of u and of each v");
     failures += word != MQ_ACCEPTED;
 
@@ -161,15 +156,21 @@ static void prove_in_steps(void)
     start();
     word = mq_batch(key, sizeof key, leaves, sizeof leaves, witness, sizeof witness, batching, sizeof batching,
                     out, batch);
+    stop();
+    mq_burn_stack(); /* the three have left u there, which with d gives the witness */
     show("mq_batch", word, batch, "QS0 and QS1");
     failures += word != MQ_ACCEPTED;
 }
 
 static uint32_t prove(const uint8_t *x, size_t len)
 {
+    uint32_t word;
     start();
-    return mq_prove(key, sizeof key, leaves, sizeof leaves, x, sizeof witness, hash_matrix, sizeof hash_matrix,
+    word = mq_prove(key, sizeof key, leaves, sizeof leaves, x, sizeof witness, hash_matrix, sizeof hash_matrix,
                     batching, sizeof batching, whole, len);
+    stop();
+    mq_burn_stack();
+    return word;
 }
 
 static void prove_at_once(void)
@@ -180,81 +181,70 @@ static void prove_at_once(void)
     expect(memcmp(steps, whole, sizeof whole) == 0, "the steps' bytes, one after the other, are the same");
 }
 
-/* The prover's answer to delta: all leaves but the one at delta, in each repetition. */
-static void open_leaves(void)
-{
-    const size_t leaf = MQ_LEAF_SIZE(N, M, TAU, T);
-    uint8_t *at = opened;
-    size_t e, j;
-    for (e = 0; e < TAU; e++)
-        for (j = 0; j < MQ_FIELD_SIZE; j++)
-            if (j != delta[e]) {
-                memcpy(at, leaves + (e * MQ_FIELD_SIZE + j) * leaf, leaf);
-                at += leaf;
-            }
-}
-
 static uint32_t verify(const uint8_t *proof)
 {
+    uint32_t word;
     start();
-    return mq_verify(key, sizeof key, delta, sizeof delta, hash_matrix, sizeof hash_matrix, batching,
-                     sizeof batching, opened, mq_opened_size(N, M, TAU, T), proof, sizeof whole);
+    word = mq_verify(key, sizeof key, delta, sizeof delta, hash_matrix, sizeof hash_matrix, batching,
+                     sizeof batching, opened, sizeof opened, proof, sizeof whole);
+    stop();
+    return word;
 }
 
 static void verify_proofs(void)
 {
     uint8_t forged[sizeof whole];
-    uint8_t *const qs1 = forged + sizeof forged - TAU;
-    uint8_t *const v = forged + MQ_COMMIT_SIZE(N, M, TAU, T) + MQ_HASH_SIZE(N, M, TAU, T) - TAU * T;
     uint32_t word;
     size_t e = TAU / 2;
 
     draw_strings(delta, TAU, 8); /* the verifier's, once it has the whole proof */
     delta[e] |= 1;               /* at 0 the byte of QS1 would not count */
-    open_leaves();
+    expect(mq_open_leaves(key, sizeof key, delta, sizeof delta, leaves, sizeof leaves, opened, sizeof opened),
+           "the prover opens all leaves but the one at delta, in each repetition");
     word = verify(whole);
     show("mq_verify", word, 0, "the proof");
     expect(word == MQ_ACCEPTED, "accepted");
 
     memcpy(forged, whole, sizeof whole);
-    qs1[e] ^= 1;
+    forged[MQ_OFFSET_QS1(N, M, TAU, T) + e] ^= 1;
     word = verify(forged);
     show("mq_verify", word, 0, "the proof with one bit of QS1 changed");
-    expect(word == MQ_REFUSED_PRODUCT_DIFFERS * 65536 + e, "refused because of the product check, in that repetition");
+    expect(word == MQ_REFUSED_PRODUCT_DIFFERS * 65536 + e, "refused for that, in that repetition");
 
-    v[e * T] ^= 1;
+    forged[MQ_OFFSET_V(N, M, TAU, T) + e * T] ^= 1;
     word = verify(forged);
     show("mq_verify", word, 0, "and one bit of V~ too");
-    expect(word == MQ_REFUSED_INCONSISTENT * 65536 + e, "refused because of consistency, which is asked first");
+    expect(word == MQ_REFUSED_INCONSISTENT * 65536 + e, "refused for that, which is asked first");
+}
+
+/* Whether an equation fails at x: then a key for x has another bit of y there. */
+static int fails(size_t i, const uint8_t *x)
+{
+    static uint8_t other[sizeof key];
+    memcpy(other, key, sizeof key);
+    return i < M && mq_make_y(other, sizeof other, x, sizeof witness)
+        && ((other[y - key + i / 8] ^ y[i / 8]) >> i % 8 & 1);
 }
 
 static void show_refusals(void)
 {
     uint8_t wrong[sizeof witness];
     uint32_t word;
-    size_t i;
 
     memcpy(wrong, witness, sizeof witness);
     wrong[0] ^= 1;
     memset(whole, 0xEE, sizeof whole);
     word = prove(wrong, sizeof whole);
     show("mq_prove", word, 0, "one bit of the witness changed");
-    i = MQ_PLACE(word);
-    expect(MQ_NUMBER(word) == MQ_REFUSED_EQUATION_FAILS, "refused because an equation fails");
-    expect(i < M && left_side(i, wrong) != coordinate(y, i), "the equation that it names fails");
+    expect(MQ_NUMBER(word) == MQ_REFUSED_EQUATION_FAILS, "refused for that");
+    expect(fails(MQ_PLACE(word), wrong), "the equation that it names fails");
     expect(unchanged(whole, sizeof whole), "the output is as it was");
 
     word = prove(witness, sizeof whole - 1);
     show("mq_prove", word, 0, "an output of one byte too few");
-    expect(MQ_NUMBER(word) == MQ_REFUSED_OUTPUT_LENGTH, "refused because of the output's length");
+    expect(MQ_NUMBER(word) == MQ_REFUSED_OUTPUT_LENGTH, "refused for that");
     expect(unchanged(whole, sizeof whole), "the output is as it was");
-}
-
-/* Through a volatile pointer, so that the compiler does not leave it out. */
-static void wipe(volatile uint8_t *secret, size_t len)
-{
-    while (len > 0)
-        secret[--len] = 0;
+    wipe(wrong, sizeof wrong); /* all but one bit of it is secret */
 }
 
 int main(void)
@@ -267,16 +257,19 @@ int main(void)
     }
     printf("Solfadrus: a proof of knowing x that solves %d quadratic equations in %d variables over GF(2),\n", M, N);
     printf("in %d repetitions with %d hash rows.\n", TAU, T);
-    printf("DEMO GENERATOR: leaves, challenges and key come from a small seeded generator, fit for show only.\n\n");
+    printf("DEMO GENERATOR: leaves, challenges and key come from a small seeded generator, fit for show only.\n");
+    printf("NOT ZERO KNOWLEDGE: with more than one repetition a proof of this version tells of the witness.\n\n");
 
-    make_key();
-    draw_strings(leaves, MQ_FIELD_SIZE * TAU, N + MQ_FIELD_DEGREE + T);
     printf("a key of %lu bytes, leaves of %lu bytes, of which %lu are opened, a witness of %lu bytes\n",
            (unsigned long)sizeof key, (unsigned long)sizeof leaves, (unsigned long)sizeof opened,
            (unsigned long)sizeof witness);
+    make_key();
+    draw_strings(leaves, MQ_FIELD_SIZE * TAU, N + MQ_FIELD_DEGREE + T);
 
     start();
     word = mq_test(key, sizeof key, witness, sizeof witness);
+    stop();
+    mq_burn_stack();
     show("mq_test", word, 0, "the witness solves the key");
     failures += word != MQ_ACCEPTED;
 

@@ -26,6 +26,7 @@
 #include <string.h>
 
 #include "solfadrus.h"
+#include "solfadrus_util.h"
 
 /* ---- Requests ----------------------------------------------------------------------------- */
 
@@ -140,7 +141,7 @@ static uint32_t make_call(struct request *r)
     }
 }
 
-/* Leaves and witness do not stay. (What the call left on the stack does: see the header.) */
+/* Leaves and witness do not stay. */
 static void wipe(struct request *r)
 {
     int i;
@@ -210,6 +211,7 @@ static void *serve(void *room)
         if (taken != WHOLE)
             return NULL;
         word = make_call(request);
+        mq_burn_stack(); /* what the call left there tells of them too */
         wipe(request);
         take_turn(&answering, number);
         answer(request, word);

@@ -3,7 +3,8 @@
  *
  * The library is libsolfadrus.a. It is written in Rattle, and every function below is proved to
  * meet its contract; this header says the same in words, for callers in C and C++. The order of
- * the questions, their numbers and their places are those of docs/REFUSALS.md.
+ * the questions, their numbers and their places are those of docs/REFUSALS.md. Helpers for callers,
+ * which are not proved, are in solfadrus_util.h.
  *
  *
  * CONTENTS
@@ -134,12 +135,17 @@
  *   Binding    The prover fixes all leaves before the first challenge is drawn. mq_verify takes
  *              opened leaves as they are lent: that they are those is for the caller to see to.
  *   Wiping     Wipe leaves and witness when they have served. The calls work on the stack, and do
- *              not wipe it: where that matters, run them on a stack that you wipe.
+ *              not wipe it. After mq_commit, mq_hash, mq_batch and mq_prove it holds u, the sum of
+ *              the leaves of the first repetition, and u and d give the witness. It can hold the
+ *              witness itself too, and after mq_test a part of it. So burn the stack after each of
+ *              these: mq_burn_stack of solfadrus_util.h does it (tests/burn.c). It clears no
+ *              registers.
  *
- * The mask coordinates n .. n+7 of a leaf serve every repetition in this version. With tau > 1 the
- * masks of QS1 cancel between two repetitions, and a proof with its opened leaves gives 8 linear
- * equations in the witness for each repetition after the first. Show none to anyone who must not
- * learn the witness (SECURITY.md); a later version has a mask for each repetition.
+ * With tau > 1 a proof of this version is NOT ZERO KNOWLEDGE. The mask coordinates n .. n+7 of a
+ * leaf serve every repetition, so that the masks of QS1 cancel between two of them. A proof with its
+ * opened leaves then gives 8 linear equations in the witness for each repetition after the first.
+ * Show none to anyone who must not learn the witness (SECURITY.md). A later version has a mask for
+ * each repetition.
  */
 
 #ifndef SOLFADRUS_H

@@ -44,6 +44,7 @@ install_all() {
     sed -e "s|@PREFIX@|$PREFIX|" -e "s|@VERSION@|$(version)|" packaging/solfadrus.pc.in >"$made"
     put 644 "$lib/libsolfadrus.a" lib/libsolfadrus.a
     put 644 include/solfadrus.h include/solfadrus.h
+    put 644 include/solfadrus_util.h include/solfadrus_util.h
     put 644 "$made" lib/pkgconfig/solfadrus.pc
     put 644 docs/man/solfadrus.3 share/man/man3/solfadrus.3
     put 644 docs/man/mqcheck.1 share/man/man1/mqcheck.1
@@ -57,8 +58,8 @@ install_all() {
 
 # Directories stay: others may use them.
 uninstall_all() {
-    for file in lib/libsolfadrus.a include/solfadrus.h lib/pkgconfig/solfadrus.pc share/man/man3/solfadrus.3 \
-        share/man/man1/mqcheck.1 bin/mqcheck; do
+    for file in lib/libsolfadrus.a include/solfadrus.h include/solfadrus_util.h lib/pkgconfig/solfadrus.pc \
+        share/man/man3/solfadrus.3 share/man/man1/mqcheck.1 bin/mqcheck; do
         rm -f "$root/$file"
     done
 }

@@ -39,6 +39,12 @@ echo "the stack that the header states"
 gcc -std=c11 -O2 -Wall -Wextra -Werror -Iinclude -Itests tests/stack.c "$lib/libsolfadrus.a" -o target/stack
 target/stack
 
+echo "the helpers"
+sh tests/util.sh
+
+echo "what a call leaves on the stack"
+sh tests/burn.sh
+
 echo "a caller in C++"
 g++ -std=c++11 -O2 $strict tests/header.cpp "$lib/libsolfadrus.a" -o target/header
 target/header

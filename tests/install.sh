@@ -42,8 +42,8 @@ echo "installed:"
 made install PREFIX="$prefix" >/dev/null
 files "$prefix" | tee "$work/files"
 mqcheck=${MQCHECK:-target/bin/mqcheck}
-set -- ./include/solfadrus.h ./lib/libsolfadrus.a ./lib/pkgconfig/solfadrus.pc ./share/man/man1/mqcheck.1 \
-    ./share/man/man3/solfadrus.3
+set -- ./include/solfadrus.h ./include/solfadrus_util.h ./lib/libsolfadrus.a ./lib/pkgconfig/solfadrus.pc \
+    ./share/man/man1/mqcheck.1 ./share/man/man3/solfadrus.3
 [ ! -x "$mqcheck" ] || set -- ./bin/mqcheck "$@"
 printf '%s\n' "$@" | diff - "$work/files" || fail "these are not the files to be installed"
 cmp "$SOLFADRUS_LIB_DIR/libsolfadrus.a" "$prefix/lib/libsolfadrus.a"

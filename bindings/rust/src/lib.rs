@@ -7,8 +7,13 @@
 //! else, and an empty slice is taken with any pointer.
 //!
 //! One duty on memory is the caller's: the calling thread must have 256 KiB of stack left, whatever the key's sizes.
-//! With less, a call can end the process. (That a call takes less is measured, not proved. Rust's own threads begin with
-//! more.) A call allocates nothing and never panics.
+//! With less, a call can end the process. (That a call takes less is measured, not proved. Rust's own threads begin
+//! with more.) A call allocates nothing and never panics.
+//!
+//! The calls do not wipe that stack. After one that took leaves it holds u, and u and the section d of the proof give
+//! the witness: call [`burn_stack`] after each call that took leaves or a witness.
+//!
+//! With tau > 1 a proof of this version is not zero knowledge (`SECURITY.md`).
 //!
 //! # Example
 //!
@@ -48,6 +53,7 @@
 //! let mut whole = vec![0; size::proof(n, m, tau, t)];
 //! solfadrus::prove(&key, &leaves, &witness, &hash_matrix, &batching, &mut whole)?;
 //! assert_eq!(proof, whole);
+//! solfadrus::burn_stack(); // the calls have left u there, which with d gives the witness
 //!
 //! let delta = [0x02]; // the verifier's, once it has the whole proof
 //! let mut opened = leaves.clone();
@@ -70,6 +76,8 @@ mod calls;
 mod ffi;
 mod refusal;
 pub mod size;
+mod stack;
 
 pub use calls::{batch, commit, hash, prove, test, verify, version};
 pub use refusal::{Reason, Refusal};
+pub use stack::{burn_stack, STACK_BYTES};

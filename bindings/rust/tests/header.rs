@@ -104,6 +104,17 @@ fn every_number_has_its_reason() {
     assert_eq!(format!("{past:?}"), format!("Unpublished({})", numbers + 1));
 }
 
+#[test]
+fn the_stack_is_the_headers() {
+    let text = header();
+    let (_, bytes) = text
+        .lines()
+        .filter_map(defined)
+        .find(|(name, _)| *name == "MQ_STACK_BYTES")
+        .unwrap();
+    assert_eq!(bytes, solfadrus::STACK_BYTES.to_string());
+}
+
 /// EQUATION as Equation.
 fn capitalised(word: &str) -> String {
     let (first, rest) = word.split_at(1);
