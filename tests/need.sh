@@ -77,7 +77,7 @@ sources() {
     rt version
     sed -n 's/^solfadrus: *//p' crates.txt
     for crate in solfadrus $(sed -n 's/^solfadrus: *//p' crates.txt); do
-        find "crates/$crate/src" "crates/$crate/specs" "crates/$crate/proofs" -type f 2>/dev/null
+        find "crates/$crate" -type f ! -path '*/must-fail/*'
     done | LC_ALL=C sort | xargs sha256sum
 }
 
