@@ -43,6 +43,15 @@ grep -v '^#' tests/fuzz/seeds.txt | while read -r name bytes; do
         printf "\\$(printf %03o "0x$byte")"
     done >"$seeds/$name"
 done
+# And one for each case as it is, by its number.
+cargo build --quiet --release --offline -j1 --manifest-path tests/shapes/Cargo.toml --target-dir "$work/shapes"
+number=0
+"$work/shapes/release/shapes" | while read -r _; do
+    # shellcheck disable=SC2059 # the byte is the format
+    printf "\\$(printf %03o $number)" >"$seeds/case-$number"
+    number=$((number + 1))
+done
+[ -s "$seeds/case-1" ] || { echo "no shapes" >&2 && exit 1; }
 
 # fuzz CALL WORDS...: what it says goes into a file. Leaks are not looked for: only the rendering allocates.
 fuzz() {
