@@ -38,8 +38,8 @@ need_kit() {
     }
 }
 
-# progress CRATES LOG: reads what rt writes, keeps it in LOG, and shows each crate as it is proved, and each edit as it is
-# refused, with how many there are. A loop of sh, since awk may hold lines back.
+# progress CRATES LOG: reads what rt writes, keeps it in LOG, and shows each crate as it is proved, and each edit as it
+# is refused, with how many there are. A loop of sh, since awk may hold lines back.
 progress() {
     proved=0
     refused=0
@@ -97,8 +97,8 @@ library() {
     mkdir -p target
     if [ ! -f target/staticlib/libsolfadrus.a ] || [ "$(cat target/built-from 2>/dev/null)" != "$(built_from)" ]; then
         crates=$(($(sed -n 's/^solfadrus: *//p' crates.txt | wc -w) + 1))
-        echo "The library is proved and built: $crates crates, about 12 minutes on two cores. An unchanged crate is not" \
-            "proved again." >&2
+        echo "The library is proved and built: $crates crates, about 12 minutes on two cores." \
+            "An unchanged crate is not proved again." >&2
         rm -f target/built-from
         with_progress "$crates" target/staticlib.log rt staticlib solfadrus >&2 || {
             tail -n 60 target/staticlib.log >&2

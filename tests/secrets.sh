@@ -21,8 +21,8 @@
 #        The calls are made with a witness that solves, and again with one at which the last equation fails.
 #
 # Shapes, in secrets.c: small ones, n a multiple of 8 and not; the usual sizes (n = m = 150, tau = 19, t = 144) and the
-# largest (160, 160, 48, 160). The traces, which are long, are of small shapes, and of two at which every kernel has more
-# than one round: secrets.c says how.
+# largest (160, 160, 48, 160). The traces, which are long, are of small shapes, and of two at which every kernel has
+# more than one round: secrets.c says how.
 set -eu
 cd "$(dirname "$0")/.."
 . tests/need.sh

@@ -32,7 +32,7 @@ const fn at(of: Of, at: usize, kernel: &'static str) -> Threshold {
 
 pub const THRESHOLDS: &[Threshold] = &[
     at(Of::Variables, 8, "strings: the bits of a byte of x, A and b"),
-    at(Of::Variables, 16, "folds: a panel of sixteen columns; sixteen rows of two of its byte columns, a chunk of 32 bytes"),
+    at(Of::Variables, 16, "folds: a panel of sixteen columns; sixteen rows of it are a chunk of 32 bytes"),
     at(Of::Variables, 49, "parity: a row of H′, of k = n + 8 bits, is as long as a word of eight bytes"),
     at(Of::Variables, 57, "parity: a row of A is as long as a word of eight bytes, and is taken by words"),
     at(Of::Variables, 64, "folds: a set of four panels; parity: past it the last word overlaps the one before"),
