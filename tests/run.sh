@@ -44,7 +44,7 @@ esac
 
 step "why each edit was refused" sh tests/edits.sh
 step "line counts of the audit guide" sh tests/counts.sh
-step "nothing is left running" sh tests/left.sh
+step "what the scripts share" sh tests/scripts.sh
 # What needs no library, so that it can run while that is built. rt has built the check program.
 aside "$besides" sh -c '
     cargo test --quiet --release --offline --manifest-path tests/reference/Cargo.toml -- --test-threads=1 &&
