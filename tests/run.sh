@@ -48,6 +48,7 @@ step "what the scripts share" sh tests/scripts.sh
 # What needs no library, so that it can run while that is built. rt has built the check program.
 aside "$besides" sh -c '
     cargo test --quiet --release --offline --manifest-path tests/reference/Cargo.toml -- --test-threads=1 &&
+        cargo test --quiet --release --offline --manifest-path tests/shapes/Cargo.toml --target-dir target/shapes &&
         MQCHECK=target/bin/mqcheck sh tests/mqcheck.sh'
 # rt ci has just proved every crate: the archive is built from them.
 step "the library from C, C++ and Rust" sh tests/c.sh

@@ -18,7 +18,7 @@
  *                           witness, which solves, and its own leaves.
  *   secrets trace FILE      Makes all calls on that case. The traces of the two cases, all instructions and all
  *                           addresses, must be the same.
- *   secrets trace-leak FILE A control: an address by the witness. It must be seen.
+ *   secrets trace-leak FILE A control, on the small shapes: an address by the witness. It must be seen.
  */
 #include <stdio.h>
 #include <valgrind/memcheck.h>
@@ -48,7 +48,7 @@ static const struct sizes traced[] = {
     { KERNEL_N, KERNEL_M, KERNEL_TAU, KERNEL_T },
     { WIDE_N, WIDE_M, WIDE_TAU, WIDE_T },
 };
-enum { SHAPES = sizeof shapes / sizeof shapes[0], TRACED = sizeof traced / sizeof traced[0] };
+enum { SHAPES = sizeof shapes / sizeof shapes[0], TRACED = sizeof traced / sizeof traced[0], SMALL = 3 };
 
 /* ---- Two witnesses ------------------------------------------------------------------------ */
 
@@ -371,7 +371,7 @@ static int make_file(unsigned variant, FILE *file)
 static int read_and_call(int leak, FILE *file)
 {
     uint32_t answers = 0;
-    for (size_t i = 0; i < TRACED; i++) {
+    for (size_t i = 0; i < (leak ? SMALL : TRACED); i++) {
         struct made c = lend_case(traced[i]);
         pass(fread, &c, file);
         if (leak)
