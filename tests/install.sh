@@ -33,13 +33,15 @@ checked() {
     [ "$line" = "$1" ] || fail "mqcheck says '$line' in place of '$1'"
 }
 
-mqcheck=${MQCHECK:-target/bin/mqcheck}
-[ -x "$mqcheck" ] || fail "no check program at $mqcheck (rt check mqcheck builds it)"
+[ -x "${MQCHECK:-target/bin/mqcheck}" ] || fail "no check program: rt check mqcheck builds it"
+
 echo "installed:"
 made install PREFIX="$prefix" >/dev/null
 files "$prefix" | tee "$work/files"
-set -- ./bin/mqcheck ./include/solfadrus.h ./lib/libsolfadrus.a ./lib/pkgconfig/solfadrus.pc \
-    ./share/man/man1/mqcheck.1 ./share/man/man3/solfadrus.3
+mqcheck=${MQCHECK:-target/bin/mqcheck}
+set -- ./include/solfadrus.h ./lib/libsolfadrus.a ./lib/pkgconfig/solfadrus.pc ./share/man/man1/mqcheck.1 \
+    ./share/man/man3/solfadrus.3
+[ ! -x "$mqcheck" ] || set -- ./bin/mqcheck "$@"
 printf '%s\n' "$@" | diff - "$work/files" || fail "these are not the files to be installed"
 cmp "$SOLFADRUS_LIB_DIR/libsolfadrus.a" "$prefix/lib/libsolfadrus.a"
 cmp include/solfadrus.h "$prefix/include/solfadrus.h"

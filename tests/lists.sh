@@ -10,6 +10,7 @@ cd "$(dirname "$0")/.."
 work=$(mktemp -d)
 trap 'rm -rf "$work"' EXIT
 header=include/solfadrus.h
+helpers=include/solfadrus_util.h
 page=docs/man/solfadrus.3
 list=docs/REFUSALS.md
 table=docs/refusals.tsv
@@ -29,6 +30,7 @@ of_table() {
         what == "constants" { print $1, $2 }
         what == "variants" { print $1, $3 }
         what == "texts" { print $3, $11 }
+        what == "messages" { print $1, $11 }
         what == "numbers" { for (i = 5; i <= 10; i++) if ($i != "-") line[i] = line[i] " " $1 }
         what == "challenges" && $1 == 5 {
             for (i = 5; i <= 10; i++) if ($i != "-") { gsub(",", " ", $i); line[i] = " " $i }
@@ -126,6 +128,12 @@ numbers_of_code() {
 texts_of_wrapper() {
     sed -nE 's/^ *Reason::([A-Za-z]+) => "(.*)",$/\1 \2/p' "$1"
 }
+# The messages of the helpers for C, in the order of the numbers, from 0 for an acceptance.
+messages_of_helpers() {
+    awk -F'"' '/ messages\[\] = \{/ { inside = 1; next }
+         inside && /\};/ { exit }
+         inside { if (count++) print count - 1, $2 }' "$1"
+}
 variants_of_code() {
     awk '/^pub enum Reason/ { inside = 1; next }
          inside && /^}/ { exit }
@@ -169,12 +177,14 @@ same() {
         held texts texts_of_wrapper $wrapper/refusal.rs && held variants variants_of_code $format/src/lib.rt &&
         held variants numbers_of_code $format/src/lib.rt && held variants numbers_of_specs $format/specs/Verdict.antt &&
         calls calls_of_header $header && calls calls_of_page $page && calls calls_of_list $list &&
-        calls calls_of_wrapper $wrapper/calls.rs && calls calls_of_vectors tests/vectors.c
+        calls calls_of_wrapper $wrapper/calls.rs && calls calls_of_vectors tests/vectors.c || return
+    [ ! -f $helpers ] || held messages messages_of_helpers $helpers
 }
 # copied: all that is compared, below $work/at.
 copied() {
     for file in $header $page $list $table $wrapper/refusal.rs $wrapper/calls.rs $format/src/lib.rt \
-        $format/specs/Verdict.antt tests/vectors.c; do
+        $format/specs/Verdict.antt tests/vectors.c $helpers; do
+        [ -f "$file" ] || [ "$file" != $helpers ] || continue
         mkdir -p "$work/at/$(dirname "$file")"
         cp "$file" "$work/at/$file"
     done
@@ -206,6 +216,7 @@ other "the numbers of a call of the wrapper" $wrapper/calls.rs 's/Refusals 1 to 
 other "a number of the code" $format/src/lib.rt 's/Reason::LeafLength => 7,/Reason::LeafLength => 8,/'
 other "a number of the specification" $format/specs/Verdict.antt 's/^\(numberFor Inconsistent\) = 14/\1 = 15/'
 other "the numbers of a call in vectors.c" tests/vectors.c '/{ "commit", call_commit/s/BITS(7, 11)/BITS(7, 10)/'
+[ ! -f $helpers ] || other "a message for C" $helpers 's/"consistency does not hold"/"consistency holds"/'
 other "a line of the table" $table '/^12\t/d'
 other "a call of the table" $table '/^9\t/s/\tyes\t/\t-\t/'
 copied
