@@ -8,6 +8,7 @@ cd "$(dirname "$0")/.."
 need gcc gcc g++ g++ clang clang nm binutils make make valgrind valgrind pkg-config pkg-config \
     groff groff-base man man-db
 need_fuzzer
+need_cargo
 mkdir -p target
 lib=$(library)
 export SOLFADRUS_LIB_DIR="$lib"

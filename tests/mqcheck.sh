@@ -1,6 +1,6 @@
 #!/bin/sh
-# Runs the check program (that of MQCHECK, or else the one that rt proves and builds) on the toy, 01's edges, the vectors
-# and random inputs. Each line is held against the Rust rendering's.
+# Runs the check program (that of MQCHECK, or else the one that rt proves and builds) on the toy, 01's edges, the
+# vectors and random inputs. Each line is held against the Rust rendering's.
 set -eu
 cd "$(dirname "$0")/.."
 mkdir -p target

@@ -30,10 +30,16 @@ need_fuzzer() {
         need libFuzzer "libclang-rt-$(clang -dumpversion | cut -d. -f1)-dev"
 }
 
-# What no Debian package has.
+# What is not installed here: no Debian package has it, or has it new enough.
 need_kit() {
     command -v rt >/dev/null 2>&1 || {
         echo "needs: rt (the Rattle kit, which proves and compiles the crates)" >&2
+        exit 1
+    }
+}
+need_cargo() {
+    command -v cargo >/dev/null 2>&1 || {
+        echo "needs: cargo, 1.78 or later (from rustup, or the Debian package cargo of a release that has it)" >&2
         exit 1
     }
 }

@@ -5,6 +5,7 @@ set -eu
 cd "$(dirname "$0")/.."
 . tests/need.sh
 need_kit
+need_cargo
 log=$(mktemp)
 besides=$(mktemp)
 trap 'end_aside; rm -f "$log" "$log.status" "$besides"' EXIT

@@ -30,31 +30,32 @@ const fn at(of: Of, at: usize, kernel: &'static str) -> Threshold {
     Threshold { of, at, kernel }
 }
 
+#[rustfmt::skip] // a table, a line for each
 pub const THRESHOLDS: &[Threshold] = &[
     at(Of::Variables, 8, "strings: the bits of a byte of x, A and b"),
-    at(Of::Variables, 16, "folds: a panel of sixteen columns; sixteen rows of it are a chunk of 32 bytes"),
-    at(Of::Variables, 49, "parity: a row of H′, of k = n + 8 bits, is as long as a word of eight bytes"),
-    at(Of::Variables, 57, "parity: a row of A is as long as a word of eight bytes, and is taken by words"),
-    at(Of::Variables, 64, "folds: a set of four panels; parity: past it the last word overlaps the one before"),
-    at(Of::Variables, 128, "folds: two sets of four panels; turns: sixteen bytes of each of eight rows"),
-    at(Of::Variables, 145, "folds: a column whose rows lie past the first sixteen bytes"),
+    at(Of::Variables, 16, "the fold: a panel of sixteen columns; sixteen rows of it are a chunk of 32 bytes"),
+    at(Of::Variables, 49, "the row product: a row of H′, of k = n + 8 bits, is as long as a word of eight bytes"),
+    at(Of::Variables, 57, "the row product: a row of A is as long as a word of eight bytes, and is taken by words"),
+    at(Of::Variables, 64, "the fold: a set of four panels; the row product: past it the last word overlaps"),
+    at(Of::Variables, 128, "the fold: two sets of four panels; the turn: sixteen bytes of each of eight rows"),
+    at(Of::Variables, 145, "the fold: a column whose rows lie past the first sixteen bytes"),
     at(Of::Variables, 160, "the limit"),
-    at(Of::Equations, 5, "choices: five equations, one number in a word"),
+    at(Of::Equations, 5, "the choices: five equations, one number in a word"),
     at(Of::Equations, 8, "strings: the bits of a byte of y"),
-    at(Of::Equations, 50, "choices: ten fives, a word"),
-    at(Of::Equations, 100, "choices: two words"),
-    at(Of::Equations, 150, "choices: three words, after which there is room for two fives more"),
+    at(Of::Equations, 50, "the choices: ten fives, a word"),
+    at(Of::Equations, 100, "the choices: two words"),
+    at(Of::Equations, 150, "the choices: three words, after which there is room for two fives more"),
     at(Of::Equations, 160, "the limit"),
-    at(Of::Repetitions, 2, "vole: the first correction that is sent"),
-    at(Of::Repetitions, 16, "lanes: sixteen repetitions, a register"),
+    at(Of::Repetitions, 2, "the corrections: the first that is sent"),
+    at(Of::Repetitions, 16, "the lanes: sixteen repetitions, a register"),
     at(Of::Repetitions, 48, "the limit, and all lanes"),
     at(Of::HashRows, 8, "strings: the bits of a byte of ũ"),
     at(Of::HashRows, 160, "the limit"),
-    at(Of::LeafBytes, 16, "trees and tables: sixteen bytes of a leaf; past them the last sixteen overlap those before"),
-    at(Of::LeafBytes, 32, "trees and tables: twice sixteen bytes of a leaf"),
+    at(Of::LeafBytes, 16, "the leaf sums: a chunk of sixteen bytes; past it the last sixteen overlap those before"),
+    at(Of::LeafBytes, 32, "the leaf sums: two chunks"),
 ];
 
-/// Leaves are added four at a time, but for the four that hold the one left out (trees).
+/// Leaves are added four at a time, but for the four that hold the one left out (the leaf sums).
 const FOUR: usize = 4;
 
 /// The leaves of a tree.
