@@ -49,7 +49,7 @@ made good by_error <<'LOG'
 library algebra: modules loaded=20 checked=0
 target/proofs/add/Proof.antt:12:17: error: `returns`: the two types differ where one has `193` and the other has `194`
   expected type `Sum`
-target/proofs/add/Proof.antt:20:1: error: `close`: `Start` has no `Need-2` that can be named from here
+proofs/add/Proof.antt:20:1: error: `tie.Need-add`: module `add.Tie` has no `Need-add` that can be named from here
 logic=not-proved
 LOG
 made good by_note <<'LOG'
@@ -59,7 +59,7 @@ logic=not-proved
 LOG
 judged "$work/crates" "$work/logs" >"$work/none"
 made bad first_line <<'LOG'
-target/proofs/add/Proof.antt:12:17: error: `returns`: `Start` has no `Need-2` that can be named from here
+proofs/add/Proof.antt:12:17: error: `tie.Need-add`: module `add.Tie` has no `Need-add` that can be named from here
 target/proofs/add/Proof.antt:20:1: error: `close`: the two types differ
 LOG
 made bad later_line <<'LOG'
