@@ -1,45 +1,45 @@
-# make demo: the main job on a built-in example.  make test: every proof and every test, from nothing.
-# make compare: the library against the Rust rendering; words for the comparison in ARGS.
-# make bench: the library's times beside the same job in C and Rust, and its stack; repetitions in ARGS.
-# make server: the example server, 100,000 mixed calls by two threads, its answers held against the rendering's.
-# make soak: the same with 1,000,000 calls.
-# make secrets: no branch and no address of the built library depends on leaves or witness.
-# make vectors: the test vectors of vectors/, regenerated and run against the library.
-# make bindings: the Rust wrapper's tests.
-# make install PREFIX=/usr/local [DESTDIR=...]: library, header, pkg-config file, manual pages, and mqcheck if it has been built.
-# make uninstall, with the same words: takes these files away.
-# make fuzz: the six calls fuzzed against the rendering; seconds for each call in ARGS, else the gate's short run.
-.PHONY: demo test compare bench server soak secrets fuzz vectors bindings install uninstall
+# `make` or `make help` lists what can be made: the text after ## of each target. Words for a program go into ARGS.
+.PHONY: help demo lib test compare bench server soak secrets fuzz vectors bindings install uninstall clean
 
-demo:
+help: ## this list
+	@sed -n 's/^\([a-z ]*\):.*## /\1|/p' $(MAKEFILE_LIST) | while IFS='|' read -r name what; do \
+		printf '  make %-18s %s\n' "$$name" "$$what"; done
+
+demo: ## the main job on a built-in example; the library is proved and built first, once (about 12 minutes)
 	@sh tests/demo.sh
 
-test:
+lib: ## the library: target/staticlib/libsolfadrus.a, proved and built where a source has changed
+	@. tests/need.sh; lib=$$(library) && echo "$$lib/libsolfadrus.a"
+
+test: ## every proof and every test, from nothing each time (about 20 minutes on two cores)
 	@sh tests/run.sh
 
-compare:
+compare: ## the library against the Rust rendering; words for the comparison in ARGS
 	@. tests/need.sh; lib=$$(library) && sh tests/compare.sh "$$lib" $(ARGS)
 
-bench:
-	@sh bench/run.sh $(ARGS)
+bench: ## times beside the same job in C and Rust, and stack; repetitions in ARGS; KEEP=1 adds to bench/history.tsv
+	@sh bench/run.sh $(if $(KEEP),--keep) $(ARGS)
 
-server:
+server: ## the example server: 100,000 mixed calls by two threads, its answers held against the rendering's
 	@sh tests/server.sh $(ARGS)
 
-soak:
+soak: ## the same with 1,000,000 calls
 	@sh tests/server.sh --requests 1000000 $(ARGS)
 
-secrets:
+secrets: ## no branch and no address of the built library depends on leaves or witness
 	@sh tests/secrets.sh
 
-vectors:
+fuzz: ## the six calls fuzzed against the rendering; seconds for each call in ARGS, else the gate's short run
+	@sh tests/fuzz.sh $(ARGS)
+
+vectors: ## the test vectors of vectors/, made again and run against the library
 	@sh tests/vectors.sh
 
-bindings:
+bindings: ## the Rust wrapper's tests
 	@sh tests/bindings.sh
 
-install uninstall:
+install uninstall: ## library, header, .pc file, manual pages, and mqcheck if built; PREFIX=/usr/local [DESTDIR=...]
 	@PREFIX="$(PREFIX)" DESTDIR="$(DESTDIR)" MQCHECK="$(MQCHECK)" sh packaging/install.sh $@
 
-fuzz:
-	@sh tests/fuzz.sh $(ARGS)
+clean: ## takes away target/, and with it all that was proved and built
+	@rm -rf target

@@ -1,14 +1,29 @@
 #!/bin/sh
 # Benchmark: builds the library (or takes that of SOLFADRUS_LIB_DIR), the C programs by gcc and by clang, and the
 # rendering; holds the C programs against the rendering; then times all in one run, and plots the verifier's times
-# to target/bench/verify.svg; the ratios, with date and commit, go to the end of bench/history.tsv (those up to
-# 981c830 are to an earlier and slower baseline.c). A word is the number of repetitions. Nothing here passes or fails
-# by a time.
+# to target/bench/verify.svg; the ratios, with date and commit, go to target/bench/ratios.tsv. Nothing here passes or
+# fails by a time.
+#
+#   run.sh [--keep] [REPETITIONS]   --keep adds the ratios to bench/history.tsv, where they are kept (those up to
+#                                   981c830 are to an earlier and slower baseline.c)
+#   run.sh --once                   the gate's run: each program is built and makes each call once. The timing program
+#                                   holds the bytes against the library's, and the comparison is left out
 set -eu
 cd "$(dirname "$0")/.."
 . tests/need.sh
-need gcc gcc
-need clang clang
+need gcc gcc clang clang
+keep=no
+once=no
+case ${1-} in
+--keep)
+    keep=yes
+    shift
+    ;;
+--once)
+    once=yes
+    set -- 1
+    ;;
+esac
 lib=$(library)
 work=target/bench
 mkdir -p "$work"
@@ -30,6 +45,7 @@ build() {
 for compiler in gcc clang; do
     for program in baseline plain; do
         build "$compiler" "$program"
+        [ $once = no ] || continue
         echo "$program.c by $compiler, held against the rendering:"
         sh tests/compare.sh "$PWD/$work/${program}_$compiler" --seconds 0 | tail -n 1
     done
@@ -46,5 +62,16 @@ cargo --version
 grep -m 1 'model name' /proc/cpuinfo || true
 echo
 stamp="$(date -u +%Y-%m-%d)	$(git describe --always --dirty 2>/dev/null || echo unknown)"
-"$work/bench" "$work/verify.svg" bench/history.tsv "$stamp" "$@"
-echo "ratios added to bench/history.tsv"
+rm -f "$work/ratios.tsv" "$work/verify.svg"
+"$work/bench" "$work/verify.svg" "$work/ratios.tsv" "$stamp" "$@"
+# Two shapes with three calls each.
+if [ "$(wc -l <"$work/ratios.tsv")" != 6 ] || [ ! -s "$work/verify.svg" ]; then
+    echo "ratios or plot are missing" >&2
+    exit 1
+fi
+if [ $keep = yes ]; then
+    cat "$work/ratios.tsv" >>bench/history.tsv
+    echo "ratios added to bench/history.tsv"
+else
+    echo "ratios in $work/ratios.tsv; with --keep (make bench KEEP=1) they are added to bench/history.tsv"
+fi

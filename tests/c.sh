@@ -4,29 +4,24 @@
 set -eu
 cd "$(dirname "$0")/.."
 . tests/need.sh
-# All that is needed, before two of the tests could ask for it at once.
-need gcc gcc
-need g++ g++
-need make make
-need valgrind valgrind
-need pkg-config pkg-config
-need groff groff-base
-need man man-db
+# All that is needed is named, and installed, before two of the tests could ask for it at once.
+need gcc gcc g++ g++ clang clang nm binutils make make valgrind valgrind pkg-config pkg-config \
+    groff groff-base man man-db
 need_fuzzer
+need_cargo
 mkdir -p target
 lib=$(library)
 export SOLFADRUS_LIB_DIR="$lib"
 strict="-Wall -Wextra -pedantic -Werror -Iinclude"
 
-beside() {
-    echo "secrets in branches and addresses"
-    sh tests/secrets.sh "$lib" || return
-    echo "fuzzing"
-    sh tests/fuzz.sh
-}
-beside >target/beside.log 2>&1 &
-longest=$!
-trap 'kill "$longest" 2>/dev/null || true' EXIT
+trap end_aside EXIT
+trap 'exit 1' HUP INT TERM
+aside target/beside.log sh -c '
+    echo "secrets in branches and addresses" && sh tests/secrets.sh "$1" &&
+        echo "fuzzing" && sh tests/fuzz.sh' sh "$lib"
+
+echo "the symbols of the archive"
+sh tests/symbols.sh
 
 echo "the header alone, as C99 and as C++11"
 gcc -std=c99 $strict -x c -fsyntax-only include/solfadrus.h
@@ -74,8 +69,10 @@ sh tests/install.sh
 echo "the example server"
 sh tests/server.sh
 
+echo "the programs of the benchmark, once"
+sh bench/run.sh --once
+
 passed=0
-wait "$longest" || passed=$?
-trap - EXIT
+wait_aside || passed=$?
 cat target/beside.log
 exit "$passed"

@@ -1,5 +1,6 @@
 #!/bin/sh
-# Proves the library and builds it, compiles the example in C against it, and runs the example.
+# Compiles the example in C against the library, and runs it. The library is proved and built first, where a source has
+# changed since it was built last; else nothing is proved again.
 set -eu
 cd "$(dirname "$0")/.."
 . tests/need.sh

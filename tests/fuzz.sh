@@ -33,15 +33,34 @@ for call in $calls; do
         "$work/cargo/release/librendering.a" -lpthread -ldl -lm -o "$work/$call"
 done
 
+# byte NUMBER...: writes these bytes.
+byte() {
+    for number; do
+        # shellcheck disable=SC2059 # the byte is the format
+        printf "\\$(printf %03o "$number")"
+    done
+}
+
 # A file for each seed. The fuzzer puts what it finds into the first directory that it is given, so that is another.
 seeds=$work/seeds
 rm -rf "$seeds" "$work/new"
 mkdir "$seeds" "$work/new"
 grep -v '^#' tests/fuzz/seeds.txt | while read -r name bytes; do
-    for byte in $bytes; do
-        # shellcheck disable=SC2059 # the byte is the format
-        printf "\\$(printf %03o "0x$byte")"
+    for hex in $bytes; do
+        byte "0x$hex"
     done >"$seeds/$name"
+done
+# One for each case as it is, by its number; and the last case, of the longest leaves, opened at other challenges.
+cargo build --quiet --release --offline -j1 --manifest-path tests/shapes/Cargo.toml --target-dir "$work/shapes"
+cases=$("$work/shapes/release/shapes" | wc -l)
+[ "$cases" -gt 1 ] || { echo "no shapes" >&2 && exit 1; }
+case=0
+while [ $case -lt "$cases" ]; do
+    byte $case >"$seeds/case-$case"
+    case=$((case + 1))
+done
+for delta in $("$work/shapes/release/shapes" challenges); do
+    byte $((cases - 1)) 0x2F 0 0 "$delta" >"$seeds/opened-at-$delta"
 done
 
 # fuzz CALL WORDS...: what it says goes into a file. Leaks are not looked for: only the rendering allocates.

@@ -2,16 +2,11 @@
 # `make install` and `make uninstall` into a temporary directory: what is installed serves callers in C, C++ and Rust
 # by pkg-config, its versions agree, its example and its check program run, its manual pages are found, and nothing is
 # left afterwards. The library is that of SOLFADRUS_LIB_DIR, or else the one that rt builds; the check program is that
-# of MQCHECK, or else the one that rt has built, and where there is none the test says so and goes on.
+# of MQCHECK, or else the one that rt has built, and where there is none the test fails.
 set -eu
 cd "$(dirname "$0")/.."
 . tests/need.sh
-need gcc gcc
-need g++ g++
-need pkg-config pkg-config
-need groff groff-base
-need man man-db
-need make make
+need gcc gcc g++ g++ pkg-config pkg-config groff groff-base man man-db make make
 SOLFADRUS_LIB_DIR=$(library)
 export SOLFADRUS_LIB_DIR
 work=$(mktemp -d)
@@ -38,6 +33,8 @@ checked() {
     [ "$line" = "$1" ] || fail "mqcheck says '$line' in place of '$1'"
 }
 
+[ -x "${MQCHECK:-target/bin/mqcheck}" ] || fail "no check program: rt check mqcheck builds it"
+
 echo "installed:"
 made install PREFIX="$prefix" >/dev/null
 files "$prefix" | tee "$work/files"
@@ -49,15 +46,11 @@ printf '%s\n' "$@" | diff - "$work/files" || fail "these are not the files to be
 cmp "$SOLFADRUS_LIB_DIR/libsolfadrus.a" "$prefix/lib/libsolfadrus.a"
 cmp include/solfadrus.h "$prefix/include/solfadrus.h"
 
-if [ -x "$mqcheck" ]; then
-    cmp "$mqcheck" "$prefix/bin/mqcheck"
-    # The program's own example is the toy example of 01 at 02.
-    checked 'accepted 0 0' <crates/mqcheck/stdin
-    checked 'unread 0 0' </dev/null
-    echo "the check program: the toy is accepted, an empty input is unread"
-else
-    echo "the check program is not built ($mqcheck): its run is left out"
-fi
+cmp "$mqcheck" "$prefix/bin/mqcheck"
+# The program's own example is the toy example of 01 at 02.
+checked 'accepted 0 0' <crates/mqcheck/stdin
+checked 'unread 0 0' </dev/null
+echo "the check program: the toy is accepted, an empty input is unread"
 
 PKG_CONFIG_PATH=$prefix/lib/pkgconfig
 export PKG_CONFIG_PATH
@@ -115,7 +108,8 @@ if wrapper "$work/other" >"$work/log" 2>&1 || ! grep -q "pkg-config has no solfa
 fi
 
 for section in 1:mqcheck 3:solfadrus; do
-    LC_ALL=C.UTF-8 MANPATH=$prefix/share/man man --warnings "${section%%:*}" "${section#*:}" >"$work/text" 2>"$work/warnings"
+    LC_ALL=C.UTF-8 MANPATH=$prefix/share/man man --warnings "${section%%:*}" "${section#*:}" \
+        >"$work/text" 2>"$work/warnings"
     [ -s "$work/text" ] || fail "${section#*:} is not rendered"
     [ ! -s "$work/warnings" ] || fail "$(cat "$work/warnings")"
 done

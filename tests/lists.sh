@@ -1,19 +1,41 @@
 #!/bin/sh
-# The published lists, which stand in several places, say the same: docs/REFUSALS.md, section 3 of the header and
-# solfadrus.3 have the same questions; these and the Rust wrapper's documentation have of each call the same numbers,
-# which are those that tests/vectors.c holds the library to, and the same challenges in question 5. Also the numbers
-# that prose repeats: limits, the stack, the check program's most bytes.
+# One table of refusals, docs/refusals.tsv: what REFUSALS.md, the header, solfadrus.3, the Rust wrapper, tests/vectors.c
+# and the crate format say of numbers, names, questions, places and calls is what the table has. Also the numbers that
+# prose repeats: limits, the stack, the check program's most bytes.
+#
+# The table has a line for each number: the constant of C, the variant of Rust and of the code, what the place is, for
+# each call whether it puts the question (in 5 the challenges that it asks of), a short text, and the question.
 set -eu
 cd "$(dirname "$0")/.."
 work=$(mktemp -d)
 trap 'rm -rf "$work"' EXIT
 header=include/solfadrus.h
+helpers=include/solfadrus_util.h
 page=docs/man/solfadrus.3
 list=docs/REFUSALS.md
+table=docs/refusals.tsv
+wrapper=bindings/rust/src
+format=crates/format
 
 # in_ascii: the list's signs as the others write them.
 in_ascii() {
     sed 's/τ/tau/g; s/H′/hash_matrix/g; s/χ/batching/g; s/Δ/delta/g; s/ũ/u~/g; s|⌈n/8⌉|ceil(n / 8)|g; s/ *●/ ●/g'
+}
+
+# of_table WHAT TABLE: what the others must have, from the table, one line each.
+of_table() {
+    awk -F'\t' -v what="$1" '
+        NR == 1 { for (i = 5; i <= 10; i++) name[i] = $i; next }
+        what == "questions" { print $1, $12 ($4 == "0" ? "" : " place") }
+        what == "constants" { print $1, $2 }
+        what == "variants" { print $1, $3 }
+        what == "texts" { print $3, $11 }
+        what == "messages" { print $1, $11 }
+        what == "numbers" { for (i = 5; i <= 10; i++) if ($i != "-") line[i] = line[i] " " $1 }
+        what == "challenges" && $1 == 5 {
+            for (i = 5; i <= 10; i++) if ($i != "-") { gsub(",", " ", $i); line[i] = " " $i }
+        }
+        END { for (i = 5; i <= 10; i++) if (i in line) print name[i] ":" line[i] }' "$2"
 }
 
 # Questions, one line each: number, text, and whether it has a place.
@@ -81,35 +103,97 @@ challenges() {
         print text }'
 }
 
-# same HEADER PAGE LIST: shows what differs from the header.
-same() {
-    questions_of_header "$1" >"$work/questions"
-    calls_of_header "$1" >"$work/calls"
+# Names of the numbers, one line each: number and name.
+constants_of_header() {
+    sed -nE 's/^#define (MQ_REFUSED_[A-Z0-9_]+) ([0-9]+).*/\2 \1/p' "$1"
+}
+constants_of_page() {
+    sed -nE 's/^\.It ([0-9]+) Dv (MQ_REFUSED_[A-Z0-9_]+)$/\1 \2/p' "$1"
+}
+# The enum: each variant below a comment that begins with its number. The list of the published ones is by number.
+variants_of_wrapper() {
+    awk '/^pub enum Reason/ { inside = 1 }
+         inside && /^    \/\/\/ [0-9]+: / { number = $2; sub(/:/, "", number) }
+         inside && /^    [A-Z][A-Za-z]*,$/ { sub(/,/, ""); print number, $1 }
+         /^}/ { inside = 0 }' "$1"
+}
+published_by_wrapper() {
+    awk '/^const PUBLISHED/ { inside = 1; next }
+         inside && /^];/ { exit }
+         inside { gsub(/ *Reason::|,/, ""); print ++count, $0 }' "$1"
+}
+numbers_of_code() {
+    sed -nE 's/^ *Reason::([A-Za-z]+) => ([0-9]+),$/\2 \1/p' "$1"
+}
+texts_of_wrapper() {
+    sed -nE 's/^ *Reason::([A-Za-z]+) => "(.*)",$/\1 \2/p' "$1"
+}
+# The messages of the helpers for C, in the order of the numbers, from 0 for an acceptance.
+messages_of_helpers() {
+    awk -F'"' '/ messages\[\] = \{/ { inside = 1; next }
+         inside && /\};/ { exit }
+         inside { if (count++) print count - 1, $2 }' "$1"
+}
+variants_of_code() {
+    awk '/^pub enum Reason/ { inside = 1; next }
+         inside && /^}/ { exit }
+         inside && /^    [A-Z]/ { sub(/,/, ""); print ++count, $1 }' "$1"
+}
+numbers_of_specs() {
+    sed -nE 's/^numberFor ([A-Za-z]+) = ([0-9]+)$/\2 \1/p' "$1"
+}
+
+# held WHAT COMMAND FILE: what the command prints of the file is what the table has.
+held() {
+    of_table "$1" "$work/at/$table" >"$work/expected"
+    "$2" "$work/at/$3" >"$work/found"
+    diff "$work/expected" "$work/found" >"$work/diff" || {
+        echo "$3, by $2, is not $table:"
+        cat "$work/diff"
+        return 1
+    }
+}
+# calls COMMAND FILE: the same of the numbers that each call puts, and of its challenges.
+calls() {
+    "$1" "$work/at/$2" >"$work/calls"
     numbers <"$work/calls" >"$work/numbers"
+    of_table numbers "$work/at/$table" | diff - "$work/numbers" || { echo "the calls of $2"; return 1; }
+    [ "$1" != calls_of_vectors ] || return 0
     challenges <"$work/calls" >"$work/challenges"
-    # Fewer would mean that the header was not read.
-    if [ "$(wc -l <"$work/questions")" != 15 ] || [ "$(wc -l <"$work/numbers")" != 6 ]; then
-        echo "the header was not read"
+    of_table challenges "$work/at/$table" | diff - "$work/challenges" || { echo "the challenges of $2"; return 1; }
+}
+
+# same: everything, as it stands below $work/at. Fewer than 15 lines would mean that the table was not read.
+same() {
+    if [ "$(of_table variants "$work/at/$table" | wc -l)" != 15 ] ||
+        [ "$(of_table numbers "$work/at/$table" | wc -l)" != 6 ]; then
+        echo "$table was not read"
         return 1
     fi
-    questions_of_page "$2" | diff "$work/questions" - || return
-    questions_of_list "$3" | diff "$work/questions" - || return
-    calls_of_vectors tests/vectors.c | numbers | diff "$work/numbers" - || return
-    calls_of_page "$2" >"$work/of_page"
-    calls_of_list "$3" >"$work/of_list"
-    calls_of_wrapper bindings/rust/src/calls.rs >"$work/of_wrapper"
-    for source in page list wrapper; do
-        numbers <"$work/of_$source" | diff "$work/numbers" - || return
-        challenges <"$work/of_$source" | diff "$work/challenges" - || return
+    held questions questions_of_header $header && held questions questions_of_page $page &&
+        held questions questions_of_list $list && held constants constants_of_header $header &&
+        held constants constants_of_page $page && held variants variants_of_wrapper $wrapper/refusal.rs &&
+        held variants published_by_wrapper $wrapper/refusal.rs && held variants numbers_of_code $wrapper/refusal.rs &&
+        held texts texts_of_wrapper $wrapper/refusal.rs && held variants variants_of_code $format/src/lib.rt &&
+        held variants numbers_of_code $format/src/lib.rt && held variants numbers_of_specs $format/specs/Verdict.antt &&
+        calls calls_of_header $header && calls calls_of_page $page && calls calls_of_list $list &&
+        calls calls_of_wrapper $wrapper/calls.rs && calls calls_of_vectors tests/vectors.c || return
+    [ ! -f $helpers ] || held messages messages_of_helpers $helpers
+}
+# copied: all that is compared, below $work/at.
+copied() {
+    for file in $header $page $list $table $wrapper/refusal.rs $wrapper/calls.rs $format/src/lib.rt \
+        $format/specs/Verdict.antt tests/vectors.c $helpers; do
+        [ -f "$file" ] || [ "$file" != $helpers ] || continue
+        mkdir -p "$work/at/$(dirname "$file")"
+        cp "$file" "$work/at/$file"
     done
 }
 # other WHAT FILE SED: a control, one of the files changed by a sed command.
 other() {
-    for file in $header $page $list; do
-        if [ "$file" = "$2" ]; then sed "$3" "$file"; else cat "$file"; fi >"$work/$(basename "$file")"
-    done
-    if cmp -s "$2" "$work/$(basename "$2")" ||
-        same "$work/solfadrus.h" "$work/solfadrus.3" "$work/REFUSALS.md" >/dev/null; then
+    copied
+    sed "$3" "$2" >"$work/at/$2"
+    if cmp -s "$2" "$work/at/$2" || same >/dev/null; then
         echo "not found out: $1" >&2
         exit 1
     fi
@@ -120,9 +204,25 @@ other "a number that a call does not put" $list '/^| 9 /s/| |/| ● |/'
 other "a challenge that a call does not take" $list '/^| 5 /s/H′, χ/H′/'
 other "a question of the page in other words" $page 's/^Has the key at least/Has the key more than/'
 other "a number of the page" $page 's/^12 to 15\.$/12 to 14./'
+other "a constant of the page" $page 's/^\.It 14 Dv/.It 13 Dv/'
 other "a number of the header" $header '/questions  *1 2 3 4, 7 8, 9/s/10, 11/11/'
-same $header $page $list
-echo "15 questions: the same in the header, the page and REFUSALS.md; the numbers of 6 calls: there, in the Rust wrapper and in vectors.c"
+other "a constant of the header" $header 's/^#define MQ_REFUSED_LEAF_LENGTH 7/#define MQ_REFUSED_LEAF_LENGTH 8/'
+other "a constant that the table has not" $header '/^#define MQ_REFUSED_PRODUCT_DIFFERS/a #define MQ_REFUSED_MORE 16'
+other "a text of the wrapper" $wrapper/refusal.rs 's/"a spare bit of a leaf is not 0"/"a bit of a leaf is not 0"/'
+other "a number of the wrapper" $wrapper/refusal.rs 's/Reason::KeyLength => 3,/Reason::KeyLength => 4,/'
+other "the order of the published reasons" $wrapper/refusal.rs '/^const PUBLISHED/,/^];/s/KeyLength/KeySpareBit/'
+other "a comment's number in the wrapper" $wrapper/refusal.rs 's|/// 6: |/// 7: |'
+other "the numbers of a call of the wrapper" $wrapper/calls.rs 's/Refusals 1 to 4, 9, 11/Refusals 1 to 4, 9/'
+other "a number of the code" $format/src/lib.rt 's/Reason::LeafLength => 7,/Reason::LeafLength => 8,/'
+other "a number of the specification" $format/specs/Verdict.antt 's/^\(numberFor Inconsistent\) = 14/\1 = 15/'
+other "the numbers of a call in vectors.c" tests/vectors.c '/{ "commit", call_commit/s/BITS(7, 11)/BITS(7, 10)/'
+[ ! -f $helpers ] || other "a message for C" $helpers 's/"consistency does not hold"/"consistency holds"/'
+other "a line of the table" $table '/^12\t/d'
+other "a call of the table" $table '/^9\t/s/\tyes\t/\t-\t/'
+copied
+same
+echo "15 refusals: numbers, names, questions, places, calls and texts are those of $table in the header, the page," \
+    "REFUSALS.md, the Rust wrapper, vectors.c and the crate format"
 
 # defined NAME: a number of the header.
 defined() {

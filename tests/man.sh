@@ -31,7 +31,8 @@ of_header() {
     awk '/^(uint32_t|size_t) mq_/ { open = 1; text = "" }
          open { sub(/^ +/, ""); text = text (text == "" ? "" : " ") $0 }
          open && /;$/ { sub(/;$/, "", text); print text; open = 0 }' "$1"
-    sed -n 's/^#define \(MQ_REFUSED_[A-Z0-9_]*\) \([0-9]*\).*/\2 \1/p; s/^#define \(MQ_MAX_[A-Z0-9_]*\) \([0-9]*\)$/\1 \2/p' "$1"
+    sed -n 's/^#define \(MQ_REFUSED_[A-Z0-9_]*\) \([0-9]*\).*/\2 \1/p
+            s/^#define \(MQ_MAX_[A-Z0-9_]*\) \([0-9]*\)$/\1 \2/p' "$1"
     sed -n 's/^size_t \(mq_\([a-z0-9_]*\)_size\)(.*/\1 \2/p' "$1" | while read -r function name; do
         echo "MQ_$(echo "$name" | tr '[:lower:]' '[:upper:]')_SIZE $function"
     done
@@ -46,7 +47,8 @@ of_page() {
          /^\.Fo / { name = substr($0, 5); list = "" }
          /^\.Fa / { list = list (list == "" ? "" : ", ") $2 }
          /^\.Fc/ { print answer " " name "(" list ")" }' "$1"
-    sed -n 's/^\.It \([0-9]*\) Dv \(MQ_REFUSED_[A-Z0-9_]*\)$/\1 \2/p; s/^\.It .* Dv \(MQ_MAX_[A-Z0-9_]*\) Ta \([0-9]*\)$/\1 \2/p
+    sed -n 's/^\.It \([0-9]*\) Dv \(MQ_REFUSED_[A-Z0-9_]*\)$/\1 \2/p
+            s/^\.It .* Dv \(MQ_MAX_[A-Z0-9_]*\) Ta \([0-9]*\)$/\1 \2/p
             s/^\.It Dv \(MQ_[A-Z0-9_]*_SIZE\) Ta Fn \(mq_[a-z0-9_]*\) Ta .*/\1 \2/p' "$1"
 }
 # same HEADER PAGE: shows what differs.

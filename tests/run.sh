@@ -1,10 +1,15 @@
 #!/bin/sh
-# Every test of the repository, each from scratch. The last line is rt ci's 'N passed, 0 failed', and is printed only when all the rest passed too.
+# Every test of the repository, each from nothing. The last line is rt ci's 'N passed, 0 failed', and is printed only
+# when all the rest passed too.
 set -eu
 cd "$(dirname "$0")/.."
+. tests/need.sh
+need_kit
+need_cargo
 log=$(mktemp)
 besides=$(mktemp)
-trap 'rm -f "$log" "$besides"' EXIT
+trap 'end_aside; rm -f "$log" "$log.status" "$besides"' EXIT
+trap 'exit 1' HUP INT TERM
 
 fail() {
     echo "FAILED: $1"
@@ -24,30 +29,31 @@ step() {
     fi
 }
 
-# What needs no library, so that it can run while that is built. rt has built the check program.
-beside() {
-    cargo test --quiet --release --offline --manifest-path tests/reference/Cargo.toml -- --test-threads=1 &&
-        MQCHECK=target/bin/mqcheck sh tests/mqcheck.sh
-}
-
 # rt proves each crate from nothing, tries the must-fail edits, and runs each program.
-rt ci >"$log" 2>&1 || {
+crates=$(grep -c : crates.txt)
+echo "Every proof and every test, from nothing: about 20 minutes on two cores. First $crates crates, then" \
+    "$(find crates -name '*.edit' | wc -l) edits that must be refused."
+with_progress "$crates" "$log" rt ci || {
     tail -n 60 "$log"
     fail "rt ci"
 }
-grep '^rt: ' "$log" | sed 's/^rt: //'
 verdict=$(tail -n 1 "$log")
 case $verdict in
 *' passed, 0 failed') ;;
 *) fail "rt ci: $verdict" ;;
 esac
 
+step "why each edit was refused" sh tests/edits.sh
 step "line counts of the audit guide" sh tests/counts.sh
-beside >"$besides" 2>&1 &
-other=$!
+step "what the scripts share" sh tests/scripts.sh
+# What needs no library, so that it can run while that is built. rt has built the check program.
+aside "$besides" sh -c '
+    cargo test --quiet --release --offline --manifest-path tests/reference/Cargo.toml -- --test-threads=1 &&
+        cargo test --quiet --release --offline --manifest-path tests/shapes/Cargo.toml --target-dir target/shapes &&
+        MQCHECK=target/bin/mqcheck sh tests/mqcheck.sh'
 # rt ci has just proved every crate: the archive is built from them.
 step "the library from C, C++ and Rust" sh tests/c.sh
-wait "$other" || {
+wait_aside || {
     tail -n 60 "$besides"
     fail "the Rust rendering, or the check program"
 }

@@ -18,7 +18,7 @@
  *                           witness, which solves, and its own leaves.
  *   secrets trace FILE      Makes all calls on that case. The traces of the two cases, all instructions and all
  *                           addresses, must be the same.
- *   secrets trace-leak FILE A control: an address by the witness. It must be seen.
+ *   secrets trace-leak FILE A control, on the small shapes: an address by the witness. It must be seen.
  */
 #include <stdio.h>
 #include <valgrind/memcheck.h>
@@ -29,7 +29,26 @@ static const struct sizes shapes[] = {
     { 1, 1, 1, 1 },    { 9, 3, 2, 5 },   { 16, 9, 3, 8 },       { 33, 4, 17, 12 },
     { 150, 2, 4, 20 }, { 24, 5, 48, 3 }, { 150, 150, 19, 144 }, { 160, 160, 48, 160 },
 };
-enum { SHAPES = sizeof shapes / sizeof shapes[0], TRACED = 3 /* the small ones: a trace is long */ };
+
+/* The shapes of the traces, which are long: small ones, and two at which every kernel has more than one round.
+ * The first has leaves of a chunk of sixteen bytes and a part of one, a second set of four panels of sixteen columns,
+ * rows of more than one word of eight bytes, and equations in more than one word of ten fives. The second has three
+ * chunks, a third set, and columns past the first sixteen bytes of a row. */
+enum { KERNEL_N = 65, KERNEL_M = 53, KERNEL_TAU = 2, KERNEL_T = 57 };
+enum { WIDE_N = 145, WIDE_M = 6, WIDE_TAU = 1, WIDE_T = 104 };
+_Static_assert(MQ_LEAF_SIZE(KERNEL_N, KERNEL_M, KERNEL_TAU, KERNEL_T) > 16, "more than a chunk of a leaf");
+_Static_assert(KERNEL_N > 4 * 16, "more than a set of panels");
+_Static_assert(KERNEL_M > 51, "more than a word of fives");
+_Static_assert(MQ_LEAF_SIZE(WIDE_N, WIDE_M, WIDE_TAU, WIDE_T) > 2 * 16, "more than two chunks of a leaf");
+_Static_assert(WIDE_N > 144, "a panel whose rows lie past the first sixteen bytes");
+static const struct sizes traced[] = {
+    { 1, 1, 1, 1 },
+    { 9, 3, 2, 5 },
+    { 16, 9, 3, 8 },
+    { KERNEL_N, KERNEL_M, KERNEL_TAU, KERNEL_T },
+    { WIDE_N, WIDE_M, WIDE_TAU, WIDE_T },
+};
+enum { SHAPES = sizeof shapes / sizeof shapes[0], TRACED = sizeof traced / sizeof traced[0], SMALL = 3 };
 
 /* ---- Two witnesses ------------------------------------------------------------------------ */
 
@@ -342,7 +361,7 @@ static size_t write_all(void *at, size_t size, size_t count, FILE *file)
 static int make_file(unsigned variant, FILE *file)
 {
     for (size_t i = 0; i < TRACED; i++) {
-        struct made c = make_variant(shapes[i], variant);
+        struct made c = make_variant(traced[i], variant);
         pass(write_all, &c, file);
         drop_case(&c);
     }
@@ -352,9 +371,8 @@ static int make_file(unsigned variant, FILE *file)
 static int read_and_call(int leak, FILE *file)
 {
     uint32_t answers = 0;
-    for (size_t i = 0; i < TRACED; i++) {
-        const struct sizes s = shapes[i];
-        struct made c = lend_case(s);
+    for (size_t i = 0; i < (leak ? SMALL : TRACED); i++) {
+        struct made c = lend_case(traced[i]);
         pass(fread, &c, file);
         if (leak)
             leak_by_address(c.witness.at);

@@ -13,8 +13,10 @@ trap 'rm -rf "$work"' EXIT
 # covered HEADER TEST: fails, and shows the names, where macros, functions and the test's table differ.
 covered() {
     sed -nE 's/^#define MQ_([A-Z0-9_]*)_(SIZE|BYTES)[ (].*/\1/p' "$1" | sort >"$work/macros"
-    sed -nE 's/^size_t mq_([a-z0-9_]*)_(size|bytes)\(.*/\1/p' "$1" | tr '[:lower:]' '[:upper:]' | sort >"$work/functions"
-    sed -nE 's/^    \{ "[a-z0-9_]*", mq_([a-z0-9_]*)_(size|bytes), macro_[A-Z0-9_]* \},$/\1/p' "$2" | tr '[:lower:]' '[:upper:]' | sort >"$work/tested"
+    sed -nE 's/^size_t mq_([a-z0-9_]*)_(size|bytes)\(.*/\1/p' "$1" | tr '[:lower:]' '[:upper:]' |
+        sort >"$work/functions"
+    sed -nE 's/^    \{ "[a-z0-9_]*", mq_([a-z0-9_]*)_(size|bytes), macro_[A-Z0-9_]* \},$/\1/p' "$2" |
+        tr '[:lower:]' '[:upper:]' | sort >"$work/tested"
     # No function: parts of lengths, for places inside a string; and the stack, which is neither lent nor written.
     printf '%s\n' COUNT FIELD HASH_ROW HEADER LEAF STACK STRING | sort - "$work/functions" >"$work/named"
     [ -s "$work/functions" ] && diff "$work/macros" "$work/named" && diff "$work/functions" "$work/tested"

@@ -1,4 +1,4 @@
-/* What a fuzz target says of its call, and the rendering's side of the six calls (src/lib.rs). */
+/* What a fuzz target says of its call, and the rendering's side of the six calls, and the shapes (src/lib.rs). */
 #ifndef CALL_H
 #define CALL_H
 
@@ -36,5 +36,9 @@ uint32_t rendering_prove(struct lent key, struct lent leaves, struct lent witnes
 uint32_t rendering_verify(struct lent key, struct lent delta, struct lent hash_matrix, struct lent batching,
                           struct lent opened, struct lent proof);
 bool rendering_fails(struct lent key, struct lent witness, size_t equation);
+
+/* The shapes to start from: those of tests/shapes with a size at a kernel's threshold. */
+size_t shape_count(void);
+struct sizes shape_sizes(size_t which);
 
 #endif

@@ -2,14 +2,10 @@
 
 #include <stdio.h>
 
-/* Small, so that many are tried: sizes that are and are not multiples of 8, and each at its limit. */
-static const struct sizes shapes[] = {
-    { 9, 3, 2, 5 },   { 1, 1, 1, 1 },   { 2, 1, 1, 1 },   { 8, 8, 3, 8 },   { 17, 2, 1, 9 }, { 5, 9, 6, 3 },
-    { 33, 2, 2, 40 }, { 3, 17, 17, 1 }, { 160, 1, 1, 1 }, { 1, 160, 1, 1 }, { 1, 1, 48, 1 }, { 1, 1, 1, 160 },
-};
-enum { CASES = sizeof shapes / sizeof shapes[0], LONGEST = 1 << 16 };
+enum { MOST_CASES = 255, NOTHING = 255 /* the first byte that names the case of empty strings */, LONGEST = 1 << 16 };
 
-static struct made cases[CASES];
+static struct made cases[MOST_CASES];
+static size_t case_count;
 static uint8_t space[INPUTS][LONGEST];
 
 static struct lent string_of(struct made *made, enum input name)
@@ -28,9 +24,19 @@ static struct lent string_of(struct made *made, enum input name)
 
 void make_cases(void)
 {
-    for (size_t i = 0; i < CASES; i++) {
+    case_count = shape_count();
+    if (case_count == 0 || case_count > MOST_CASES) {
+        fprintf(stderr, "%zu cases\n", case_count);
+        exit(2);
+    }
+    for (size_t i = 0; i < case_count; i++) {
         struct made *const c = &cases[i];
-        *c = make_case(i + 1, shapes[i]);
+        *c = make_case(i + 1, shape_sizes(i));
+        for (size_t name = 0; name < INPUTS; name++)
+            if (string_of(c, name).len > LONGEST) {
+                fprintf(stderr, "case %zu: a string is longer than there is room for\n", i);
+                exit(2);
+            }
         if (rendering_prove(c->key, c->leaves, c->witness, c->hash_matrix, c->batching, c->proof) != 0) {
             fprintf(stderr, "the rendering refuses honest inputs\n");
             exit(2);
@@ -145,15 +151,15 @@ struct edited edited(const uint8_t *bytes, size_t len)
     static struct made nothing;
     struct reader rest = { bytes, len };
     struct edited now = { .out_len = 0 };
-    const size_t first = len ? bytes[0] % (CASES + 1) : CASES;
-    struct made *const start = first < CASES ? &cases[first] : &nothing;
+    const size_t first = len ? bytes[0] : NOTHING;
+    struct made *const start = first == NOTHING ? &nothing : &cases[first % case_count];
     for (size_t i = 0; i < INPUTS; i++) {
         const struct lent string = string_of(start, i);
         now.in[i] = (struct lent){ space[i], string.len };
         if (string.len)
             memcpy(space[i], string.at, string.len);
     }
-    now.out_len = first < CASES ? the_call.writes(start->sizes) : 0;
+    now.out_len = first == NOTHING ? 0 : the_call.writes(start->sizes);
     if (rest.left)
         rest.at++, rest.left--;
     while (rest.left >= 4) {
@@ -161,7 +167,7 @@ struct edited edited(const uint8_t *bytes, size_t len)
         const unsigned number = edit[0] / 8 % (INPUTS + 1);
         rest.at += 4;
         rest.left -= 4;
-        if (number == INPUTS && the_call.writes(shapes[0]) > 0)
+        if (number == INPUTS && the_call.writes(cases[0].sizes) > 0)
             edit_output(&now, edit);
         else
             edit_string(&now, start, named(number), edit, &rest);

@@ -1,8 +1,9 @@
 /*
  * From the fuzzer's bytes to the inputs of a call.
  *
- * Random bytes would be refused for the key's form, nearly always. So the first byte names a case to start from, honest
- * but for the last, in which all strings are empty. Edits follow, each of four bytes and the bytes that it takes:
+ * Random bytes would be refused for the key's form, nearly always. So the first byte names a case to start from, an
+ * honest one of a shape of tests/shapes, but for FF, where all strings are empty. Edits follow, each of four bytes and
+ * the bytes that it takes:
  *
  *     what    low three bits: the edit; the others: the string (enum input, then the output)
  *     where   two bytes, lowest first: a place in the string; FFFF is its last byte, FFFE the one before

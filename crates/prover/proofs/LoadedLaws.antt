@@ -1,6 +1,6 @@
 -- What the forms of inputs say of their lengths, and what loading a call's leaves gives.
 -- Assumes nothing.
-use mathlib.Core.Path.{_≡_, refl, sym, ap, _∙_, subst}
+use mathlib.Core.Path.{_≡_, refl, sym, ap, _∙_}
 use mathlib.Core.Bool.{true}
 use mathlib.Core.List.{List, _++_}
 use Prim.Native.Nat.{ℕ, _+_, _*_, _-_, _≤_, _<_}
@@ -11,7 +11,6 @@ use Rattle.protocol.specs.Strings.{bytesFor}
 use Rattle.protocol.specs.Frames.{framedLength}
 use Rattle.protocol.specs.Binary.{bits256}
 use Rattle.protocol.specs.Shape.{Shape, limits, perTree, wOf}
-use Rattle.protocol.specs.Key.{keyExact}
 use Rattle.protocol.specs.Sections.{commitLengths, hashLengths}
 use Rattle.protocol.proofs.CountingLaws.{leaves-length}
 use Rattle.protocol.proofs.ListLaws.{row-end}
@@ -19,7 +18,7 @@ use Rattle.format.proofs.FitLaws.{room}
 use Rattle.lanes.specs.Lanes.{lanes}
 use Rattle.tables.specs.Sums.{SumsAre, TableIs}
 use Rattle.tables.proofs.SumsMeaning.{per-tree}
-use Rattle.questions.specs.Asking.{KeyForm}
+use Rattle.questions.specs.Asking.{SizedKey}
 use Rattle.questions.specs.Facts.{KeyFacts, LeavesForm}
 use Rattle.prover.specs.Loaded.{Buffers}
 
@@ -37,13 +36,9 @@ table-more p q leaves τ w few long is e c l h = List·getD-append p q 0 (c * la
 pub table-less : (tab leaves : List ℕ) (τ w : ℕ) → τ ≤ lanes → TableIs tab leaves τ w → TableIs (take (8 * w * lanes) tab) leaves τ w
 table-less tab leaves τ w few is e c l h = getD-take (8 * w * lanes) tab (c * lanes + e) 0 (omega (arith, row-end c (8 * w) lanes h)) ∙ is e c l h
 
--- a key whose questions got a yes, by its own sizes
-pub key-form : (s : Shape) (key : List ℕ) → KeyFacts s key → KeyForm key
-key-form s key f = record {
-  header = f .header;
-  sizes = subst (λ (z : Shape). limits z ≡ true) (f .sizes) (f .in-range);
-  exact = subst (λ (z : Shape). keyExact bits256 z key ≡ true) (f .sizes) (f .key-exact);
-}
+-- a key whose questions got a yes has its sections
+pub key-form : (s : Shape) (key : List ℕ) → KeyFacts s key → SizedKey s key
+key-form s key f = record { header = f .header; sizes = f .in-range; exact = f .key-exact }
 
 -- the buffers of a call, made for the largest key, have room for this one
 pub buffers-of : (s : Shape) → limits s ≡ true → Buffers s (replicate 15744 0) (replicate 1968 0)

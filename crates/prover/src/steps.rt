@@ -53,8 +53,8 @@ fn fill_forms(
     forms::batch::batch_lanes(
         qs0,
         qs1,
-        questions::key::section_a(key),
-        questions::key::section_b(key),
+        questions::key::section_a(key, s),
+        questions::key::section_b(key, s),
         witness,
         batching,
         strings::row_at(sums, w, 0),

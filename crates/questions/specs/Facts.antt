@@ -14,7 +14,7 @@ use Prim.Native.Nat.{ℕ, _+_, _*_, _-_, _≤_}
 use lib.ListN.{length, getD}
 use Rattle.protocol.specs.Strings.{bytesFor, spareZero}
 use Rattle.protocol.specs.Binary.{bits256}
-use Rattle.protocol.specs.Shape.{Shape, shapeOf, limits, perTree, wOf}
+use Rattle.protocol.specs.Shape.{Shape, limits, perTree, wOf}
 use Rattle.protocol.specs.Key.{keyExact, keySpare}
 use Rattle.protocol.specs.Frames.{framed, sectionNo}
 use Rattle.protocol.specs.Sections.{lengths}
@@ -28,7 +28,6 @@ use Rattle.questions.specs.Asking.{proofQuestions}
 
 pub record KeyFacts (s : Shape) (key : List ℕ) : Type 0 where
   pub header : 8 ≤ length key
-  pub sizes : s ≡ shapeOf key
   pub in-range : limits s ≡ true
   pub key-exact : keyExact bits256 s key ≡ true
   pub key-spare : keySpare bits256 s key ≡ true

@@ -54,13 +54,13 @@ module _ (key : List ℕ) where
   pub test-facts : (x : List ℕ) → ask (testQuestions bits256 key x) ≡ accepted → TestFacts (shapeOf key) key x
   test-facts x h =
       let t = all-yes (testQuestions bits256 key x) (ask-accepts (testQuestions bits256 key x) .0 h) in
-      record { of-key = record { header = leb-le _ _ (t .0); sizes = refl; in-range = t .1 .0; key-exact = t .1 .1 .0; key-spare = t .1 .1 .1 .0 }; of-witness = witness-of s x (t .1 .1 .1 .1 .0) }
+      record { of-key = record { header = leb-le _ _ (t .0); in-range = t .1 .0; key-exact = t .1 .1 .0; key-spare = t .1 .1 .1 .0 }; of-witness = witness-of s x (t .1 .1 .1 .1 .0) }
 
   pub commit-facts : (leaves x out : List ℕ) → ask (commitQuestions bits256 key leaves x out) ≡ accepted → KeyFacts (shapeOf key) key × CommitFacts (shapeOf key) leaves x out
   commit-facts leaves x out h =
       let t = all-yes (commitQuestions bits256 key leaves x out) (ask-accepts (commitQuestions bits256 key leaves x out) .0 h) in
       let r = t .1 .1 .1 .1 in (
-        record { header = leb-le _ _ (t .0); sizes = refl; in-range = t .1 .0; key-exact = t .1 .1 .0; key-spare = t .1 .1 .1 .0 },
+        record { header = leb-le _ _ (t .0); in-range = t .1 .0; key-exact = t .1 .1 .0; key-spare = t .1 .1 .1 .0 },
         record {
           in-range = t .1 .0;
           of-leaves = record { leaves-exact = r .0; leaves-spare = r .1 .0 };
@@ -74,7 +74,7 @@ module _ (key : List ℕ) where
       let t = all-yes (hashQuestions bits256 key leaves H′ out) (ask-accepts (hashQuestions bits256 key leaves H′ out) .0 h) in
       let r = t .1 .1 .1 .1 in
       let q = all-true (hExact bits256 s H′ ∷ []) (r .0) in (
-        record { header = leb-le _ _ (t .0); sizes = refl; in-range = t .1 .0; key-exact = t .1 .1 .0; key-spare = t .1 .1 .1 .0 },
+        record { header = leb-le _ _ (t .0); in-range = t .1 .0; key-exact = t .1 .1 .0; key-spare = t .1 .1 .1 .0 },
         record {
           in-range = t .1 .0;
           of-hash = record { hash-exact = q .0; hash-spare = r .1 .0 };
@@ -89,7 +89,7 @@ module _ (key : List ℕ) where
       let r = t .1 .1 .1 .1 in
       let q = all-true (χExact bits256 s χ ∷ []) (r .0) in
       record {
-        of-key = record { header = leb-le _ _ (t .0); sizes = refl; in-range = t .1 .0; key-exact = t .1 .1 .0; key-spare = t .1 .1 .1 .0 };
+        of-key = record { header = leb-le _ _ (t .0); in-range = t .1 .0; key-exact = t .1 .1 .0; key-spare = t .1 .1 .1 .0 };
         of-batching = batching-of s χ (q .0);
         of-leaves = record { leaves-exact = r .1 .0; leaves-spare = r .1 .1 .0 };
         of-witness = witness-of s x (r .1 .1 .1 .0);
@@ -102,7 +102,7 @@ module _ (key : List ℕ) where
       let r = t .1 .1 .1 .1 in
       let q = all-true (hExact bits256 s H′ ∷ χExact bits256 s χ ∷ []) (r .0) in
       record {
-        of-key = record { header = leb-le _ _ (t .0); sizes = refl; in-range = t .1 .0; key-exact = t .1 .1 .0; key-spare = t .1 .1 .1 .0 };
+        of-key = record { header = leb-le _ _ (t .0); in-range = t .1 .0; key-exact = t .1 .1 .0; key-spare = t .1 .1 .1 .0 };
         of-hash = record { hash-exact = q .0; hash-spare = r .1 .0 };
         of-batching = batching-of s χ (q .1 .0);
         of-leaves = record { leaves-exact = r .1 .1 .0; leaves-spare = r .1 .1 .1 .0 };

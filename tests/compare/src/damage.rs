@@ -63,7 +63,7 @@ pub enum Damage {
 }
 
 /// The limits of n, m, τ, t, in the header's order.
-const LIMITS: [usize; 4] = [160, 160, 48, 160];
+const LIMITS: [usize; 4] = shapes::LIMITS;
 
 impl Damage {
     /// The input that it damages; none for the output.

@@ -8,8 +8,7 @@ use crate::judge::{describe, Expected, Judge};
 use reference::cases::Random;
 use reference::{open_leaves, Answer};
 
-/// n, m, τ, t.
-pub type Sizes = (usize, usize, usize, usize);
+pub use shapes::Sizes;
 
 #[derive(Clone, Copy, Debug, PartialEq, Eq)]
 pub enum Group {
@@ -21,6 +20,8 @@ pub enum Group {
     Pairs(Sizes),
     /// Honest inputs, and every damage alone.
     Shape(Sizes),
+    /// Honest inputs, and a few changed coordinates: several kernels at their thresholds at once.
+    Kernels(Sizes),
     /// Honest proofs, the rendering's and the library's, at many Δ.
     Challenges(Sizes),
     /// Doctored proofs, at all 256 values of one repetition's Δ: see `forged`.
@@ -30,48 +31,27 @@ pub enum Group {
 }
 
 /// Small, and with spare bits in every section.
-const PAIRED: [Sizes; 2] = [(9, 3, 2, 5), (3, 9, 1, 2)];
+const PAIRED: [Sizes; 2] = [shapes::SMALL, (3, 9, 1, 2)];
 
 /// With leaves of less and of more than 16 bytes, and repetitions to 1, 16, 17 and 48.
 const CHALLENGED: [Sizes; 5] = [
-    (9, 3, 2, 5),
+    shapes::SMALL,
     (1, 2, 1, 1),
     (65, 4, 16, 63),
     (12, 5, 17, 20),
     (7, 3, 48, 9),
 ];
 
-const FORGED: [Sizes; 3] = [(9, 3, 2, 5), (3, 2, 3, 2), (66, 1, 1, 60)];
+const FORGED: [Sizes; 3] = [shapes::SMALL, (3, 2, 3, 2), (66, 1, 1, 60)];
 
-/// The limits, one and one more; multiples of 8 and their neighbours; the set of 150 variables.
-const SHAPES: [Sizes; 20] = [
-    (1, 1, 1, 1),
-    (2, 1, 1, 1),
-    (7, 8, 2, 9),
-    (8, 8, 8, 8),
-    (9, 7, 3, 8),
-    (16, 15, 2, 17),
-    (17, 17, 16, 15),
-    (24, 1, 17, 23),
-    (1, 160, 1, 1),
-    (1, 1, 48, 160),
-    (32, 33, 4, 31),
-    (63, 9, 5, 65),
-    (64, 3, 33, 64),
-    (65, 16, 2, 63),
-    (160, 2, 3, 1),
-    (159, 5, 2, 160),
-    (121, 160, 1, 7),
-    (160, 160, 1, 160),
-    (150, 150, 19, 144),
-    (160, 160, 48, 160),
-];
+/// Beside those of the thresholds: the set of 150 variables, and the limits together.
+const LARGE: [Sizes; 3] = [(160, 160, 1, 160), (150, 150, 19, 144), (160, 160, 48, 160)];
 
 /// The groups that every run has, before the random ones.
 pub fn fixed() -> Vec<Group> {
     let mut groups = vec![Group::Toy];
     for which in 0..4 {
-        let limit = [160, 160, 48, 160][which];
+        let limit = shapes::LIMITS[which];
         for size in [0, limit, limit + 1] {
             let mut sizes = [3, 2, 2, 3];
             sizes[which] = size;
@@ -81,7 +61,9 @@ pub fn fixed() -> Vec<Group> {
     groups.extend(PAIRED.map(Group::Pairs));
     groups.extend(CHALLENGED.map(Group::Challenges));
     groups.extend(FORGED.map(Group::Forged));
-    groups.extend(SHAPES.map(Group::Shape));
+    groups.extend(shapes::single().into_iter().map(Group::Shape));
+    groups.extend(shapes::joint().into_iter().map(Group::Kernels));
+    groups.extend(LARGE.map(Group::Shape));
     groups
 }
 
@@ -138,6 +120,7 @@ impl Run<'_> {
             Group::Edge(sizes) => self.edge(sizes),
             Group::Pairs(sizes) => self.pairs(sizes),
             Group::Shape(sizes) => self.shape(sizes),
+            Group::Kernels(sizes) => self.kernels(sizes),
             Group::Challenges(sizes) => self.challenges(sizes),
             Group::Forged(sizes) => self.forged(sizes),
             Group::Random => self.random_damages(),
@@ -243,6 +226,26 @@ impl Run<'_> {
         Ok(())
     }
 
+    fn kernels(&mut self, sizes: Sizes) -> Result<(), String> {
+        let mut inputs = self.inputs(sizes);
+        self.honest(&mut inputs)?;
+        self.dear_flips(&inputs)?;
+        // Question 11, by the sections of the key in turn and by the witness.
+        for (name, section) in [
+            (Name::Key, 0),
+            (Name::Key, 1),
+            (Name::Key, 2),
+            (Name::Witness, 0),
+        ] {
+            let damage = Damage::Flipped(name, section);
+            let mut changed = inputs.clone();
+            if damage.apply(&mut changed, &mut self.random) {
+                self.put(&TEST, &changed, &[damage], None)?;
+            }
+        }
+        Ok(())
+    }
+
     /// Where the rendering is dear, it is asked about a few changed coordinates only, and by the verifier, which is
     /// its cheaper part: one of each two sections of the proof, one of the leaves, one of the rest.
     fn dear_flips(&mut self, honest: &Inputs) -> Result<(), String> {
@@ -330,7 +333,7 @@ impl Run<'_> {
         let tau = inputs.shape.tau;
         for proof in [by_rendering, by_library] {
             *inputs.get_mut(Name::Proof) = proof;
-            for all in [0x00, 0xFF, 0x01, 0x80] {
+            for all in shapes::challenges().into_iter().chain([0x80]) {
                 open_at(&mut inputs, vec![all; tau]);
                 self.accepted(&inputs)?;
             }
@@ -368,7 +371,7 @@ impl Run<'_> {
     /// Mostly small, so that many are tried; some with one size up to its limit, and some large throughout.
     fn random_sizes(&mut self) -> Sizes {
         let small = [24, 24, 6, 24];
-        let limits = [160, 160, 48, 160];
+        let limits = shapes::LIMITS;
         let large = self.random.below(20);
         let sizes: Vec<usize> = (0..4)
             .map(|which| {

@@ -52,7 +52,7 @@ fn sections(shape: &Shape, which: std::ops::Range<usize>) -> usize {
 /// `off` is added to what the library answers: the self-test puts 1.
 pub fn compare(random: &mut Random, off: usize) -> Result<u64, String> {
     let mut compared = 0;
-    let limits = [160, 160, 48, 160];
+    let limits = shapes::LIMITS;
     for which in 0..4 {
         for other in 0..4 {
             for size in 0..=limits[which] + 1 {

@@ -114,3 +114,25 @@ pub unsafe extern "C" fn rendering_verify(
 pub unsafe extern "C" fn rendering_fails(key: Lent, witness: Lent, equation: usize) -> bool {
     reference::failing(key.input(), witness.input()).contains(&equation)
 }
+
+/// The sizes of a case. The fields are those of `struct sizes` in tests/case.h.
+#[repr(C)]
+pub struct Sizes {
+    n: usize,
+    m: usize,
+    tau: usize,
+    t: usize,
+}
+
+/// How many cases there are to start from: one for each shape with a size at a kernel's threshold.
+#[no_mangle]
+pub extern "C" fn shape_count() -> usize {
+    shapes::single().len()
+}
+
+/// The sizes of one of them. The first is small, with spare bits in every section.
+#[no_mangle]
+pub extern "C" fn shape_sizes(which: usize) -> Sizes {
+    let (n, m, tau, t) = shapes::single()[which];
+    Sizes { n, m, tau, t }
+}

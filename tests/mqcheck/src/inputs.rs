@@ -249,7 +249,7 @@ pub fn limits() -> Vec<Input> {
     .iter()
     .map(|&(n, m, tau, t)| {
         let bytes = framed(&honest(&case(1, n, m, tau, t)));
-        assert!(bytes.len() <= 65_536);
+        assert!(bytes.len() <= MOST);
         input(
             format!("honest, n = {n}, m = {m}, τ = {tau}, t = {t}"),
             bytes,
@@ -290,52 +290,72 @@ fn of_length(length: usize) -> Case {
     panic!("no sizes give an input of {length} bytes");
 }
 
+/// The most bytes of input in all (01).
+const MOST: usize = 65_536;
+
+/// The toy with bytes of 0 after its proof, and counted to it, so that the input is of exactly this length.
+fn longer_proof(length: usize) -> Vec<u8> {
+    let mut sections = toy_sections(0x02, 1, 0x01, 0x04);
+    let longer = sections[5].len() + length - toy_input().len();
+    sections[5].resize(longer, 0);
+    let bytes = framed(&sections);
+    assert_eq!(bytes.len(), length);
+    bytes
+}
+
+/// Pushes an input twice: in one piece, and in pieces.
+fn push_both(inputs: &mut Vec<Input>, name: String, bytes: Vec<u8>, line: &str) {
+    let mut pieces = input(format!("{name}, in pieces"), bytes.clone(), Some(line));
+    pieces.piece = 4_097;
+    inputs.push(input(name, bytes, Some(line)));
+    inputs.push(pieces);
+}
+
 /// "More than 65,536 bytes of input in all ... give `unread 0 0`."
 pub fn totals() -> Vec<Input> {
     let mut inputs = Vec::new();
-    for (length, line) in [
-        (65_535, "accepted 0 0"),
-        (65_536, "accepted 0 0"),
-        (65_537, "unread 0 0"),
-        (65_538, "unread 0 0"),
-    ] {
+    for length in [MOST - 1, MOST, MOST + 1, MOST + 2] {
+        let line = if length <= MOST {
+            "accepted 0 0"
+        } else {
+            "unread 0 0"
+        };
         let bytes = framed(&honest(&of_length(length)));
         assert_eq!(bytes.len(), length);
-        inputs.push(input(
-            format!("honest, {length} bytes"),
-            bytes.clone(),
-            Some(line),
-        ));
-        let mut pieces = input(
-            format!("honest, {length} bytes, in pieces"),
-            bytes,
-            Some(line),
-        );
-        pieces.piece = 4_097;
-        inputs.push(pieces);
+        push_both(&mut inputs, format!("honest, {length} bytes"), bytes, line);
     }
-    for (length, line) in [
-        (65_536, "refused 12 0"),
-        (65_537, "unread 0 0"),
-        (65_538, "unread 0 0"),
-        (131_072, "unread 0 0"),
-        (1_000_000, "unread 0 0"),
+    for length in [MOST, MOST + 1, MOST + 2, 2 * MOST, 1_000_000] {
+        let line = if length <= MOST {
+            "refused 12 0"
+        } else {
+            "unread 0 0"
+        };
+        let name = format!("toy, its proof longer, {length} bytes");
+        inputs.push(input(name, longer_proof(length), Some(line)));
+        let zeros = vec![0; length];
+        inputs.push(input(format!("{length} zeros"), zeros, Some("unread 0 0")));
+    }
+    inputs.extend(extended());
+    inputs
+}
+
+/// Whole inputs of the most bytes, which are read, and then bytes left over: a program that looks at the first 65,536
+/// alone would read them too.
+fn extended() -> Vec<Input> {
+    let mut inputs = Vec::new();
+    for (name, whole, read) in [
+        ("honest", framed(&honest(&of_length(MOST))), "accepted 0 0"),
+        ("toy, its proof longer", longer_proof(MOST), "refused 12 0"),
     ] {
-        let mut sections = toy_sections(0x02, 1, 0x01, 0x04);
-        let longer = sections[5].len() + length - toy_input().len();
-        sections[5].resize(longer, 0);
-        let bytes = framed(&sections);
-        assert_eq!(bytes.len(), length);
-        inputs.push(input(
-            format!("toy, its proof longer, {length} bytes"),
-            bytes,
-            Some(line),
-        ));
-        inputs.push(input(
-            format!("{length} zeros"),
-            vec![0; length],
-            Some("unread 0 0"),
-        ));
+        assert_eq!(whole.len(), MOST);
+        assert_eq!(reference::check::line(&whole), read);
+        for over in [1, 2, 3, 4, 5, 24, MOST] {
+            for byte in [0x00, 0xFF] {
+                let bytes = [whole.clone(), vec![byte; over]].concat();
+                let name = format!("{name}, {MOST} bytes, and {over} of {byte:02X}");
+                push_both(&mut inputs, name, bytes, "unread 0 0");
+            }
+        }
     }
     inputs
 }

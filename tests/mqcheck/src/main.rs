@@ -1,5 +1,6 @@
-//! Runs a check program, `mqcheck-test PROGRAM`, on many inputs. What it writes must be the line of the Rust rendering, and where 01
-//! or a file of vectors names the line, that one. `--count` before the program only counts the inputs with another line, and runs on.
+//! Runs a check program, `mqcheck-test PROGRAM`, on many inputs. What it writes must be the line of the Rust rendering,
+//! and where 01 or a file of vectors names the line, that one. `--count` before the program only counts the inputs with
+//! another line; `--totals` does so on inputs of about 65,536 bytes alone.
 
 mod inputs;
 mod vectors;
@@ -30,13 +31,7 @@ fn run(program: &str, bytes: &[u8], piece: usize) -> Vec<u8> {
     output.stdout
 }
 
-fn main() {
-    let words: Vec<String> = std::env::args().skip(1).collect();
-    let (count_only, program) = match words.as_slice() {
-        [program] => (false, program),
-        [flag, program] if flag == "--count" => (true, program),
-        _ => panic!("usage: mqcheck-test [--count] PROGRAM"),
-    };
+fn all() -> Vec<Input> {
     let mut inputs = inputs::toy();
     inputs.extend(inputs::cuts());
     inputs.extend(inputs::counts());
@@ -45,6 +40,17 @@ fn main() {
     inputs.extend(inputs::totals());
     inputs.extend(vectors::all());
     inputs.extend(inputs::random());
+    inputs
+}
+
+fn main() {
+    let words: Vec<String> = std::env::args().skip(1).collect();
+    let (count_only, inputs, program) = match words.as_slice() {
+        [program] => (false, all(), program),
+        [flag, program] if flag == "--count" => (true, all(), program),
+        [flag, program] if flag == "--totals" => (true, inputs::totals(), program),
+        _ => panic!("usage: mqcheck-test [--count|--totals] PROGRAM"),
+    };
 
     let mut other = 0;
     let mut lines = std::collections::BTreeMap::new();

@@ -83,6 +83,14 @@ impl Server {
     }
 }
 
+/// However the test ends, the server ends with it.
+impl Drop for Server {
+    fn drop(&mut self) {
+        let _ = self.child.kill();
+        let _ = self.child.wait();
+    }
+}
+
 /// Whether the server took all of it.
 pub fn send(input: &mut ChildStdin, bytes: &[u8]) -> bool {
     input.write_all(bytes).is_ok()

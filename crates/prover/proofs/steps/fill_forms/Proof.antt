@@ -49,9 +49,9 @@ batch-lanes-requires c κs =
     let within = in-limits (shapeFor (c .before .before .before .before .before .before .before .before .before .before .before .before .before .args .s)) (c .before .before .before .before .before .before .before .before .before .before .before .before .before .pre .key-facts .in-range) in
     let long : length (now (c .row-at .result)) ≡ wOf bits256 (shapeFor (c .before .before .before .before .before .before .before .before .before .before .before .before .before .args .s)) = c .row-at .ensures .1 ∙ c .before .before .before .before .before .leaf-bytes .ensures in
     let a : length (now (c .before .before .section-a .result)) ≡ (shapeFor (c .before .before .before .before .before .before .before .before .before .before .before .before .before .args .s)) .m * (shapeFor (c .before .before .before .before .before .before .before .before .before .before .before .before .before .args .s)) .n * bytesFor ((shapeFor (c .before .before .before .before .before .before .before .before .before .before .before .before .before .args .s)) .n) =
-    c .before .before .section-a .ensures .1 ∙ ap (λ (z : Shape). z .m * z .n * bytesFor (z .n)) (sym (c .before .before .before .before .before .before .before .before .before .before .before .before .before .pre .key-facts .sizes)) in
+    c .before .before .section-a .ensures .1 in
     let b : length (now (c .before .section-b .result)) ≡ (shapeFor (c .before .before .before .before .before .before .before .before .before .before .before .before .before .args .s)) .m * bytesFor ((shapeFor (c .before .before .before .before .before .before .before .before .before .before .before .before .before .args .s)) .n) =
-    c .before .section-b .ensures .1 ∙ ap (λ (z : Shape). z .m * bytesFor (z .n)) (sym (c .before .before .before .before .before .before .before .before .before .before .before .before .before .pre .key-facts .sizes)) in (
+    c .before .section-b .ensures .1 in (
       c .before .before .before .before .before .before .before .before .before .before .before .before .before .pre .qs0-lanes,
       c .before .before .before .before .before .before .before .before .before .before .before .before .before .pre .qs1-lanes,
       within .n-most,
@@ -79,8 +79,8 @@ returns c =
     let shape = (shapeFor (c .before .before .before .before .before .before .before .before .before .before .before .before .before .before .before .before .before .before .args .s)) in
     let within = in-limits (shapeFor (c .before .before .before .before .before .before .before .before .before .before .before .before .before .before .before .before .before .before .args .s)) (c .before .before .before .before .before .before .before .before .before .before .before .before .before .before .before .before .before .before .pre .key-facts .in-range) in
     let done = c .before .before .before .before .batch-lanes in
-    let forms : now (c .before .before .before .before .before .before .before .section-a .result) ≡ sectionA bits256 (shapeFor (c .before .before .before .before .before .before .before .before .before .before .before .before .before .before .before .before .before .before .args .s)) (now (c .before .before .before .before .before .before .before .before .before .before .before .before .before .before .before .before .before .before .args .key)) = c .before .before .before .before .before .before .before .section-a .ensures .0 ∙ ap (λ (z : Shape). sectionA bits256 z (now (c .before .before .before .before .before .before .before .before .before .before .before .before .before .before .before .before .before .before .args .key))) (sym (c .before .before .before .before .before .before .before .before .before .before .before .before .before .before .before .before .before .before .pre .key-facts .sizes)) in
-    let linear : now (c .before .before .before .before .before .before .section-b .result) ≡ sectionB bits256 (shapeFor (c .before .before .before .before .before .before .before .before .before .before .before .before .before .before .before .before .before .before .args .s)) (now (c .before .before .before .before .before .before .before .before .before .before .before .before .before .before .before .before .before .before .args .key)) = c .before .before .before .before .before .before .section-b .ensures .0 ∙ ap (λ (z : Shape). sectionB bits256 z (now (c .before .before .before .before .before .before .before .before .before .before .before .before .before .before .before .before .before .before .args .key))) (sym (c .before .before .before .before .before .before .before .before .before .before .before .before .before .before .before .before .before .before .pre .key-facts .sizes)) in
+    let forms : now (c .before .before .before .before .before .before .before .section-a .result) ≡ sectionA bits256 (shapeFor (c .before .before .before .before .before .before .before .before .before .before .before .before .before .before .before .before .before .before .args .s)) (now (c .before .before .before .before .before .before .before .before .before .before .before .before .before .before .before .before .before .before .args .key)) = c .before .before .before .before .before .before .before .section-a .ensures .0 in
+    let linear : now (c .before .before .before .before .before .before .section-b .result) ≡ sectionB bits256 (shapeFor (c .before .before .before .before .before .before .before .before .before .before .before .before .before .before .before .before .before .before .args .s)) (now (c .before .before .before .before .before .before .before .before .before .before .before .before .before .before .before .before .before .before .args .key)) = c .before .before .before .before .before .before .section-b .ensures .0 in
     let row : now (c .before .before .before .before .before .row-at .result) ≡ blockAt (now (c .before .before .before .before .before .before .before .before .before .before .before .before .before .before .before .before .before .before .args .sums)) (wOf bits256 (shapeFor (c .before .before .before .before .before .before .before .before .before .before .before .before .before .before .before .before .before .before .args .s))) 0 = rw (c .before .before .before .before .before .before .before .before .before .before .leaf-bytes .ensures) at (c .before .before .before .before .before .row-at .ensures .0) in
     let wide : c .before .before .before .before .before .before .before .before .before .before .before .before .before .before .before .before .before .before .args .s .tau ≤ length (c .before .before .before .before .batch-lanes .last .0) = omega (arith, done .kept .0, c .before .before .before .before .before .before .before .before .before .before .before .before .before .before .before .before .before .before .pre .qs0-lanes, within .τ-most) in
     let wide′ : c .before .before .before .before .before .before .before .before .before .before .before .before .before .before .before .before .before .before .args .s .tau ≤ length (c .before .before .before .before .batch-lanes .last .1 .0) = omega (arith, done .kept .1 .0, c .before .before .before .before .before .before .before .before .before .before .before .before .before .before .before .before .before .before .pre .qs1-lanes, within .τ-most) in
