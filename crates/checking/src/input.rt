@@ -1,4 +1,4 @@
-// The check program's input: key, Δ, H′, χ, opened leaves and proof, each after its four-byte count, and nothing after them.
+// The check program's input: key, Δ, H′, χ, opened leaves and proof, each after its four-byte count, and no more.
 ghost use mathlib.Core.Path.{_≡_};
 ghost use mathlib.Core.Bool.{true};
 ghost use Prim.Native.Nat.{_≤_};
@@ -17,8 +17,8 @@ use sections::section_no;
 // The most bytes that are taken, counts included.
 const MOST: usize = 65536;
 
-// Reads as many sections as lengths has room for, one at a time, by the counts that stand there. Are they all whole, and is nothing left over?
-// Then lengths has their lengths.
+// Reads as many sections as lengths has room for, one at a time, by the counts that stand there. Are they all whole,
+// and is nothing left over? Then lengths has their lengths.
 fn read_lengths(s: &[u8], lengths: &mut [usize]) -> bool
     ensures { λ r. ⌜ r ≡ framed (lengthsIn (length (now (lengths .entry))) (now (s .entry))) (now (s .entry)) ⌝ }
     ensures filled { λ r. ⌜ (r ≡ true → now (lengths .exit) ≡ lengthsIn (length (now (lengths .entry))) (now (s .entry))) ⌝ }

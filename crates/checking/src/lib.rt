@@ -19,8 +19,8 @@ pub enum Checked {
     Unread,
 }
 
-// The check program of 01, from its whole input to its whole output: the line stands at the start of out, and the bytes after it are as they were.
-// Answers the line's length.
+// The check program of 01, from its whole input to its whole output: the line stands at the start of out, and the bytes
+// after it are as they were. Answers the line's length.
 pub fn check_line(input: &[u8], out: &mut [u8; LINE]) -> usize
     ensures { λ r. ⌜ (r ≡ length (checkLine bits256 (now (input .entry)))) × (r ≤ length (now (out .exit))) ⌝ }
     ensures line { λ r. ⌜ now (out .exit) ≡ checkLine bits256 (now (input .entry)) ++ drop r (now (out .entry)) ⌝ }

@@ -1,4 +1,4 @@
-// The check program's line: verdict, number and place, a space between. Each part is written after what stands there already.
+// The check program's line: verdict, number and place, a space between. Each part is written after what stands there.
 ghost use mathlib.Core.Path.{_≡_};
 ghost use mathlib.Core.List.{_∷_, _++_};
 ghost use Prim.Native.Nat.{_+_, _<_, _≤_};
@@ -9,8 +9,8 @@ ghost use Rattle.checking.specs.Checked.{checkedOf, lineText};
 use super::Checked;
 use format::Verdict;
 
-// Room for a line. A bound is 21 (a word of 8, two numbers of 16 bits, each after a space, and the line feed); the longest that is printed,
-// `refused 14 47` and its line feed, has 14.
+// Room for a line. A bound is 21 (a word of 8, two numbers of 16 bits, each after a space, and the line feed); the
+// longest that is printed, `refused 14 47` and its line feed, has 14.
 pub const LINE: usize = 32;
 
 // One byte more.

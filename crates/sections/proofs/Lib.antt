@@ -4,3 +4,4 @@ pub mod ReadingLaws
 pub mod SpareLaws
 pub mod Writes
 pub mod ReaderLaws
+pub mod Made

@@ -59,7 +59,7 @@ pub fn section<'a>(s: &'a [u8], start: usize, end: usize) -> &'a [u8]
     &s[start..end]
 }
 
-// Questions 3 and 12, as 01's reader goes: one section at a time, from index at on. Are they of exactly these lengths, and is the last at the end of s?
+// Question 3: one section at a time, from index at on. Are they of exactly these lengths, and does s end with the last?
 // Where one is not there whole, or is of another length, it leaves with the refusal and reads no further.
 pub fn sections_form(s: &[u8], at: usize, lengths: &[usize], reason: Reason) -> Verdict
     requires { ⌜ at ≤ length (now s) ⌝ }

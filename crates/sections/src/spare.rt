@@ -8,7 +8,8 @@ ghost use Rattle.protocol.specs.Binary.{bits256};
 ghost use Rattle.protocol.specs.Key.{rowsSpare};
 use format::sizes::bytes_for;
 
-// The spare bits of all rows together, none of them looked at alone: rows may be secret, so every turn does the same and nothing leaves early.
+// The spare bits of all rows together, none of them looked at alone: rows may be secret, so every turn does the same
+// and nothing leaves early.
 fn spare_bits(s: &[u8], bits: usize, rows: usize) -> u8
     requires { ⌜ (length (now s) ≡ rows * bytesFor bits) × (1 ≤ bits % 8) × (bits + 7 < 2 ^ 64) ⌝ }
     ensures { λ r. ⌜ eqb r 0 ≡ rowsSpare bits256 bits rows (now (s .entry)) ⌝ }

@@ -146,7 +146,8 @@ fn load_challenge(out: &mut [u8], delta: &[u8])
     }
 }
 
-// Question 15: the first repetition whose product differs, or their number where none does. W_e becomes K_e in the table.
+// Question 15: the first repetition whose product differs, or their number where none does. In the table W_e becomes
+// K_e.
 pub fn check_product(
     table: &mut [u8],
     key: &[u8],
