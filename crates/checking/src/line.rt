@@ -78,7 +78,7 @@ pub fn write_line(outcome: Checked, out: &mut [u8; LINE]) -> usize
         Checked::Answered(verdict) => match verdict {
             Verdict::Accepted => put_line(out, b"accepted", 0, 0),
             Verdict::Refused(refusal) => {
-                let reason = refusal.reason;
+                let reason = refusal.number;
                 let number = format::number(reason) as usize;
                 let place = refusal.place as usize;
                 put_line(out, b"refused", number, place)

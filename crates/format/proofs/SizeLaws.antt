@@ -13,19 +13,19 @@ use Rattle.protocol.specs.Binary.{bits256}
 use Rattle.protocol.specs.Frames.{framedLength}
 use Rattle.protocol.specs.Key.{keyLengths}
 use Rattle.protocol.specs.Sections.{lengths, commitLengths, hashLengths, batchLengths}
-use Rattle.protocol.specs.Shape.{Shape, within, limits, kOf, lOf, wOf}
+use Rattle.protocol.specs.Shape.{Shape, within, mostVariables, mostEquations, mostRepetitions, mostHashRows, limits, kOf, lOf, wOf}
 use Rattle.protocol.proofs.TestLaws.{leb-le, all-true}
 use Rattle.protocol.proofs.LimitLaws.{within-le}
 
 pub record InLimits (s : Shape) : Type 0 where
   pub n-least : 1 ≤ s .n
-  pub n-most : s .n ≤ 160
+  pub n-most : s .n ≤ mostVariables
   pub m-least : 1 ≤ s .m
-  pub m-most : s .m ≤ 160
+  pub m-most : s .m ≤ mostEquations
   pub τ-least : 1 ≤ s .τ
-  pub τ-most : s .τ ≤ 48
+  pub τ-most : s .τ ≤ mostRepetitions
   pub t-least : 1 ≤ s .t
-  pub t-most : s .t ≤ 160
+  pub t-most : s .t ≤ mostHashRows
 
 least : (most x : ℕ) → within most x ≡ true → 1 ≤ x
 unfolding within
@@ -34,16 +34,16 @@ least most x h = leb-le 1 x (and-left (leb 1 x) (leb x most) h)
 pub in-limits : (s : Shape) → limits s ≡ true → InLimits s
 unfolding limits
 in-limits s h =
-    let a = all-true (within 160 (s .n) ∷ within 160 (s .m) ∷ within 48 (s .τ) ∷ within 160 (s .t) ∷ []) h in
+    let a = all-true (within mostVariables (s .n) ∷ within mostEquations (s .m) ∷ within mostRepetitions (s .τ) ∷ within mostHashRows (s .t) ∷ []) h in
     record {
-      n-least = least 160 (s .n) (a .0);
-      n-most = within-le 160 (s .n) (a .0);
-      m-least = least 160 (s .m) (a .1 .0);
-      m-most = within-le 160 (s .m) (a .1 .0);
-      τ-least = least 48 (s .τ) (a .1 .1 .0);
-      τ-most = within-le 48 (s .τ) (a .1 .1 .0);
-      t-least = least 160 (s .t) (a .1 .1 .1 .0);
-      t-most = within-le 160 (s .t) (a .1 .1 .1 .0);
+      n-least = least mostVariables (s .n) (a .0);
+      n-most = within-le mostVariables (s .n) (a .0);
+      m-least = least mostEquations (s .m) (a .1 .0);
+      m-most = within-le mostEquations (s .m) (a .1 .0);
+      τ-least = least mostRepetitions (s .τ) (a .1 .1 .0);
+      τ-most = within-le mostRepetitions (s .τ) (a .1 .1 .0);
+      t-least = least mostHashRows (s .t) (a .1 .1 .1 .0);
+      t-most = within-le mostHashRows (s .t) (a .1 .1 .1 .0);
     }
 
 pub bytes-most : (bits : ℕ) → bits ≤ 168 → bytesFor bits ≤ 21
@@ -67,31 +67,31 @@ module _ (s : Shape) (h : limits s ≡ true) where
   pub corrections-most : (s .τ - 1) * wOf bits256 s ≤ 47 * 41
   corrections-most = let b = in-limits s h in let e : s .τ - 1 ≤ 47 = omega arith in mul-le-mul e w-most
 
-  pub hash-matrix-most : s .t * bytesFor (kOf bits256 s) ≤ 160 * 21
+  pub hash-matrix-most : s .t * bytesFor (kOf bits256 s) ≤ mostHashRows * 21
   hash-matrix-most = mul-le-mul (in-limits s h .t-most) (bytes-most (kOf bits256 s) k-most)
 
-  pub batching-most : s .τ * s .m ≤ 48 * 160
+  pub batching-most : s .τ * s .m ≤ mostRepetitions * mostEquations
   batching-most = mul-le-mul (in-limits s h .τ-most) (in-limits s h .m-most)
 
-  pub hashed-most : s .τ * s .t ≤ 48 * 160
+  pub hashed-most : s .τ * s .t ≤ mostRepetitions * mostHashRows
   hashed-most = mul-le-mul (in-limits s h .τ-most) (in-limits s h .t-most)
 
   pub row-most : bytesFor (s .n) ≤ 21
   row-most = let b = in-limits s h in bytes-most (s .n) (omega arith)
 
-  pub matrix-rows-most : s .m * s .n ≤ 160 * 160
+  pub matrix-rows-most : s .m * s .n ≤ mostEquations * mostVariables
   matrix-rows-most = mul-le-mul (in-limits s h .m-most) (in-limits s h .n-most)
 
-  pub matrices-most : s .m * s .n * bytesFor (s .n) ≤ 160 * 160 * 21
+  pub matrices-most : s .m * s .n * bytesFor (s .n) ≤ mostEquations * mostVariables * 21
   matrices-most = mul-le-mul matrix-rows-most row-most
 
-  pub linear-most : s .m * bytesFor (s .n) ≤ 160 * 21
+  pub linear-most : s .m * bytesFor (s .n) ≤ mostEquations * 21
   linear-most = mul-le-mul (in-limits s h .m-most) row-most
 
-  pub trees-most : (per : ℕ) → per ≤ 256 → s .τ * per ≤ 48 * 256
+  pub trees-most : (per : ℕ) → per ≤ 256 → s .τ * per ≤ mostRepetitions * 256
   trees-most per l = mul-le-mul (in-limits s h .τ-most) l
 
-  pub leaves-most : (per : ℕ) → per ≤ 256 → s .τ * per * wOf bits256 s ≤ 48 * 256 * 41
+  pub leaves-most : (per : ℕ) → per ≤ 256 → s .τ * per * wOf bits256 s ≤ mostRepetitions * 256 * 41
   leaves-most per l = mul-le-mul (trees-most per l) w-most
 
   -- strings of sections

@@ -29,7 +29,7 @@ numberFor ProductDiffers = 15
 
 abbrev pub answerOf : Verdict → Answer
 answerOf Accepted = accepted
-answerOf (Refused r) = refused (numberFor (r .reason)) (r .place)
+answerOf (Refused r) = refused (numberFor (r .number)) (r .place)
 
 unfoldable pub andThen : Answer → Answer → Answer
 andThen accepted b = b

@@ -32,7 +32,7 @@ pub enum Reason {
 
 // A number and a place held together.
 pub struct Refusal {
-    pub reason: Reason,
+    pub number: Reason,
     pub place: u16,
 }
 
@@ -69,7 +69,10 @@ pub fn number(reason: Reason) -> u32
 pub fn refuse(reason: Reason, place: u16) -> Verdict
     ensures { λ r. ⌜ answerOf r ≡ refused (numberFor reason) place ⌝ }
 {
-    Verdict::Refused(Refusal { reason, place })
+    Verdict::Refused(Refusal {
+        number: reason,
+        place,
+    })
 }
 
 // One question more, after the answer so far: where that is accepted, and this gets a no, the refusal.

@@ -12,7 +12,7 @@ pub fn word_of(verdict: Verdict) -> u32
     match verdict {
         Verdict::Accepted => 0,
         Verdict::Refused(refusal) => {
-            let reason = refusal.reason;
+            let reason = refusal.number;
             number(reason) * 65536 + refusal.place as u32
         }
     }

@@ -1,6 +1,6 @@
 -- The sizes: what a key's header says, the limits, and what is derived from them.
 --   n variables, m equations, τ repetitions, t hash rows;  shapeOf key == the sizes in the header of a key
---   limits s == they are in range
+--   mostVariables, mostEquations, mostRepetitions, mostHashRows == the largest n, m, τ, t;  limits s == the sizes are in range
 --   within most x == 1 ≤ x ≤ most;  maskAt A s e == the first mask coordinate of repetition e
 --   kOf == 01's k = n + 8, the coordinates that H′ covers;  lOf == L = k + t, all coordinates
 --   wOf == w = ⌈L/8⌉, the bytes of a leaf
@@ -28,8 +28,20 @@ shapeOf key = record { n = num2 key 0; m = num2 key 2; τ = num2 key 4; t = num2
 unfoldable pub within : ℕ → ℕ → Bool
 within most x = leb 1 x && leb x most
 
+abbrev pub mostVariables : ℕ
+mostVariables = 160
+
+abbrev pub mostEquations : ℕ
+mostEquations = 160
+
+abbrev pub mostRepetitions : ℕ
+mostRepetitions = 48
+
+abbrev pub mostHashRows : ℕ
+mostHashRows = 160
+
 unfoldable pub limits : Shape → Bool
-limits s = allTrue (within 160 (s .n) ∷ within 160 (s .m) ∷ within 48 (s .τ) ∷ within 160 (s .t) ∷ [])
+limits s = allTrue (within mostVariables (s .n) ∷ within mostEquations (s .m) ∷ within mostRepetitions (s .τ) ∷ within mostHashRows (s .t) ∷ [])
 
 module _ (A : Alphabet) where
   unfoldable pub perTree : ℕ

@@ -9,9 +9,7 @@ ghost use Rattle.questions.specs.Solved.{ErrorsAs, SolvedAs};
 use equations::Found;
 use format::Reason;
 use format::Verdict;
-
-// Room for the largest key.
-const MOST_EQUATIONS: usize = 160;
+use format::sizes::MOST_EQUATIONS;
 
 // The answer that the errors of the equations give: accepted, or refused 11 with the first that fails.
 fn answer(errors: &[u8]) -> Verdict

@@ -6,7 +6,7 @@ ghost use Prim.Native.Nat.{ℕ, _*_, _≤_};
 ghost use lib.Dec.{eqb};
 ghost use lib.ListN.{length};
 ghost use Rattle.protocol.specs.Binary.{bits256};
-ghost use Rattle.protocol.specs.Shape.{limits, wOf};
+ghost use Rattle.protocol.specs.Shape.{limits, wOf, mostHashRows};
 ghost use Rattle.lanes.specs.Lanes.{lanes};
 ghost use Rattle.format.specs.Sizes.{shapeFor};
 ghost use Rattle.questions.specs.Facts.{HashForm, PlacesOf};
@@ -87,7 +87,7 @@ fn first_masked(
 
 // The first repetition that is not consistent, or their number where all are.
 fn first_inconsistent(hashed: &[u8], v: &[u8], u: &[u8], delta: &[u8], t: usize) -> usize
-    requires { ⌜ RowsOf (now delta) t (now hashed) (now v) × (t ≤ 160) × (t ≤ length (now u) * 8) ⌝ }
+    requires { ⌜ RowsOf (now delta) t (now hashed) (now v) × (t ≤ mostHashRows) × (t ≤ length (now u) * 8) ⌝ }
     ensures { λ r. ⌜ r ≡ firstInconsistent (now (hashed .entry)) (now (v .entry)) (now (u .entry)) (now (delta .entry)) t ⌝ }
 {
     let mut masks = [0u8; MOST_HASH_ROWS];
