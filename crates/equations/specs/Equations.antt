@@ -12,12 +12,12 @@ use lib.Bits.{bitXor}
 use Rattle.protocol.specs.Lists.{blockAt}
 use Rattle.protocol.specs.Strings.{bytesFor, bit}
 use Rattle.strings.specs.Sums.{byteAt, xorSum}
-use Rattle.strings.specs.Products.{product}
+use Rattle.strings.specs.Products.{bitProduct}
 use Rattle.equations.specs.declared.Found.{Found}
 use Rattle.equations.specs.declared.Found.the-variants.{At, Nothing}
 
 abbrev pub rowProduct : List ℕ → List ℕ → ℕ
-rowProduct row x = product (length row * 8) row x
+rowProduct row x = bitProduct (length row * 8) row x
 
 abbrev pub rowOf : ℕ → List ℕ → ℕ → List ℕ
 rowOf n A ρ = blockAt A (bytesFor n) ρ

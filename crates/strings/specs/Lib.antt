@@ -1,4 +1,6 @@
+pub mod Limits
 pub mod Sums
+pub mod Rows
 pub mod Products
 pub mod Words
 pub mod Shared

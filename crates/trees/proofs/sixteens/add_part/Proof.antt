@@ -1,4 +1,4 @@
--- `trees::chunks::add_part` meets its contract. Bytes of leaf j are added, or 0 where leaf j is left out.
+-- `trees::sixteens::add_part` meets its contract. Bytes of leaf j are added, or 0 where leaf j is left out.
 -- Assumes nothing.
 use borrow.Author.Needs.{needs}
 use Prim.Native.Nat.{ℕ, _+_}
@@ -11,8 +11,8 @@ use lib.Bits.{bitXor, xor-zero-r}
 use Rattle.protocol.specs.Leaves.{openedLeaf}
 use Rattle.protocol.proofs.TestLaws.{eqb-same, eqb-other}
 use Rattle.strings.specs.Sums.{byteAt}
-use Rattle.trees.proofs.chunks.add_part.Statement.{statement}
-use Rattle.trees.proofs.chunks.add_part.Tie as tie
+use Rattle.trees.proofs.sixteens.add_part.Statement.{statement}
+use Rattle.trees.proofs.sixteens.add_part.Tie as tie
 
 opened-leaf-requires : tie.Need-opened-leaf-requires
 opened-leaf-requires c κs =
@@ -20,16 +20,16 @@ opened-leaf-requires c κs =
     let other : start .args .j ≡ start .args .delta → ⊥ = λ e. omega arith in
     (other, start .pre .0 other)
 
-add-chunk-requires : tie.Need-add-chunk-requires
-add-chunk-requires c κs = search needs
+add-sixteen-requires : tie.Need-add-sixteen-requires
+add-sixteen-requires c κs = search needs
 
 returns : tie.Need-returns
 returns c =
     let a = c .before .before .before .before .before .args in
     let leaf = openedLeaf (a .w) (a .delta) (now (a .tree)) (a .j) in (
-      c .add-chunk .ensures .0,
+      c .add-sixteen .ensures .0,
       λ b h.
-          c .add-chunk .ensures .1 b h
+          c .add-sixteen .ensures .1 b h
           ∙ ap (λ (s : List ℕ). bitXor (byteAt (now (a .sum)) b) (byteAt s (a .at + b))) (c .before .opened-leaf .ensures .0)
           ∙ sym (ap (λ q. bitXor (byteAt (now (a .sum)) b) (cond q 0 (byteAt leaf (a .at + b)))) (eqb-other (a .j) (a .delta) (λ e. omega arith))),
     )
@@ -45,4 +45,4 @@ returns-2 c =
     )
 
 pub add-part-spec : {M : Type 1} → statement M
-add-part-spec = tie.close (tie.spec opened-leaf-requires add-chunk-requires returns returns-2)
+add-part-spec = tie.close (tie.spec opened-leaf-requires add-sixteen-requires returns returns-2)

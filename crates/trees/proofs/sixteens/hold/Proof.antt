@@ -1,4 +1,4 @@
--- `trees::chunks::hold` meets its contract: `Running` holds of no leaf, and then of those below each cut, up to all.
+-- `trees::sixteens::hold` meets its contract: `Running` holds of no leaf, and then of those below each cut, up to all.
 -- Assumes nothing.
 use Prim.Native.Nat.{ℕ, _+_, _*_, _-_, _/_}
 use mathlib.Core.Path.{refl, _∙_}
@@ -12,8 +12,8 @@ use Rattle.trees.proofs.PartialLaws.{running-none, running-all}
 use Rattle.strings.proofs.LeastLaws.{under-least}
 use Rattle.trees.proofs.FourLaws.{below-leaf, above-leaf, before-fits, after-fits, cut-out}
 use borrow.Author.Needs.{needs}
-use Rattle.trees.proofs.chunks.hold.Statement.{statement}
-use Rattle.trees.proofs.chunks.hold.Tie as tie
+use Rattle.trees.proofs.sixteens.hold.Statement.{statement}
+use Rattle.trees.proofs.sixteens.hold.Tie as tie
 
 least-requires : tie.Need-least-requires
 least-requires c κs = search needs

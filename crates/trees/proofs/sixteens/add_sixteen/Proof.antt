@@ -1,4 +1,4 @@
--- `trees::chunks::add_chunk` meets its contract. Each element is changed once (`Elementwise`).
+-- `trees::sixteens::add_sixteen` meets its contract. Each element is changed once (`Elementwise`).
 -- Assumes nothing.
 use borrow.Author.Needs.{needs}
 use Prim.Native.Nat.{ℕ, _+_, _-_, _≤_}
@@ -10,8 +10,8 @@ use lib.Bits.{bitXor}
 use lib.ListN.{length, length-set}
 use Rattle.strings.specs.Sums.{byteAt}
 use Rattle.strings.proofs.Elementwise.{changed, changed-more, changed-all}
-use Rattle.trees.proofs.chunks.add_chunk.Statement.{statement}
-use Rattle.trees.proofs.chunks.add_chunk.Tie as tie
+use Rattle.trees.proofs.sixteens.add_sixteen.Statement.{statement}
+use Rattle.trees.proofs.sixteens.add_sixteen.Tie as tie
 
 abbrev change : List ℕ → ℕ → ℕ → ℕ → ℕ
 change s from k x = bitXor x (byteAt s (from + k))
@@ -59,8 +59,8 @@ returns c =
     let l = c .before .loop in
     (l .inv .2, λ i h. changed-all (change (now (a .s)) (a .from)) (now (a .sum)) (l .sum) (l .i) (l .inv .1) (omega arith) (omega arith) i (omega arith))
 
-pub add-chunk-spec : {M : Type 1} → statement M
-add-chunk-spec =
+pub add-sixteen-spec : {M : Type 1} → statement M
+add-sixteen-spec =
     tie.close
     (tie.spec
     Inv-loop

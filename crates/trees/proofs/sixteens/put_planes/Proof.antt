@@ -1,4 +1,4 @@
--- `trees::chunks::put_planes` meets its contract. The invariant: sum is that of the rows 0, .., k, and the planes from r - k on are done.
+-- `trees::sixteens::put_planes` meets its contract. The invariant: sum is that of the rows 0, .., k, and the planes from r - k on are done.
 -- Assumes nothing.
 use borrow.Author.Needs.{needs}
 use Prim.Native.Nat.{ℕ, _+_, _*_, _-_, _≤_, _<_}
@@ -10,9 +10,9 @@ use lib.ListN.{length, getD-replicate}
 use Rattle.strings.specs.Sums.{byteAt, xorSum}
 use Rattle.strings.proofs.Rows.{row-end}
 use Rattle.strings.proofs.SumLaws.{sum-more}
-use Rattle.trees.proofs.ChunkLaws.{row-apart, PlanesFrom, planes-more}
-use Rattle.trees.proofs.chunks.put_planes.Statement.{statement}
-use Rattle.trees.proofs.chunks.put_planes.Tie as tie
+use Rattle.trees.proofs.SixteenLaws.{row-apart, PlanesFrom, planes-more}
+use Rattle.trees.proofs.sixteens.put_planes.Statement.{statement}
+use Rattle.trees.proofs.sixteens.put_planes.Tie as tie
 
 abbrev Inv-loop : tie.InvT-loop
 Inv-loop planes₀ held r w at sum₀ k₀ planes sum k = (k ≤ r) × (length planes ≡ r * w) × (length sum ≡ 16) × ((b : ℕ) → b < 16 → byteAt sum b ≡ xorSum (k + 1) (λ i. byteAt held (i * 16 + b))) × PlanesFrom (λ p b. xorSum (r + 1 - p) (λ i. byteAt held (i * 16 + b))) planes r w at k × ((p b : ℕ) → p < r → b < at → byteAt planes (p * w + b) ≡ byteAt planes₀ (p * w + b))
@@ -20,8 +20,8 @@ Inv-loop planes₀ held r w at sum₀ k₀ planes sum k = (k ≤ r) × (length p
 abbrev μ-loop : tie.MeasureT-loop
 μ-loop planes₀ held r w at sum₀ k₀ planes sum k = r - k
 
-add-chunk-requires : tie.Need-add-chunk-requires Inv-loop μ-loop
-add-chunk-requires c κs = (omega arith, refl)
+add-sixteen-requires : tie.Need-add-sixteen-requires Inv-loop μ-loop
+add-sixteen-requires c κs = (omega arith, refl)
 
 loop-holds : tie.Need-loop-holds Inv-loop μ-loop
 unfolding xorSum
@@ -30,9 +30,9 @@ loop-holds c =
     let a = start .args in (
       search needs,
       start .pre .0,
-      c .add-chunk .ensures .0,
+      c .add-sixteen .ensures .0,
       (λ b h.
-          c .add-chunk .ensures .1 b h
+          c .add-sixteen .ensures .1 b h
           ∙ ap (λ x. bitXor x (byteAt (now (a .held)) (0 + b))) (getD-replicate 16 b 0 0 h)
           ∙ sym (sum-more 0 (λ i. byteAt (now (a .held)) (i * 16 + b)))),
       (λ p b hp le. absurd (omega arith)),
@@ -42,26 +42,26 @@ loop-holds c =
 add-k : tie.Need-add-k Inv-loop μ-loop
 add-k c = search needs
 
-mul-add-chunk : tie.Need-mul-add-chunk Inv-loop μ-loop
-mul-add-chunk c = search needs
+mul-add-sixteen : tie.Need-mul-add-sixteen Inv-loop μ-loop
+mul-add-sixteen c = search needs
 
-add-chunk-requires-2 : tie.Need-add-chunk-requires-2 Inv-loop μ-loop
-add-chunk-requires-2 c κs = (omega arith, c .before .before .before .loop .inv .2)
+add-sixteen-requires-2 : tie.Need-add-sixteen-requires-2 Inv-loop μ-loop
+add-sixteen-requires-2 c κs = (omega arith, c .before .before .before .loop .inv .2)
 
-sub-put-chunk : tie.Need-sub-put-chunk Inv-loop μ-loop
-sub-put-chunk c = search needs
+sub-put-sixteen : tie.Need-sub-put-sixteen Inv-loop μ-loop
+sub-put-sixteen c = search needs
 
-mul-put-chunk : tie.Need-mul-put-chunk Inv-loop μ-loop
-mul-put-chunk c = let a = c .before .before .before .before .before .before .before .before .before .before .args in let l = c .before .before .before .before .before .loop in omega (arith, row-end (a .r - (l .k + 1)) (a .r) (a .w) (omega arith), l .inv .1)
+mul-put-sixteen : tie.Need-mul-put-sixteen Inv-loop μ-loop
+mul-put-sixteen c = let a = c .before .before .before .before .before .before .before .before .before .before .args in let l = c .before .before .before .before .before .loop in omega (arith, row-end (a .r - (l .k + 1)) (a .r) (a .w) (omega arith), l .inv .1)
 
-add-put-chunk : tie.Need-add-put-chunk Inv-loop μ-loop
-add-put-chunk c = let a = c .before .before .before .before .before .before .before .before .before .before .args in let l = c .before .before .before .before .before .loop in omega (arith, row-end (a .r - (l .k + 1)) (a .r) (a .w) (omega arith), l .inv .1)
+add-put-sixteen : tie.Need-add-put-sixteen Inv-loop μ-loop
+add-put-sixteen c = let a = c .before .before .before .before .before .before .before .before .before .before .args in let l = c .before .before .before .before .before .loop in omega (arith, row-end (a .r - (l .k + 1)) (a .r) (a .w) (omega arith), l .inv .1)
 
-put-chunk-requires : tie.Need-put-chunk-requires Inv-loop μ-loop
-put-chunk-requires c κs =
+put-sixteen-requires : tie.Need-put-sixteen-requires Inv-loop μ-loop
+put-sixteen-requires c κs =
     let a = c .before .before .before .before .before .before .before .before .before .before .before .args in
     let l = c .before .before .before .before .before .before .loop in
-    (omega (arith, row-end (a .r - (l .k + 1)) (a .r) (a .w) (omega arith), l .inv .1), c .before .before .add-chunk2 .ensures .0)
+    (omega (arith, row-end (a .r - (l .k + 1)) (a .r) (a .w) (omega arith), l .inv .1), c .before .before .add-sixteen2 .ensures .0)
 
 loop-less : tie.Need-loop-less Inv-loop μ-loop
 loop-less c = search needs
@@ -70,8 +70,8 @@ loop-again : tie.Need-loop-again Inv-loop μ-loop
 loop-again c =
     let a = c .before .before .before .before .before .before .before .before .before .before .before .before .before .before .args in
     let l = c .before .before .before .before .before .before .before .before .before .loop in
-    let add = c .before .before .before .before .before .add-chunk2 in
-    let store = c .before .before .put-chunk in
+    let add = c .before .before .before .before .before .add-sixteen2 in
+    let store = c .before .before .put-sixteen in
     let q = a .r - (l .k + 1) in
     let rows : ℕ → ℕ → ℕ = λ b i. byteAt (now (a .held)) (i * 16 + b) in
     let sum : (b : ℕ) → b < 16 → byteAt (add .last .0) b ≡ xorSum (l .k + 1 + 1) (rows b) =
@@ -98,15 +98,15 @@ put-planes-spec =
     (tie.spec
     Inv-loop
     μ-loop
-    add-chunk-requires
+    add-sixteen-requires
     loop-holds
     add-k
-    mul-add-chunk
-    add-chunk-requires-2
-    sub-put-chunk
-    mul-put-chunk
-    add-put-chunk
-    put-chunk-requires
+    mul-add-sixteen
+    add-sixteen-requires-2
+    sub-put-sixteen
+    mul-put-sixteen
+    add-put-sixteen
+    put-sixteen-requires
     loop-less
     loop-again
     same-length

@@ -1,4 +1,4 @@
--- `trees::chunks::sum_chunk` meets its contract. What is held for plane p adds up to it.
+-- `trees::sixteens::sum_sixteen` meets its contract. What is held for plane p adds up to it.
 -- Assumes nothing.
 use borrow.Author.Needs.{needs}
 use mathlib.Core.Path.{refl, _∙_}
@@ -6,17 +6,17 @@ use native.Mathlib.Omega.{arith}
 use denote.Ref.{now}
 use lib.ListN.{getD-replicate}
 use Rattle.trees.specs.Trees.{leafByte}
-use Rattle.trees.proofs.ChunkLaws.{summed-more}
-use Rattle.trees.proofs.chunks.sum_chunk.Statement.{statement}
-use Rattle.trees.proofs.chunks.sum_chunk.Tie as tie
+use Rattle.trees.proofs.SixteenLaws.{summed-more}
+use Rattle.trees.proofs.sixteens.sum_sixteen.Statement.{statement}
+use Rattle.trees.proofs.sixteens.sum_sixteen.Tie as tie
 
 hold-requires : tie.Need-hold-requires
 hold-requires c κs =
     let start = c .before .before .before .before .before in
     ((refl, refl, omega arith, omega arith, omega arith, start .pre .0 .5), (λ i h. getD-replicate 16 i 0 0 h, λ i h. getD-replicate 144 i 0 0 h, start .pre .1))
 
-put-chunk-requires : tie.Need-put-chunk-requires
-put-chunk-requires c κs = search needs
+put-sixteen-requires : tie.Need-put-sixteen-requires
+put-sixteen-requires c κs = search needs
 
 put-planes-requires : tie.Need-put-planes-requires
 put-planes-requires c κs = search needs
@@ -31,7 +31,7 @@ returns : tie.Need-returns
 returns c =
     let a = c .before .before .before .before .before .before .before .before .before .before .before .before .before .before .before .before .args in
     let sums = c .before .before .before .before .before .before .before .before .before .before .hold in
-    let row = c .before .before .before .before .before .before .before .put-chunk in
+    let row = c .before .before .before .before .before .before .before .put-sixteen in
     let rows = c .before .before .put-planes in
     λ n le done.
     summed-more (leafByte (now (a .tree)) (a .w) (a .delta)) (a .count) (a .r) (a .w) (now (a .u)) (row .last .0) (now (a .planes)) (rows .last .0) (a .at) n le done
@@ -40,12 +40,12 @@ returns c =
     (λ p b hp h. rows .ensures .0 p b hp h ∙ sums .ensures .1 .1 p b hp h)
     (rows .ensures .1)
 
-pub sum-chunk-spec : {M : Type 1} → statement M
-sum-chunk-spec =
+pub sum-sixteen-spec : {M : Type 1} → statement M
+sum-sixteen-spec =
     tie.close
     (tie.spec
     hold-requires
-    put-chunk-requires
+    put-sixteen-requires
     put-planes-requires
     same-length
     same-length-2

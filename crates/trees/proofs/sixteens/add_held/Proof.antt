@@ -1,4 +1,4 @@
--- `trees::chunks::add_held` meets its contract. The invariant: i bytes of the row are changed, and the others are as they were.
+-- `trees::sixteens::add_held` meets its contract. The invariant: i bytes of the row are changed, and the others are as they were.
 -- Assumes nothing.
 use borrow.Author.Needs.{needs}
 use Prim.Native.Nat.{_+_, _*_, _-_, _≤_}
@@ -8,9 +8,9 @@ use denote.Ref.{now}
 use lib.Bits.{bitXor}
 use lib.ListN.{length, length-set}
 use Rattle.strings.specs.Sums.{byteAt}
-use Rattle.trees.proofs.ChunkLaws.{Changed, changed-none, changed-next}
-use Rattle.trees.proofs.chunks.add_held.Statement.{statement}
-use Rattle.trees.proofs.chunks.add_held.Tie as tie
+use Rattle.trees.proofs.SixteenLaws.{Changed, changed-none, changed-next}
+use Rattle.trees.proofs.sixteens.add_held.Statement.{statement}
+use Rattle.trees.proofs.sixteens.add_held.Tie as tie
 
 abbrev Inv-loop : tie.InvT-loop
 Inv-loop held₀ row sum at i₀ held i = (i ≤ 16) × (length held ≡ 144) × Changed (λ k x. bitXor x (byteAt sum k)) held₀ held (row * 16) i

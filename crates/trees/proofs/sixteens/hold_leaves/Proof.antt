@@ -1,4 +1,4 @@
--- `trees::chunks::hold_leaves` meets its contract. The invariant: where `Running` held of the leaves below `from`, it holds of those below j.
+-- `trees::sixteens::hold_leaves` meets its contract. The invariant: where `Running` held of the leaves below `from`, it holds of those below j.
 -- Assumes nothing.
 use borrow.Author.Needs.{needs}
 use Prim.Native.Nat.{_+_, _-_, _≤_}
@@ -10,9 +10,9 @@ use Rattle.strings.specs.Sums.{byteAt}
 use Rattle.trees.specs.Trees.{leafByte}
 use Rattle.trees.specs.Partial.{Running, heldPlane}
 use Rattle.trees.proofs.PartialLaws.{running-more}
-use Rattle.trees.proofs.ChunkLaws.{held-put}
-use Rattle.trees.proofs.chunks.hold_leaves.Statement.{statement}
-use Rattle.trees.proofs.chunks.hold_leaves.Tie as tie
+use Rattle.trees.proofs.SixteenLaws.{held-put}
+use Rattle.trees.proofs.sixteens.hold_leaves.Statement.{statement}
+use Rattle.trees.proofs.sixteens.hold_leaves.Tie as tie
 
 abbrev Inv-loop : tie.InvT-loop
 Inv-loop sum₀ held₀ r tree delta w at from to j₀ sum held j =

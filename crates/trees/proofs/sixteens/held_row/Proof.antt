@@ -1,4 +1,4 @@
--- `trees::chunks::held_row` meets its contract. Which bits change is said by the zeros at the end of j + 1 (`ChunkLaws`).
+-- `trees::sixteens::held_row` meets its contract. Which bits change is said by the zeros at the end of j + 1 (`SixteenLaws`).
 -- Assumes nothing.
 use borrow.Author.Needs.{needs}
 use Prim.Native.Nat.{_+_, _-_}
@@ -7,9 +7,9 @@ use mathlib.Core.Bool.{cond}
 use native.Mathlib.Omega.{arith}
 use lib.Count.{trailingZeros, trailing-le}
 use lib.Dec.{ltb}
-use Rattle.trees.proofs.ChunkLaws.{row-takes}
-use Rattle.trees.proofs.chunks.held_row.Statement.{statement}
-use Rattle.trees.proofs.chunks.held_row.Tie as tie
+use Rattle.trees.proofs.SixteenLaws.{row-takes}
+use Rattle.trees.proofs.sixteens.held_row.Statement.{statement}
+use Rattle.trees.proofs.sixteens.held_row.Tie as tie
 
 add-zeros : tie.Need-add-zeros
 add-zeros c = search needs

@@ -1,4 +1,4 @@
--- `trees::chunks::put_chunk` meets its contract. The invariant: i bytes are put, and the others are as they were.
+-- `trees::sixteens::put_sixteen` meets its contract. The invariant: i bytes are put, and the others are as they were.
 -- Assumes nothing.
 use borrow.Author.Needs.{needs}
 use Prim.Native.Nat.{_-_, _≤_}
@@ -7,9 +7,9 @@ use native.Mathlib.Omega.{arith}
 use denote.Ref.{now}
 use lib.ListN.{length, length-set}
 use Rattle.strings.specs.Sums.{byteAt}
-use Rattle.trees.proofs.ChunkLaws.{Changed, changed-none, changed-next}
-use Rattle.trees.proofs.chunks.put_chunk.Statement.{statement}
-use Rattle.trees.proofs.chunks.put_chunk.Tie as tie
+use Rattle.trees.proofs.SixteenLaws.{Changed, changed-none, changed-next}
+use Rattle.trees.proofs.sixteens.put_sixteen.Statement.{statement}
+use Rattle.trees.proofs.sixteens.put_sixteen.Tie as tie
 
 abbrev Inv-loop : tie.InvT-loop
 Inv-loop out₀ from sum i₀ out i = (i ≤ 16) × (length out ≡ length out₀) × Changed (λ k x. byteAt sum k) out₀ out from i
@@ -53,8 +53,8 @@ returns c =
     let end : l .i ≡ 16 = omega arith in
     rw end at (l .inv .2)
 
-pub put-chunk-spec : {M : Type 1} → statement M
-put-chunk-spec =
+pub put-sixteen-spec : {M : Type 1} → statement M
+put-sixteen-spec =
     tie.close
     (tie.spec
     Inv-loop
