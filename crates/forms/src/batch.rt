@@ -15,7 +15,6 @@ ghost use Rattle.forms.specs.Forms.{formByte, middleByte};
 ghost use Rattle.forms.specs.Batch.{batchByte, qs0Byte, qs1Byte};
 use super::EQUATIONS;
 use chunks::CHUNK;
-use equations::VARIABLES;
 use forms_choices::fives::ROW_WORDS;
 use lanes::LANES;
 
@@ -120,7 +119,7 @@ pub fn batch_lanes(
     ensures { λ _. ⌜ ((e : ℕ) → e < tau → byteAt (now (qs0 .exit)) e ≡ qs0Byte n m (now (a .entry)) (now (chi .entry)) (now (table .entry)) e) ⌝ }
     ensures { λ _. ⌜ ((e : ℕ) → e < tau → byteAt (now (qs1 .exit)) e ≡ qs1Byte n m (now (a .entry)) (now (b .entry)) (now (x .entry)) (now (chi .entry)) (now (u .entry)) (now (table .entry)) e) ⌝ }
 {
-    let mut xs = [0u8; VARIABLES];
+    let mut xs = [0u8; MOST_VARIABLES];
     let front = &table[..n * LANES];
     equations::unpack(&mut xs, x, n);
     strings::clear(qs0);

@@ -4,7 +4,7 @@
 --   choice χ p g == the number that bit p of each of the bytes χ(5·g), .., χ(5·g + 4) writes, the first lowest
 --   inRows R i == byte i of two sixteens of fives, which R holds in eight rows each: row z has byte z of each five
 --   five w j == five j of the word w: the number that its bits 5·j, .., 5·j + 4 write
---   wordOf P at == the word of the ten fives that P has from at on
+--   fivesWord P at == the word of the ten fives that P has from at on
 --   rowFive W r g == five g of row r of W: a row is four words, of ten fives each, and has 32: the last eight of the fourth word are not its own
 --   Chosen χ m W r == five g of row r of W, g < 32, is the number of the entry, among the 32 of the rows 5·g, .., 5·g + 4, which bit r mod 8 of the m bytes χ
 --     of repetition ⌊r/8⌋ chooses
@@ -37,8 +37,8 @@ inRows R i = byteAt R (i / 80 * 128 + (i % 5 * 16 + i / 5 % 16))
 unfoldable pub five : ℕ → ℕ → ℕ
 five w j = w / 2 ^ (5 * j) % 32
 
-abbrev pub wordOf : List ℕ → ℕ → ℕ
-wordOf P at =
+abbrev pub fivesWord : List ℕ → ℕ → ℕ
+fivesWord P at =
     byteAt P at + byteAt P (at + 1) * 32 + byteAt P (at + 2) * 1024 + byteAt P (at + 3) * 32768 + (byteAt P (at + 4) + byteAt P (at + 5) * 32 + byteAt P (at + 6) * 1024 + byteAt P (at + 7) * 32768) * 1048576
     + (byteAt P (at + 8) + byteAt P (at + 9) * 32) * 1099511627776
 

@@ -7,8 +7,8 @@ ghost use Rattle.protocol.specs.Strings.{bytesFor, bit};
 ghost use Rattle.strings.specs.Sums.{byteAt, xorSum};
 ghost use Rattle.lanes.specs.Lanes.{lanes};
 ghost use Rattle.verifier.specs.Product.{valueByte, productByte};
-use equations::VARIABLES;
 use lanes::LANES;
+use strings::limits::MOST_VARIABLES;
 
 // Σ_i row_i·y_i, the y_i being bits.
 fn weigh(row: &[u8], y: &[u8]) -> u8
@@ -55,7 +55,7 @@ pub fn product_lanes(
     let mut linear = [0u8; LANES];
     let mut values = [0u8; LANES];
     let mut square = [0u8; LANES];
-    let zeros = [0u8; VARIABLES];
+    let zeros = [0u8; MOST_VARIABLES];
     let front = &table[..n * LANES];
     strings::clear(left);
     forms::batch::batch_forms(
