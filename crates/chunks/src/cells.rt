@@ -30,8 +30,9 @@ pub fn copy_part(dst: &mut [u8], g: usize, w: usize, src: &[u8], from: usize)
     copy_front(&mut dst[at..at + w], src, from, w);
 }
 
-// The first parts of dst, of w bytes, become those that stand `width` bytes apart in src, the first at `from`. The last
-// of these must end before src does. Callers give count and w as constants, so that what they copy to stays in registers.
+// The first parts of dst, of w bytes, become those that stand `width` bytes apart in src, the first at `from`. The
+// last of these must end before src does. Callers give count and w as constants, so that what they copy to stays in
+// registers.
 pub fn copy_apart(dst: &mut [u8], count: usize, w: usize, src: &[u8], from: usize, width: usize)
     requires { ⌜ (count * w ≤ length (now dst)) × (from + count * width + w ≤ length (now src) + width) ⌝ }
     ensures { λ _. ⌜ ((z f : ℕ) → z < count → f < w → byteAt (now (dst .exit)) (z * w + f) ≡ byteAt (now (src .entry)) (from + z * width + f)) ⌝ }

@@ -1,5 +1,5 @@
-// Whether a witness solves the equations of a key: arithmetic over GF(2), each product of a row with x taken as 01 has it
-// (`parity`). The witness is secret, so no branch goes by it before every equation is looked at.
+// Whether a witness solves the equations of a key: arithmetic over GF(2), each product of a row with x taken as 01 has
+// it (`parity`). The witness is secret, so no branch goes by it before every equation is looked at.
 ghost use mathlib.Core.Path.{_≡_};
 ghost use Prim.Native.Nat.{ℕ, _*_, _<_, _≤_};
 ghost use lib.ListN.{length};
@@ -60,7 +60,8 @@ pub fn equation_errors(errors: &mut [u8], a: &[u8], b: &[u8], y: &[u8], x: &[u8]
     }
 }
 
-// The first equation whose error is not 0. This is the answer to question 11, which the caller is told, so it may branch.
+// The first equation whose error is not 0. This is the answer to question 11, which the caller is told, so it may
+// branch.
 pub fn first_failing(errors: &[u8]) -> Found
     ensures { λ r. ⌜ FirstIn (now (errors .entry)) r ⌝ }
 {

@@ -1,5 +1,5 @@
-// QS0 and QS1 of all repetitions at once (01, prover's rules). The key and the batching bytes are public; the table, the witness and the
-// string u are secret.
+// QS0 and QS1 of all repetitions at once (01, prover's rules). The key and the batching bytes are public; the table,
+// the witness and the string u are secret.
 ghost use mathlib.Core.Path.{_≡_};
 ghost use mathlib.Core.Bool.{false};
 ghost use Prim.Native.Nat.{ℕ, _+_, _*_, _<_, _≤_};
@@ -46,9 +46,9 @@ fn put_lines(lines: &mut [u8], b: &[u8], width: usize, m: usize)
     }
 }
 
-// The batched forms of a key, added to what stands there: fᵀ·A·f to quad, and xᵀ·A·f + (A·x)ᵀ·f + b·f to lin, where f is the vector of
-// repetition e, which the table holds. The bits of x are lent one to a byte, 0 from n on. Where `polar` is
-// not asked for they are all 0, and lin gets b·f.
+// The batched forms of a key, added to what stands there: fᵀ·A·f to quad, and xᵀ·A·f + (A·x)ᵀ·f + b·f to lin, where f
+// is the vector of repetition e, which the table holds. The bits of x are lent one to a byte, 0 from n on. Where
+// `polar` is not asked for they are all 0, and lin gets b·f.
 pub fn batch_forms(
     quad: &mut [u8],
     lin: &mut [u8],
@@ -100,8 +100,8 @@ fn add_masks(qs0: &mut [u8], qs1: &mut [u8], table: &[u8], u: &[u8], n: usize)
     strings::xor_into(qs1, &mask);
 }
 
-// QS0 and QS1 of the tau repetitions: the batched coefficients of the sections a and b of a key, with the masks. The table holds the
-// vectors, with their mask coordinates, and the string u the bits of the mask of QS1.
+// QS0 and QS1 of the tau repetitions: the batched coefficients of the sections a and b of a key, with the masks. The
+// table holds the vectors, with their mask coordinates, and the string u the bits of the mask of QS1.
 pub fn batch_lanes(
     qs0: &mut [u8],
     qs1: &mut [u8],

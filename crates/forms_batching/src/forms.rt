@@ -22,7 +22,8 @@ use lanes::LANES;
 // The chunks of a set of panels: of 26 times sixteen rows, one for each equation.
 const CELLS: usize = 26 * 160 * CHUNK;
 
-// The table of sums of as many equations: 32 entries for each five. Before it is filled, space for a chunk of each line.
+// The table of sums of as many equations: 32 entries for each five. Before it is filled, space for a chunk of each
+// line.
 const SUMS: usize = 32 * 32 * CHUNK;
 
 // The bits of a witness, each as a mask.
@@ -48,8 +49,8 @@ fn load(cells: &mut [u8], a: &[u8], n: usize, width: usize, m: usize, panel: usi
     }
 }
 
-// Adds what a panel gives to the form of the vectors; and to mid the bits xs times its columns, which is half of their polar form. `cells` holds
-// the panel; `stacks` and `sums` are space.
+// Adds what a panel gives to the form of the vectors; and to mid the bits xs times its columns, which is half of their
+// polar form. `cells` holds the panel; `stacks` and `sums` are space.
 fn add_panel(
     quad: &mut [u8],
     mid: &mut [u8],
@@ -77,9 +78,10 @@ fn add_panel(
     forms_columns::finish(quad, mid, stacks, panel, tau, n, table, xs, polar);
 }
 
-// Adds to quad the form of the batched matrix at the vectors of the table; and to mid its polar form at them and the bits xs, and the batched lines at
-// the vectors. Half of the polar form, that which has the vectors on the right, is a linear form of each equation, and is added to its line. Where
-// `polar` is not asked for the bits are 0, and so is the polar form.
+// Adds to quad the form of the batched matrix at the vectors of the table; and to mid its polar form at them and the
+// bits xs, and the batched lines at the vectors. Half of the polar form, that which has the vectors on the right, is a
+// linear form of each equation, and is added to its line. Where `polar` is not asked for the bits are 0, and so is the
+// polar form.
 pub fn add_forms(
     quad: &mut [u8],
     mid: &mut [u8],

@@ -1,6 +1,7 @@
-// The lines of the equations, in which the prover's bits are added from the left, and their batch times the vectors of the repetitions. A line is a chunk
-// of bits, one for each coordinate: the coefficients of a linear form. The cells, and the words of what the batching bytes choose, are public; lines,
-// bits, vectors, and the sums of any of them are secret: no branch and no index goes by them.
+// The lines of the equations, in which the prover's bits are added from the left, and their batch times the vectors of
+// the repetitions. A line is a chunk of bits, one for each coordinate: the coefficients of a linear form. The cells,
+// and the words of what the batching bytes choose, are public; lines, bits, vectors, and the sums of any of them are
+// secret: no branch and no index goes by them.
 ghost use mathlib.Core.Path.{_≡_};
 ghost use mathlib.Core.Bool.{true, false};
 ghost use mathlib.Core.List.{List};
@@ -68,8 +69,8 @@ fn sum_each(sums: &mut [u8], cells: &[u8], m: usize, panel: usize, bits: &[u8])
     }
 }
 
-// Adds to each line its two sums of sixteen bytes, at the panel's columns. They are taken from memory: of a chunk in registers the compiler would make a
-// chain of bytes.
+// Adds to each line its two sums of sixteen bytes, at the panel's columns. They are taken from memory: of a chunk in
+// registers the compiler would make a chain of bytes.
 fn add_each(lines: &mut [u8], sums: &[u8], m: usize, panel: usize)
     requires { ⌜ (m * chunk ≤ length (now lines)) × (m * chunk ≤ length (now sums)) × (panel < 10) × (m ≤ 160) ⌝ }
     ensures { λ _. ⌜ ((i h : ℕ) → i < m → h < 2 → cellAt (now (lines .exit)) i (panel * 2 + h) ≡ bitXor (cellAt (now (lines .entry)) i (panel * 2 + h)) (xorSum 16 (λ f. cellAt (now (sums .entry)) i (h * 16 + f)))) ⌝ }
@@ -84,8 +85,8 @@ fn add_each(lines: &mut [u8], sums: &[u8], m: usize, panel: usize)
     }
 }
 
-// Adds to each line a panel of its folded matrix, times the bits from the left, where the polar form is asked for. The bits are lent as masks. `sums` is
-// space.
+// Adds to each line a panel of its folded matrix, times the bits from the left, where the polar form is asked for. The
+// bits are lent as masks. `sums` is space.
 pub fn add_left(
     lines: &mut [u8],
     sums: &mut [u8],
@@ -185,7 +186,8 @@ fn add_products(
     }
 }
 
-// Adds to each place of mid the batched line of its repetition times its vector. `sums` is space for the tables of sums of the lines.
+// Adds to each place of mid the batched line of its repetition times its vector. `sums` is space for the tables of
+// sums of the lines.
 pub fn add_lines(
     mid: &mut [u8],
     sums: &mut [u8],

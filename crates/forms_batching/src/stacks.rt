@@ -1,5 +1,5 @@
-// The batched matrix times the vectors of the repetitions. The words of what the batching bytes choose are public; the vectors and the stacks are
-// secret: no branch and no index goes by them.
+// The batched matrix times the vectors of the repetitions. The words of what the batching bytes choose are public; the
+// vectors and the stacks are secret: no branch and no index goes by them.
 ghost use mathlib.Core.Path.{_≡_};
 ghost use mathlib.Core.List.{List};
 ghost use Prim.Native.Nat.{ℕ, _+_, _*_, _<_, _≤_};
@@ -75,7 +75,8 @@ fn spread(v: &mut [u8], src: &[u8], from: usize)
     copy_part(v, 1, ROWS, src, from);
 }
 
-// Adds a chunk of the batched matrix to a stack, times v: it is the sum of the rows S, each times its byte χ, whose bits the words hold.
+// Adds a chunk of the batched matrix to a stack, times v: it is the sum of the rows S, each times its byte χ, whose
+// bits the words hold.
 fn absorb(t: &mut [u8], words: &[u64], base: usize, groups: usize, sums: &[u8], masks: &[u8])
     requires { ⌜ (length (now t) ≡ planes * chunk) × ((base + 8) * 4 ≤ length (now words)) × InWords groups × (32768 ≤ length (now sums)) × (length (now masks) ≡ 8 * chunk) ⌝ }
     ensures { λ _. ⌜ ((S v : List ℕ) (χ : ℕ → ℕ) (m f z : ℕ) → Weighed S χ m (now (sums .entry)) (now (words .entry)) groups base → Masks v (now (masks .entry)) → byteAt v f < 256 → f < chunk → stackAt (now (t .exit)) f z ≡ bitXor (stackAt (now (t .entry)) f z) (product (byteAt v f) (xorSum m (λ i. bitOf (cellAt S i f) z * χ i)))) ⌝ }
@@ -138,8 +139,8 @@ fn absorb_lanes(
     }
 }
 
-// Adds the cells of a panel of the batched matrix, each row times its coordinate of the vectors. The batching bytes are public, and so are the
-// tables that they index; `sums` is space for these.
+// Adds the cells of a panel of the batched matrix, each row times its coordinate of the vectors. The batching bytes
+// are public, and so are the tables that they index; `sums` is space for these.
 pub fn collect(
     stacks: &mut [u8],
     sums: &mut [u8],

@@ -1,6 +1,6 @@
-// Which entries of the tables of sums the batching bytes choose, which are public: row 8·e + p is for bit p of the bytes
-// of repetition e, a number below 32 for each five equations. A word holds ten of them, so that one load serves ten
-// look-ups; the last two of 32 begin a fourth word, whose other fives are not looked up.
+// Which entries of the tables of sums the batching bytes choose, which are public: row 8·e + p is for bit p of the
+// bytes of repetition e, a number below 32 for each five equations. A word holds ten of them, so that one load serves
+// ten look-ups; the last two of 32 begin a fourth word, whose other fives are not looked up.
 ghost use mathlib.Core.Path.{_≡_};
 ghost use Prim.Native.Nat.{ℕ, _+_, _*_, _<_, _≤_};
 ghost use lib.ListN.{length};

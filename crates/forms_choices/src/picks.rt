@@ -1,6 +1,6 @@
-// The number that bit p of each of five bytes writes, for each bit and each five: sixteen fives to a register. Bytes five
-// apart are costly to gather, so eight are taken where each five begins, and merged into rows: row z has byte z of each
-// of sixteen fives.
+// The number that bit p of each of five bytes writes, for each bit and each five: sixteen fives to a register. Bytes
+// five apart are costly to gather, so eight are taken where each five begins, and merged into rows: row z has byte z
+// of each of sixteen fives.
 ghost use mathlib.Core.Path.{_≡_};
 ghost use Prim.Native.Nat.{ℕ, _+_, _*_, _/_, _%_, _<_, _≤_};
 ghost use lib.ListN.{length};

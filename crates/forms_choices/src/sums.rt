@@ -1,5 +1,5 @@
-// Sums of the rows that public bits select. Five rows at a time, the 32 sums of them are in a table, so that one addition
-// serves five rows.
+// Sums of the rows that public bits select. Five rows at a time, the 32 sums of them are in a table, so that one
+// addition serves five rows.
 ghost use mathlib.Core.Path.{_≡_};
 ghost use Prim.Native.Nat.{ℕ, _+_, _*_, _-_, _<_, _≤_};
 ghost use lib.ListN.{length};
@@ -91,7 +91,8 @@ fn fill_group(sums: &mut [u8], g: usize, n: usize, table: &[u8])
     }
 }
 
-// The table of sums of the n rows, 32 entries for each five of them. Made once, it serves every plane of every repetition.
+// The table of sums of the n rows, 32 entries for each five of them. Made once, it serves every plane of every
+// repetition.
 pub fn fill_sums(sums: &mut [u8], groups: usize, n: usize, table: &[u8])
     requires { ⌜ (groups * 32 * chunk ≤ length (now sums)) × (length (now table) ≡ n * chunk) ⌝ }
     ensures { λ _. ⌜ Tabled (now (table .entry)) (now (sums .exit)) (groups * 32) ⌝ }

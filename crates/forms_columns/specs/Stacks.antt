@@ -3,6 +3,7 @@
 --   planes == 2·8 - 1, the planes of a stack: as many coefficients as a product of two polynomials of eight has
 --   stackAt t f z == the value of a stack at bit z of byte f;  stackOf T e f z == that of stack e of a table of them
 --   foldOf T e h z == the sum of the values of stack e at bit z of the sixteen bytes of half h
+--   columnOf T e s == the same for column s of sixteen
 --   sixteenOf T e at == the sum of the sixteen bytes from `at` on of stack e
 --   valueOf rows z e == the value at bit z of the planes of repetition e, where row s has byte e of plane s for every repetition
 --   twoPlanes p x y z v == what bit z of two bytes of planes gives times v, where the weights of the planes are α^p and α^(p+1)
@@ -13,7 +14,7 @@
 -- Assumes nothing.
 use mathlib.Core.Path.{_≡_}
 use mathlib.Core.List.{List}
-use Prim.Native.Nat.{ℕ, _+_, _*_, _<_, _≤_}
+use Prim.Native.Nat.{ℕ, _+_, _*_, _/_, _%_, _<_, _≤_}
 use lib.Bits.{bitXor}
 use lib.ListN.{length}
 use Rattle.algebra.specs.Coded.{mulByte, powByte}
@@ -40,6 +41,9 @@ stackOf T e f z = xorSum planes (λ s. bitOf (byteAt T (e * (planes * chunk) + (
 
 unfoldable pub foldOf : List ℕ → ℕ → ℕ → ℕ → ℕ
 foldOf T e h z = xorSum 16 (λ f. stackOf T e (h * 16 + f) z)
+
+abbrev pub columnOf : List ℕ → ℕ → ℕ → ℕ
+columnOf T e s = foldOf T e (s / 8) (s % 8)
 
 abbrev pub sixteenOf : List ℕ → ℕ → ℕ → ℕ
 sixteenOf T e at = xorSum 16 (λ f. byteAt T (e * (planes * chunk) + (at + f)))

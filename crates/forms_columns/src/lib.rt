@@ -1,14 +1,14 @@
-// The columns of products that stand in stacks, for all repetitions side by side, and their products with vectors. All of
-// it is secret but the places, and whether the polar form is asked for.
+// The columns of products that stand in stacks, for all repetitions side by side, and their products with vectors. All
+// of it is secret but the places, and whether the polar form is asked for.
 ghost use mathlib.Core.Path.{_≡_};
 ghost use mathlib.Core.Bool.{true, false};
-ghost use Prim.Native.Nat.{ℕ, _+_, _*_, _/_, _%_, _<_, _≤_};
+ghost use Prim.Native.Nat.{ℕ, _+_, _*_, _<_, _≤_};
 ghost use lib.ListN.{length};
 ghost use Rattle.strings.specs.Sums.{byteAt, bitOf, xorSum};
 ghost use Rattle.strings.specs.Rows.{RowsKept};
 ghost use Rattle.lanes.specs.Lanes.{lanes, laneAt, LanesAdded};
 ghost use Rattle.chunks.specs.Chunks.{chunk};
-ghost use Rattle.forms_columns.specs.Stacks.{product, planes, foldOf, sixteenOf, valueOf, StacksFit, ColumnFits, ColumnsFit, PanelFits};
+ghost use Rattle.forms_columns.specs.Stacks.{product, planes, columnOf, sixteenOf, valueOf, StacksFit, ColumnFits, ColumnsFit, PanelFits};
 use chunks::CHUNK;
 use field::Gf256;
 use lanes::LANES;
@@ -117,8 +117,8 @@ fn add_polar(mid: &mut [u8], u: &[u8], c: usize, xs: &[u8], polar: bool)
     }
 }
 
-// Column c is bit z of the planes. Adds it, times coordinate c of the vectors, to quad; and, where the polar form is asked
-// for, times bit c of xs, to mid.
+// Column c is bit z of the planes. Adds it, times coordinate c of the vectors, to quad; and, where the polar form is
+// asked for, times bit c of xs, to mid.
 fn add_column(
     quad: &mut [u8],
     mid: &mut [u8],
@@ -164,8 +164,8 @@ fn add_columns(
     }
 }
 
-// The sixteen columns of a panel of the stacks: times the vectors of the n coordinates of the table to quad; and times the
-// bits xs to mid, where the polar form is asked for.
+// The sixteen columns of a panel of the stacks: times the vectors of the n coordinates of the table to quad; and times
+// the bits xs to mid, where the polar form is asked for.
 pub fn finish(
     quad: &mut [u8],
     mid: &mut [u8],
@@ -178,8 +178,8 @@ pub fn finish(
     polar: bool,
 )
     requires { ⌜ PanelFits (now quad) (now mid) (now stacks) panel tau n (now table) (now xs) ⌝ }
-    ensures { λ _. ⌜ LanesAdded tau (λ e. xorSum 16 (λ s. product (laneAt (now (table .entry)) (panel * 16 + s) e) (foldOf (now (stacks .entry)) e (s / 8) (s % 8)))) (now (quad .entry)) (now (quad .exit)) ⌝ }
-    ensures { λ _. ⌜ (polar ≡ true → LanesAdded tau (λ e. xorSum 16 (λ s. byteAt (now (xs .entry)) (panel * 16 + s) * foldOf (now (stacks .entry)) e (s / 8) (s % 8))) (now (mid .entry)) (now (mid .exit))) ⌝ }
+    ensures { λ _. ⌜ LanesAdded tau (λ e. xorSum 16 (λ s. product (laneAt (now (table .entry)) (panel * 16 + s) e) (columnOf (now (stacks .entry)) e s))) (now (quad .entry)) (now (quad .exit)) ⌝ }
+    ensures { λ _. ⌜ (polar ≡ true → LanesAdded tau (λ e. xorSum 16 (λ s. byteAt (now (xs .entry)) (panel * 16 + s) * columnOf (now (stacks .entry)) e s)) (now (mid .entry)) (now (mid .exit))) ⌝ }
     ensures { λ _. ⌜ (polar ≡ false → now (mid .exit) ≡ now (mid .entry)) ⌝ }
 {
     let mut h = 0;

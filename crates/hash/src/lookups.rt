@@ -1,6 +1,6 @@
-// The sums of each four coordinates of the vectors of all repetitions, in a table, and the product of a row of bits with
-// those vectors by looking them up. The table, and what is computed from it, is secret: no branch and no index goes by
-// it. Rows of bits that are looked up are public.
+// The sums of each four coordinates of the vectors of all repetitions, in a table, and the product of a row of bits
+// with those vectors by looking them up. The table, and what is computed from it, is secret: no branch and no index
+// goes by it. Rows of bits that are looked up are public.
 ghost use mathlib.Core.Path.{_≡_};
 ghost use Prim.Native.Nat.{ℕ, _+_, _*_, _/_, _%_, _<_, _≤_};
 ghost use lib.ListN.{length};
@@ -97,8 +97,8 @@ fn fill_group(sums: &mut [u8], g: usize, n: usize, table: &[u8])
     }
 }
 
-// The first entries of the table of sums: sixteen for each four of the n coordinates. Made once, they serve every row of
-// every matrix.
+// The first entries of the table of sums: sixteen for each four of the n coordinates. Made once, they serve every row
+// of every matrix.
 pub fn fill_sums(sums: &mut [u8], count: usize, n: usize, table: &[u8])
     requires { ⌜ (count * lanes ≤ length (now sums)) × (length (now table) ≡ n * lanes) × (count % 16 ≡ 0) ⌝ }
     ensures { λ _. ⌜ LanesTabled (now (table .entry)) (now (sums .exit)) count ⌝ }

@@ -82,8 +82,8 @@ fn fill_entries(entries: &mut [u8], table: &[u8], s: Sizes)
     super::lookups::fill_sums(entries, width * PER_BYTE, rows, &table[..rows * LANES]);
 }
 
-// Byte e·t + ρ is row ρ of H·v_e, for the vectors v_e of the table (the verifier's are W_e). The table of sums is needed
-// here only, and so is off the stack when the batch step, the deepest, begins.
+// Byte e·t + ρ is row ρ of H·v_e, for the vectors v_e of the table (the verifier's are W_e). The table of sums is
+// needed here only, and so is off the stack when the batch step, the deepest, begins.
 pub fn hash_all(out: &mut [u8], matrix: &[u8], table: &[u8], s: Sizes)
     requires { ⌜ (limits (shapeFor s) ≡ true) × HashForm (shapeFor s) (now matrix) × (length (now table) ≡ 8 * wOf bits256 (shapeFor s) * lanes) × (length (now out) ≡ s .tau * s .t) ⌝ }
     ensures { λ _. ⌜ Hashed (now (matrix .entry)) (bytesFor (kOf bits256 (shapeFor s))) (kOf bits256 (shapeFor s)) (s .t) (s .tau) (now (table .entry)) (now (out .exit)) ⌝ }

@@ -19,8 +19,8 @@ use strings::SIXTEEN;
 // The widest leaf that is served, in bytes: it bounds the planes, which stand on the stack.
 pub const MOST_WIDTH: usize = 128;
 
-// 01's u_e and v_e of one tree: u is the sum of its leaves, and plane p has the bits p of v, the sum of the leaves j with
-// bit p of j set. It needs a count whose low r bits are 0.
+// 01's u_e and v_e of one tree: u is the sum of its leaves, and plane p has the bits p of v, the sum of the leaves j
+// with bit p of j set. It needs a count whose low r bits are 0.
 pub fn leaf_sums(u: &mut [u8], planes: &mut [u8], r: usize, leaves: &[u8], count: usize, w: usize)
     requires { ⌜ (length (now leaves) ≡ count * w) × (length (now u) ≡ w) × (length (now planes) ≡ r * w) × (r ≤ 8) ⌝ }
     requires { ⌜ ((p : ℕ) → p < r → bitOf count p ≡ 0) × (count < 65536) ⌝ }

@@ -1,5 +1,5 @@
-// Leaves by four, where none is left out: of these, two leaves go to plane 0 alone and one to the planes 0 and 1, so that
-// their sums stay in registers, and one in four is added to what is held in memory.
+// Leaves by four, where none is left out: of these, two leaves go to plane 0 alone and one to the planes 0 and 1, so
+// that their sums stay in registers, and one in four is added to what is held in memory.
 ghost use mathlib.Core.Path.{_≡_};
 ghost use Prim.Native.Nat.{ℕ, _+_, _*_, _-_, _%_, _<_, _≤_};
 ghost use lib.ListN.{length};
@@ -32,9 +32,11 @@ fn add_three(
     third: &[u8],
     at: usize,
 )
-    requires { ⌜ (length (now sum) ≡ 16) × (length (now first) ≡ 16) × (length (now second) ≡ 16) × (at + 16 ≤ length (now leaf)) × (at + 16 ≤ length (now next)) × (at + 16 ≤ length (now third)) ⌝ }
+    requires { ⌜ (length (now sum) ≡ 16) × (length (now first) ≡ 16) × (length (now second) ≡ 16)
+        × (at + 16 ≤ length (now leaf)) × (at + 16 ≤ length (now next)) × (at + 16 ≤ length (now third)) ⌝ }
     ensures { λ _. ⌜ (length (now (sum .exit)) ≡ 16) × (length (now (first .exit)) ≡ 16) × (length (now (second .exit)) ≡ 16) ⌝ }
-    ensures { λ _. ⌜ ThreeAdded at (now (leaf .entry)) (now (next .entry)) (now (third .entry)) (now (sum .entry)) (now (first .entry)) (now (second .entry)) (now (sum .exit)) (now (first .exit)) (now (second .exit)) ⌝ }
+    ensures { λ _. ⌜ ThreeAdded at (now (leaf .entry)) (now (next .entry)) (now (third .entry))
+        (now (sum .entry)) (now (first .entry)) (now (second .entry)) (now (sum .exit)) (now (first .exit)) (now (second .exit)) ⌝ }
 {
     add_sixteen(sum, leaf, at);
     add_sixteen(first, sum, 0);
@@ -83,7 +85,8 @@ fn add_fours(
     }
 }
 
-// The same from what is held alone, and back: the sums that are kept apart begin at 0, and are added to their rows at the end.
+// The same from what is held alone, and back: the sums that are kept apart begin at 0, and are added to their rows at
+// the end.
 pub fn hold_fours(
     sum: &mut [u8; SIXTEEN],
     held: &mut [u8; HELD],
@@ -98,7 +101,8 @@ pub fn hold_fours(
     requires { ⌜ (length (now sum) ≡ 16) × (length (now held) ≡ 144) ⌝ }
     requires { ⌜ FoursFit r w at skip from to (now tree) ⌝ }
     ensures { λ _. ⌜ (length (now (sum .exit)) ≡ 16) × (length (now (held .exit)) ≡ 144) ⌝ }
-    ensures { λ _. ⌜ ((f : ℕ → ℕ → ℕ) → Placed f from to skip (now (tree .entry)) w at → RunningHeld f r (now (sum .entry)) (now (held .entry)) from → RunningHeld f r (now (sum .exit)) (now (held .exit)) to) ⌝ }
+    ensures { λ _. ⌜ ((f : ℕ → ℕ → ℕ) → Placed f from to skip (now (tree .entry)) w at
+        → RunningHeld f r (now (sum .entry)) (now (held .entry)) from → RunningHeld f r (now (sum .exit)) (now (held .exit)) to) ⌝ }
 {
     let mut s = [0u8; SIXTEEN];
     let mut first = [0u8; SIXTEEN];

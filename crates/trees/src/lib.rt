@@ -1,5 +1,5 @@
-// The sums u and v of one tree of leaves, full or opened. Leaf delta is left out, and counts as 0; a full tree has delta
-// at its count.
+// The sums u and v of one tree of leaves, full or opened. Leaf delta is left out, and counts as 0; a full tree has
+// delta at its count.
 mod fours;
 mod sixteens;
 

@@ -16,7 +16,7 @@ ghost use Rattle.protocol.specs.Leaves.{place};
 ghost use Rattle.strings.specs.Sums.{byteAt, bitOf, xorSum};
 ghost use Rattle.strings.specs.Rows.{RowAdded, RowsKept};
 ghost use Rattle.trees.specs.Trees.{leafByte, TreeFits, TreeSummed};
-ghost use Rattle.trees.specs.Partial.{RunningLeaves};
+ghost use Rattle.trees.specs.Partial.{heldPlane, RunningLeaves};
 use super::fours::hold_fours;
 use super::opened_leaf;
 use field::Gf256;
@@ -90,7 +90,8 @@ fn add_part(sum: &mut [u8; SIXTEEN], tree: &[u8], w: usize, delta: usize, j: usi
     }
 }
 
-// The running sum of the leaves from `from` on and below `to`, and what is held for the planes, one leaf after the other.
+// The running sum of the leaves from `from` on and below `to`, and what is held for the planes, one leaf after the
+// other.
 fn hold_leaves(
     sum: &mut [u8; SIXTEEN],
     held: &mut [u8; HELD],
@@ -104,7 +105,8 @@ fn hold_leaves(
 )
     requires { ⌜ (length (now sum) ≡ 16) × (length (now held) ≡ 144) × (r ≤ 8) × (from ≤ to) × (to < 65536) × (at + 16 ≤ w) × TreeFits (now tree) w delta to ⌝ }
     ensures { λ _. ⌜ (length (now (sum .exit)) ≡ 16) × (length (now (held .exit)) ≡ 144) ⌝ }
-    ensures { λ _. ⌜ (RunningLeaves (now (tree .entry)) w delta at r (now (sum .entry)) (now (held .entry)) from → RunningLeaves (now (tree .entry)) w delta at r (now (sum .exit)) (now (held .exit)) to) ⌝ }
+    ensures { λ _. ⌜ (RunningLeaves (now (tree .entry)) w delta at r (now (sum .entry)) (now (held .entry)) from
+        → RunningLeaves (now (tree .entry)) w delta at r (now (sum .exit)) (now (held .exit)) to) ⌝ }
 {
     let mut j = from;
     while j < to {
@@ -130,7 +132,7 @@ fn hold(
     requires { ⌜ ((i : ℕ) → i < 16 → byteAt (now sum) i ≡ 0) × ((i : ℕ) → i < 144 → byteAt (now held) i ≡ 0) × ((p : ℕ) → p < r → bitOf count p ≡ 0) ⌝ }
     ensures { λ _. ⌜ (length (now (sum .exit)) ≡ 16) × (length (now (held .exit)) ≡ 144) ⌝ }
     ensures { λ _. ⌜ ((b : ℕ) → b < 16 → byteAt (now (sum .exit)) b ≡ xorSum count (λ j. leafByte (now (tree .entry)) w delta j (at + b))) ⌝ }
-    ensures { λ _. ⌜ ((p b : ℕ) → p < r → b < 16 → xorSum (r + 1 - p) (λ k. byteAt (now (held .exit)) (k * 16 + b)) ≡ xorSum count (λ j. bitOf j p * leafByte (now (tree .entry)) w delta j (at + b))) ⌝ }
+    ensures { λ _. ⌜ ((p b : ℕ) → p < r → b < 16 → heldPlane (now (held .exit)) r p b ≡ xorSum count (λ j. bitOf j p * leafByte (now (tree .entry)) w delta j (at + b))) ⌝ }
 {
     let cut = least(delta, count) / 4 * 4;
     let next = least(cut + 4, count);
@@ -144,7 +146,7 @@ fn hold(
 // Sixteen bytes of each plane, from `at` on: the sums of the first rows of what is held.
 fn put_planes(planes: &mut [u8], held: &[u8; HELD], r: usize, w: usize, at: usize)
     requires { ⌜ (length (now planes) ≡ r * w) × (length (now held) ≡ 144) × (r ≤ 8) × (at + 16 ≤ w) ⌝ }
-    ensures { λ _. ⌜ ((p b : ℕ) → p < r → b < 16 → byteAt (now (planes .exit)) (p * w + (at + b)) ≡ xorSum (r + 1 - p) (λ k. byteAt (now (held .entry)) (k * 16 + b))) ⌝ }
+    ensures { λ _. ⌜ ((p b : ℕ) → p < r → b < 16 → byteAt (now (planes .exit)) (p * w + (at + b)) ≡ heldPlane (now (held .entry)) r p b) ⌝ }
     ensures { λ _. ⌜ ((p b : ℕ) → p < r → b < at → byteAt (now (planes .exit)) (p * w + b) ≡ byteAt (now (planes .entry)) (p * w + b)) ⌝ }
 {
     let mut sum = [0u8; SIXTEEN];
@@ -170,7 +172,8 @@ fn sum_sixteen(
 )
     requires { ⌜ (length (now u) ≡ w) × (length (now planes) ≡ r * w) × (r ≤ 8) × (count < 65536) × (at + 16 ≤ w) × TreeFits (now tree) w delta count ⌝ }
     requires { ⌜ ((p : ℕ) → p < r → bitOf count p ≡ 0) ⌝ }
-    ensures { λ _. ⌜ ((n : ℕ) → at ≤ n → TreeSummed (now (tree .entry)) w delta count r (now (u .entry)) (now (planes .entry)) n → TreeSummed (now (tree .entry)) w delta count r (now (u .exit)) (now (planes .exit)) (at + 16)) ⌝ }
+    ensures { λ _. ⌜ ((n : ℕ) → at ≤ n → TreeSummed (now (tree .entry)) w delta count r (now (u .entry)) (now (planes .entry)) n
+        → TreeSummed (now (tree .entry)) w delta count r (now (u .exit)) (now (planes .exit)) (at + 16)) ⌝ }
 {
     let mut sum = [0u8; SIXTEEN];
     let mut held = [0u8; HELD];
