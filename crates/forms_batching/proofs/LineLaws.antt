@@ -25,7 +25,7 @@ use Rattle.forms_choices.specs.Entries.{Tabled, choice, Chosen, lookedUp, Weigh
 use Rattle.forms_choices.proofs.ChoiceLaws.{chosen-sum}
 use Rattle.forms_columns.specs.Stacks.{alpha, product}
 use Rattle.forms_columns.proofs.ProductLaws.{product-comm, byte-bits}
-use Rattle.forms_batching.specs.Batched.{most}
+use Rattle.strings.specs.Limits.{mostVariables}
 use Rattle.forms_batching.specs.Lines.{lineBit, leftByte, leftBit, lineSum}
 use Rattle.forms_batching.proofs.FormLaws.{product-one}
 use Rattle.forms_batching.proofs.StackLaws.{scaled-lt, planes-added}
@@ -33,7 +33,7 @@ use Rattle.forms_batching.proofs.StackLaws.{scaled-lt, planes-added}
 -- ---- a chunk, added under masks
 
 -- what a half of a chunk of sums comes to
-pub half-left-bit : (cells bits : List ℕ) (s x : ℕ → ℕ) (m i J h z : ℕ) → ((k : ℕ) → byteAt cells k < 256) → ((c : ℕ) → x c < 2) → ((c : ℕ) → c < most → byteAt bits c ≡ x c * 255) → J < 10 → h < 2
+pub half-left-bit : (cells bits : List ℕ) (s x : ℕ → ℕ) (m i J h z : ℕ) → ((k : ℕ) → byteAt cells k < 256) → ((c : ℕ) → x c < 2) → ((c : ℕ) → c < mostVariables → byteAt bits c ≡ x c * 255) → J < 10 → h < 2
     → ((k : ℕ) → k < chunk → s k ≡ leftByte cells m bits i J k) → bitOf (xorSum 16 (λ f. s (h * 16 + f))) z ≡ leftBit cells m x i J h z
 unfolding leftBit
 half-left-bit cells bits s x m i J h z small bit masks hJ hh are =

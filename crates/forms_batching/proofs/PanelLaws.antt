@@ -1,19 +1,25 @@
 -- What the stacks of a panel come to: the sums over the rows of the batched matrix, folded.
 -- Assumes nothing.
-use mathlib.Core.Path.{_≡_, sym, ap, _∙_}
+use mathlib.Core.Path.{_≡_, refl, sym, ap, _∙_}
+use mathlib.Core.Bool.{Bool, true, false}
 use mathlib.Core.List.{List}
 use Prim.Native.Nat.{ℕ, _+_, _*_, _/_, _%_, _≤_, _<_}
 use native.Mathlib.Nat.{zero-mul}
 use native.Mathlib.Decide.{decLt}
 use native.Mathlib.Omega.{arith}
+use lib.Bits.{bitXor, xor-zero-r}
 use Rattle.strings.specs.Sums.{byteAt, xorSum}
-use Rattle.strings.proofs.SumLaws.{sum-same, sum-lt}
+use Rattle.strings.proofs.SumLaws.{sum-same, sum-none, sum-lt}
 use Rattle.chunks.proofs.BitSumLaws.{sum-swap, sum-blocks}
 use Rattle.forms_folds.specs.Folds.{Folded}
 use Rattle.forms_columns.specs.Stacks.{product, stackOf, foldOf}
 use Rattle.forms_columns.proofs.ProductLaws.{product-zero}
 use Rattle.forms_batching.specs.Batched.{cellSum, batchedByte, leftSum}
 use Rattle.forms_batching.proofs.FormLaws.{product-scale, product-lt}
+
+-- bits that are 0 give nothing
+no-polar : (J : ℕ) (x L : ℕ → ℕ) → ((c : ℕ) → x c ≡ 0) → xorSum 16 (λ s. product (x (J * 16 + s)) (L (J * 16 + s))) ≡ 0
+no-polar J x L none = sum-same 16 _ (λ s. 0) (λ s l. ap (λ v. product v (L (J * 16 + s))) (none (J * 16 + s)) ∙ product-zero _) ∙ sum-none 16
 
 module _ (n w m : ℕ) (A χ cells : List ℕ) (e J : ℕ) (loaded : Folded n w m A J cells) where
   cell-is : (q h f z : ℕ) → q ≤ J → h < 2 → f < 16 → z < 8 → q * 16 + f < n → J * 16 + (h * 8 + z) < n → cellSum cells m χ e q (h * 16 + f) z ≡ batchedByte w (n * w) m A χ e (q * 16 + f) (J * 16 + (h * 8 + z))
@@ -67,3 +73,17 @@ module _ (n w m : ℕ) (A χ cells : List ℕ) (e J : ℕ) (loaded : Folded n w 
         go (no past) =
             let zero : q ≡ 0 = gone (omega arith) in
             rw zero (zero-mul F ∙ sym (product-zero (leftSum w (n * w) m A χ e W J c)))
+
+    -- what the columns of the stacks give: to the form, and to half of the polar form
+    module _ (F : ℕ → ℕ) (is : (s : ℕ) → s < 16 → J * 16 + s < n → F s ≡ leftSum w (n * w) m A χ e W J (J * 16 + s)) where
+      pub quad-is : (y : ℕ → ℕ) → ((c : ℕ) → n ≤ c → y c ≡ 0)
+          → xorSum 16 (λ s. product (y (J * 16 + s)) (F s)) ≡ xorSum 16 (λ s. product (y (J * 16 + s)) (leftSum w (n * w) m A χ e W J (J * 16 + s)))
+      quad-is y gone = sum-same 16 _ _ (λ s hs. column-is (y (J * 16 + s)) (F s) (J * 16 + s) (gone (J * 16 + s)) (is s hs))
+
+      pub mid-is : (asked : Bool) (xs old new : List ℕ) → ((c : ℕ) → byteAt xs c < 2) → ((c : ℕ) → n ≤ c → byteAt xs c ≡ 0) → (asked ≡ false → (c : ℕ) → byteAt xs c ≡ 0)
+          → (asked ≡ true → byteAt new e ≡ bitXor (byteAt old e) (xorSum 16 (λ s. byteAt xs (J * 16 + s) * F s))) → (asked ≡ false → new ≡ old)
+          → byteAt new e ≡ bitXor (byteAt old e) (xorSum 16 (λ s. product (byteAt xs (J * 16 + s)) (leftSum w (n * w) m A χ e W J (J * 16 + s))))
+      mid-is true xs old new bits gone none on off =
+          on refl ∙ ap (bitXor (byteAt old e)) (sum-same 16 _ _ (λ s hs. bit-column-is (byteAt xs (J * 16 + s)) (F s) (J * 16 + s) (bits (J * 16 + s)) (gone (J * 16 + s)) (is s hs)))
+      mid-is false xs old new bits gone none on off =
+          ap (λ (r : List ℕ). byteAt r e) (off refl) ∙ sym (ap (bitXor (byteAt old e)) (no-polar J (byteAt xs) (leftSum w (n * w) m A χ e W J) (none refl)) ∙ xor-zero-r (byteAt old e))

@@ -7,7 +7,7 @@ ghost use lib.ListN.{length};
 ghost use Rattle.strings.specs.Limits.{mostEquations};
 ghost use Rattle.strings.specs.Sums.{byteAt};
 ghost use Rattle.strings.specs.Rows.{RowsKept};
-ghost use Rattle.forms_choices.specs.Entries.{fivesWord, Chosen, InWords};
+ghost use Rattle.forms_choices.specs.Entries.{fivesWord, Chosen, ChosenAll, WordsFit, GroupsFor};
 use super::picks::FIVES;
 use super::picks::PICKS;
 use super::picks::SIXTEENS;
@@ -104,15 +104,15 @@ fn fill_repetition(words: &mut [u64], e: usize, chi: &[u8], m: usize)
 // The fives that are looked up for m equations: those of whole words of ten, or all 32.
 pub fn groups_for(m: usize) -> usize
     requires { ⌜ m ≤ mostEquations ⌝ }
-    ensures { λ r. ⌜ InWords r × (m ≤ r * 5) ⌝ }
+    ensures { λ r. ⌜ GroupsFor m r ⌝ }
 {
     least((m + 49) / 50 * 10, FIVES)
 }
 
 // The words of what the m bytes of each of tau repetitions choose.
 pub fn fill_words(words: &mut [u64], chi: &[u8], m: usize, tau: usize)
-    requires { ⌜ (m ≤ mostEquations) × (tau * 8 * 4 ≤ length (now words)) × (length (now chi) ≡ tau * m) ⌝ }
-    ensures { λ _. ⌜ ((r : ℕ) → r < tau * 8 → Chosen (now (chi .entry)) m (now (words .exit)) r) ⌝ }
+    requires { ⌜ (m ≤ mostEquations) × WordsFit tau (now words) × (length (now chi) ≡ tau * m) ⌝ }
+    ensures { λ _. ⌜ ChosenAll (now (chi .entry)) m tau (now (words .exit)) ⌝ }
 {
     let mut e = 0;
     while e < tau {

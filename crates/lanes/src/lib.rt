@@ -14,6 +14,13 @@ use field::Gf256;
 // fixed, so that loops over it have a constant length.
 pub const LANES: usize = 48;
 
+// n variables, m equations, tau repetitions.
+pub struct Dimensions {
+    pub n: usize,
+    pub m: usize,
+    pub tau: usize,
+}
+
 // acc[e] ^= f[e]·t[e] in GF(256), for each lane. Both factors vary with e: no mask is the same for a whole loop, which
 // the compiler could make a branch.
 pub fn accumulate(acc: &mut [u8], f: &[u8], t: &[u8])

@@ -15,6 +15,7 @@ ghost use Rattle.prover.specs.Loaded.{Loaded};
 ghost use Rattle.questions.specs.Facts.{KeyFacts, WitnessForm};
 use format::Sizes;
 use hash::vectors::hash_all;
+use lanes::Dimensions;
 
 // C and d. The leaves are named by the contract only.
 pub fn fill_commit(
@@ -89,9 +90,7 @@ pub fn fill_batch(
         witness,
         batching,
         strings::row_at(sums, w, 0),
-        n,
-        m,
-        tau,
         table,
+        Dimensions { n, m, tau },
     );
 }

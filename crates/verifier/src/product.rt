@@ -7,6 +7,7 @@ ghost use Rattle.protocol.specs.Strings.{bytesFor, bit};
 ghost use Rattle.strings.specs.Sums.{byteAt, xorSum};
 ghost use Rattle.lanes.specs.Lanes.{lanes};
 ghost use Rattle.verifier.specs.Product.{valueByte, productByte};
+use lanes::Dimensions;
 use lanes::LANES;
 use strings::limits::MOST_VARIABLES;
 
@@ -65,11 +66,9 @@ pub fn product_lanes(
         b,
         &zeros,
         chi,
-        n,
-        m,
-        tau,
         front,
         false,
+        Dimensions { n, m, tau },
     );
     batch_values(&mut values, y, chi, m, tau);
     lanes::accumulate(left, delta, &linear);

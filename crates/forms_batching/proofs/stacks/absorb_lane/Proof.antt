@@ -16,7 +16,7 @@ use Rattle.strings.proofs.Rows.{row-byte, put-in, put-other}
 use Rattle.chunks.specs.Chunks.{chunk, cellAt, Masks}
 use Rattle.forms_choices.specs.Entries.{Weighed}
 use Rattle.forms_columns.specs.Stacks.{product, planes, stackAt}
-use Rattle.forms_batching.specs.Batched.{most}
+use Rattle.strings.specs.Limits.{mostVariables}
 use Rattle.forms_batching.proofs.StackLaws.{stack-is}
 use Rattle.forms_batching.proofs.stacks.absorb_lane.Statement.{statement}
 use Rattle.forms_batching.proofs.stacks.absorb_lane.Tie as tie
@@ -92,8 +92,8 @@ returns c =
     rw e (
       (λ S χ m h f z weighed hh hf.
           let inside : h * 16 + f < chunk = omega arith in
-          let lane : byteAt v (h * 16 + f) ≡ byteAt (now (a .vectors)) (a .e * most + (a .first + f)) = spreads .ensures h f hh hf ∙ ap (byteAt (now (a .vectors))) (add-assoc (a .e * most) (a .first) f) in
-          let small : byteAt v (h * 16 + f) < 256 = rw lane (known ((a .e * most) + (a .first + f)) .fits) in
+          let lane : byteAt v (h * 16 + f) ≡ byteAt (now (a .vectors)) (a .e * mostVariables + (a .first + f)) = spreads .ensures h f hh hf ∙ ap (byteAt (now (a .vectors))) (add-assoc (a .e * mostVariables) (a .first) f) in
+          let small : byteAt v (h * 16 + f) < 256 = rw lane (known ((a .e * mostVariables) + (a .first + f)) .fits) in
           stack-is (putMid at (planes * chunk) l r) r (a .e) (h * 16 + f) z inside (put-in at (planes * chunk) l r fits kept)
           ∙ sums S v χ m (h * 16 + f) z weighed (filled .ensures) small inside
           ∙ ap₂ (λ (x y : ℕ). bitXor x (product y (xorSum m (λ i. bitOf (cellAt S i (h * 16 + f)) z * χ i))))

@@ -1,11 +1,11 @@
--- `forms_batching::forms::load` meets its contract.
+-- `forms_batching::panels::load` meets its contract.
 -- Assumes nothing.
 use borrow.Author.Needs.{needs}
 use Prim.Native.Nat.{_*_, _/_}
 use mathlib.Core.Path.{_≡_}
 use native.Mathlib.Omega.{arith}
-use Rattle.forms_batching.proofs.forms.load.Statement.{statement}
-use Rattle.forms_batching.proofs.forms.load.Tie as tie
+use Rattle.forms_batching.proofs.panels.load.Statement.{statement}
+use Rattle.forms_batching.proofs.panels.load.Tie as tie
 
 load-set-requires : tie.Need-load-set-requires
 load-set-requires c κs =
