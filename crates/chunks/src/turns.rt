@@ -5,7 +5,7 @@ ghost use mathlib.Core.Path.{_≡_};
 ghost use Prim.Native.Nat.{ℕ, _+_, _*_, _/_, _%_, _<_, _≤_};
 ghost use lib.ListN.{length};
 ghost use Rattle.strings.specs.Sums.{byteAt};
-ghost use Rattle.chunks.specs.Turns.{Step, Exchanged, Spread, Turned, TurnedAt};
+ghost use Rattle.chunks.specs.Turns.{Step, Exchanged, Passed, Turned, TurnedAt};
 use super::cells::copy_apart;
 use strings::BITS;
 use strings::SIXTEEN;
@@ -46,9 +46,9 @@ fn merge(out: &mut [u8], rows: &[u8])
 }
 
 // A pass. In one loop the machine would take half registers only.
-fn spread(out: &mut [u8], rows: &[u8], s: usize, mask: u8)
+fn one_pass(out: &mut [u8], rows: &[u8], s: usize, mask: u8)
     requires { ⌜ (s < 8) × Step s mask × (length (now rows) ≡ 128) × (128 ≤ length (now out)) ⌝ }
-    ensures { λ _. ⌜ Spread s 64 (now (rows .entry)) 128 (now (out .exit)) ⌝ }
+    ensures { λ _. ⌜ Passed s 64 (now (rows .entry)) 128 (now (out .exit)) ⌝ }
 {
     let mut between = [0u8; EIGHT_ROWS];
     exchange(&mut between, rows, s, mask);
@@ -63,9 +63,9 @@ pub fn turn(out: &mut [u8], rows: &[u8])
 {
     let mut one = [0u8; EIGHT_ROWS];
     let mut two = [0u8; EIGHT_ROWS];
-    spread(&mut one, rows, 4, 15);
-    spread(&mut two, &one, 2, 51);
-    spread(out, &two, 1, 85);
+    one_pass(&mut one, rows, 4, 15);
+    one_pass(&mut two, &one, 2, 51);
+    one_pass(out, &two, 1, 85);
 }
 
 // Sixteen bytes of each of eight rows, which stand `width` bytes apart in src, the first at `from`.

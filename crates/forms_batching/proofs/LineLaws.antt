@@ -23,7 +23,7 @@ use Rattle.chunks.specs.Chunks.{chunk, cellAt}
 use Rattle.chunks.proofs.BitSumLaws.{sum-swap, sum-blocks}
 use Rattle.forms_choices.specs.Entries.{Tabled, choice, Chosen, lookedUp, Weighed}
 use Rattle.forms_choices.proofs.ChoiceLaws.{chosen-sum}
-use Rattle.forms_columns.specs.Stacks.{alpha, product}
+use Rattle.forms_columns.specs.Stacks.{alpha, byteProduct}
 use Rattle.forms_columns.proofs.ProductLaws.{product-comm, byte-bits}
 use Rattle.strings.specs.Limits.{mostVariables}
 use Rattle.forms_batching.specs.Lines.{lineBit, leftByte, leftBit, lineSum}
@@ -101,7 +101,7 @@ alpha-lt p = gf256 .byte-lt _
 planes-sum : (S : List ℕ) (χ : ℕ → ℕ) (m f z : ℕ) → ((i : ℕ) → i < m → χ i < 256)
     → xorSum 8 (λ p. bitOf (xorSum m (λ i. bitOf (χ i) p * cellAt S i f)) z * alpha p) ≡ xorSum m (λ i. bitOf (cellAt S i f) z * χ i)
 planes-sum S χ m f z small =
-    sum-same 8 _ (λ p. xorSum m (λ i. bitOf (χ i) p * bitOf (cellAt S i f) z) * product (alpha p) 1)
+    sum-same 8 _ (λ p. xorSum m (λ i. bitOf (χ i) p * bitOf (cellAt S i f) z) * byteProduct (alpha p) 1)
     (λ p l. ap₂ _*_ (bitOf-sum m (λ i. bitOf (χ i) p * cellAt S i f) z ∙ sum-same m _ _ (λ i k. bit-times (bitOf (χ i) p) (cellAt S i f) z (bitOf-lt (χ i) p)))
     (sym (product-comm (alpha p) 1 ∙ product-one (alpha p) (alpha-lt p))))
     ∙ planes-added m 1 χ (λ i. bitOf (cellAt S i f) z) small (λ i. bitOf-lt (cellAt S i f) z)

@@ -8,6 +8,7 @@
 --   WeighedAll S χ m sums W G τ == Weighed for each of τ repetitions
 --   VectorsFit τ vs, VectorsAre τ T vs == vs has, one after the other, τ vectors of as many coordinates as a key may have variables: those of the table T
 --   PanelCells m J cells == the cells have the sixteens of rows up to the J-th of m matrices
+--   CellsRoom cells == as long as the longest set of panels, that of 26 sixteens of rows
 --   SumsRoom sums == as long as the longest table of sums
 --   rowTimes vs e first S χ m h f z == weighedBit at byte f of half h, times coordinate first + f of vector e of vs
 --   Collected τ J m W cells vs old new == to the values of each stack the cells of panel J are added, batched, each row times its coordinate
@@ -28,9 +29,9 @@ use Rattle.strings.specs.Limits.{mostVariables, mostEquations}
 use Rattle.strings.specs.Sums.{byteAt, bitOf, xorSum}
 use Rattle.lanes.specs.Lanes.{lanes, laneAt}
 use Rattle.chunks.specs.Chunks.{chunk, cellAt}
-use Rattle.forms_choices.specs.Entries.{Weighed, ChosenAll, GroupsFor, WordsFit}
+use Rattle.forms_choices.specs.Entries.{mostSums, Weighed, ChosenAll, GroupsFor, WordsFit}
 use Rattle.forms_folds.specs.Folds.{entry, foldedBit, Folded}
-use Rattle.forms_columns.specs.Stacks.{product, stackOf, columnOf, IsBits}
+use Rattle.forms_columns.specs.Stacks.{byteProduct, stackOf, columnOf, IsBits}
 
 unfoldable pub cellSum : List ℕ → ℕ → List ℕ → ℕ → ℕ → ℕ → ℕ → ℕ
 cellSum cells m χ e q f z = xorSum m (λ i. bitOf (cellAt cells (q * m + i) f) z * byteAt χ (e * m + i))
@@ -39,11 +40,11 @@ unfoldable pub batchedByte : ℕ → ℕ → ℕ → List ℕ → List ℕ → �
 batchedByte w size m A χ e ρ c = xorSum m (λ i. foldedBit w (blockAt A size i) ρ c * byteAt χ (e * m + i))
 
 abbrev pub leftSum : ℕ → ℕ → ℕ → List ℕ → List ℕ → ℕ → (ℕ → ℕ) → ℕ → ℕ → ℕ
-leftSum w size m A χ e W J c = xorSum ((J + 1) * 16) (λ ρ. product (W ρ) (batchedByte w size m A χ e ρ c))
+leftSum w size m A χ e W J c = xorSum ((J + 1) * 16) (λ ρ. byteProduct (W ρ) (batchedByte w size m A χ e ρ c))
 
 unfoldable pub formSum : ℕ → ℕ → ℕ → List ℕ → List ℕ → ℕ → (ℕ → ℕ) → (ℕ → ℕ) → ℕ
 formSum n w m A χ e y W =
-    xorSum m (λ i. product (byteAt χ (e * m + i)) (xorSum n (λ ρ. product (W ρ) (xorSum n (λ c. entry w (blockAt A (n * w) i) ρ c * y c)))))
+    xorSum m (λ i. byteProduct (byteAt χ (e * m + i)) (xorSum n (λ ρ. byteProduct (W ρ) (xorSum n (λ c. entry w (blockAt A (n * w) i) ρ c * y c)))))
 
 abbrev pub IsBytes : List ℕ → Type 0
 IsBytes χ = (k : ℕ) → byteAt χ k < 256
@@ -63,17 +64,20 @@ VectorsAre τ T vs = (e c : ℕ) → e < τ → c < mostVariables → byteAt vs 
 abbrev pub PanelCells : ℕ → ℕ → List ℕ → Type 0
 PanelCells m J cells = (J + 1) * (m * chunk) ≤ length cells
 
+abbrev pub CellsRoom : List ℕ → Type 0
+CellsRoom cells = length cells ≡ 26 * (mostEquations * chunk)
+
 abbrev pub SumsRoom : List ℕ → Type 0
-SumsRoom sums = length sums ≡ 32768
+SumsRoom sums = length sums ≡ mostSums
 
 abbrev pub rowTimes : List ℕ → ℕ → ℕ → List ℕ → (ℕ → ℕ) → ℕ → ℕ → ℕ → ℕ → ℕ
-rowTimes vs e first S χ m h f z = product (byteAt vs (e * mostVariables + (first + f))) (weighedBit S χ m (h * 16 + f) z)
+rowTimes vs e first S χ m h f z = byteProduct (byteAt vs (e * mostVariables + (first + f))) (weighedBit S χ m (h * 16 + f) z)
 
 abbrev pub Collected : ℕ → ℕ → ℕ → List ℕ → List ℕ → List ℕ → List ℕ → List ℕ → Type 0
 Collected τ J m W cells vs old new =
     (χ : List ℕ) (e h f z : ℕ) → IsBytes χ → ChosenAll χ m τ W → e < τ → h < 2 → f < 16
     → stackOf new e (h * 16 + f) z
-    ≡ bitXor (stackOf old e (h * 16 + f) z) (xorSum (J + 1) (λ q. product (byteAt vs (e * mostVariables + (q * 16 + f))) (cellSum cells m χ e q (h * 16 + f) z)))
+    ≡ bitXor (stackOf old e (h * 16 + f) z) (xorSum (J + 1) (λ q. byteProduct (byteAt vs (e * mostVariables + (q * 16 + f))) (cellSum cells m χ e q (h * 16 + f) z)))
 
 abbrev pub PanelStacked : ℕ → ℕ → ℕ → List ℕ → List ℕ → List ℕ → List ℕ → Type 0
 PanelStacked τ J m W cells vs stacks =

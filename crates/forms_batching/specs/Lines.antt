@@ -19,7 +19,7 @@ use Rattle.strings.specs.Limits.{mostVariables}
 use Rattle.strings.specs.Sums.{byteAt, bitOf, xorSum}
 use Rattle.chunks.specs.Chunks.{chunk, cellAt}
 use Rattle.forms_folds.specs.Folds.{foldedBit}
-use Rattle.forms_columns.specs.Stacks.{product}
+use Rattle.forms_columns.specs.Stacks.{byteProduct}
 
 abbrev pub lineBit : List ℕ → ℕ → ℕ → ℕ
 lineBit L i c = bitOf (cellAt L i (c / 8)) (c % 8)
@@ -48,7 +48,7 @@ abbrev pub weighedLine : List ℕ → (ℕ → ℕ) → ℕ → ℕ → ℕ
 weighedLine S χ m c = xorSum m (λ i. lineBit S i c * χ i)
 
 abbrev pub lineProduct : List ℕ → ℕ → (ℕ → ℕ) → ℕ
-lineProduct vs e f = xorSum mostVariables (λ c. product (byteAt vs (e * mostVariables + c)) (f c))
+lineProduct vs e f = xorSum mostVariables (λ c. byteProduct (byteAt vs (e * mostVariables + c)) (f c))
 
 abbrev pub lineForm : ℕ → List ℕ → ℕ → List ℕ → ℕ → (ℕ → ℕ) → ℕ
-lineForm n L m χ e y = xorSum n (λ c. product (y c) (lineSum L m χ e c))
+lineForm n L m χ e y = xorSum n (λ c. byteProduct (y c) (lineSum L m χ e c))

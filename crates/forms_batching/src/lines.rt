@@ -13,8 +13,8 @@ ghost use Rattle.strings.specs.Sums.{byteAt, bitOf, xorSum};
 ghost use Rattle.strings.specs.Rows.{RowsKept};
 ghost use Rattle.lanes.specs.Lanes.{lanes};
 ghost use Rattle.chunks.specs.Chunks.{chunk, cellAt};
-ghost use Rattle.forms_choices.specs.Entries.{lookedUp, InWords, ChosenAll, WordsFit, GroupsFor, Weighed};
-ghost use Rattle.forms_columns.specs.Stacks.{product};
+ghost use Rattle.forms_choices.specs.Entries.{mostSums, lookedUp, InWords, ChosenAll, WordsFit, GroupsFor, Weighed};
+ghost use Rattle.forms_columns.specs.Stacks.{byteProduct};
 ghost use Rattle.forms_batching.specs.Batched.{IsBytes, WeighedAll, VectorsFit, PanelCells, SumsRoom};
 ghost use Rattle.forms_batching.specs.Lines.{leftByte, lineSum, LeftAdded, LinesBeside, weighedLine, lineProduct};
 use chunks::CHUNK;
@@ -115,7 +115,7 @@ pub fn add_left(
 // The sum of the products of the coordinates.
 fn dot(f: &[u8], t: &[u8]) -> u8
     requires { ⌜ (mostVariables ≤ length (now f)) × (mostVariables ≤ length (now t)) ⌝ }
-    ensures { λ r. ⌜ r ≡ xorSum mostVariables (λ c. product (byteAt (now (f .entry)) c) (byteAt (now (t .entry)) c)) ⌝ }
+    ensures { λ r. ⌜ r ≡ xorSum mostVariables (λ c. byteProduct (byteAt (now (f .entry)) c) (byteAt (now (t .entry)) c)) ⌝ }
 {
     let mut sum: u8 = 0;
     let mut c = 0;
@@ -128,7 +128,7 @@ fn dot(f: &[u8], t: &[u8]) -> u8
 
 // Plane p becomes the sum of the entries that row r of the words chooses.
 fn look_up_plane(planes: &mut [u8], p: usize, words: &[u64], r: usize, groups: usize, sums: &[u8])
-    requires { ⌜ (p * chunk + chunk ≤ length (now planes)) × (r * 4 + 4 ≤ length (now words)) × InWords groups × (32768 ≤ length (now sums)) ⌝ }
+    requires { ⌜ (p * chunk + chunk ≤ length (now planes)) × (r * 4 + 4 ≤ length (now words)) × InWords groups × (mostSums ≤ length (now sums)) ⌝ }
     ensures { λ _. ⌜ ((f : ℕ) → f < chunk → cellAt (now (planes .exit)) p f ≡ lookedUp (now (sums .entry)) (now (words .entry)) r groups f) ⌝ }
     ensures { λ _. ⌜ RowsKept chunk p (now (planes .entry)) (now (planes .exit)) ⌝ }
 {
@@ -138,7 +138,7 @@ fn look_up_plane(planes: &mut [u8], p: usize, words: &[u64], r: usize, groups: u
 
 // The eight planes of the batched line whose rows of words begin with row `base`.
 fn look_up_planes(planes: &mut [u8], words: &[u64], base: usize, groups: usize, sums: &[u8])
-    requires { ⌜ (length (now planes) ≡ 8 * chunk) × ((base + 8) * 4 ≤ length (now words)) × InWords groups × (32768 ≤ length (now sums)) ⌝ }
+    requires { ⌜ (length (now planes) ≡ 8 * chunk) × ((base + 8) * 4 ≤ length (now words)) × InWords groups × (mostSums ≤ length (now sums)) ⌝ }
     ensures { λ _. ⌜ ((p f : ℕ) → p < 8 → f < chunk → cellAt (now (planes .exit)) p f ≡ lookedUp (now (sums .entry)) (now (words .entry)) (base + p) groups f) ⌝ }
 {
     let mut p = 0;
@@ -166,7 +166,7 @@ fn turn_half(elements: &mut [u8], h: usize, planes: &[u8])
 
 // The batched line of repetition e times its vector.
 fn line_product(words: &[u64], e: usize, groups: usize, sums: &[u8], vectors: &[u8]) -> u8
-    requires { ⌜ ((e * 8 + 8) * 4 ≤ length (now words)) × (e < lanes) × InWords groups × (32768 ≤ length (now sums)) × (e * mostVariables + mostVariables ≤ length (now vectors)) ⌝ }
+    requires { ⌜ ((e * 8 + 8) * 4 ≤ length (now words)) × (e < lanes) × InWords groups × (mostSums ≤ length (now sums)) × (e * mostVariables + mostVariables ≤ length (now vectors)) ⌝ }
     ensures { λ r. ⌜ ((S : List ℕ) (χ : ℕ → ℕ) (m : ℕ) → Weighed S χ m (now (sums .entry)) (now (words .entry)) groups (e * 8) → r ≡ lineProduct (now (vectors .entry)) e (weighedLine S χ m)) ⌝ }
 {
     let mut planes = [0u8; ELEMENT_PLANES];
@@ -186,7 +186,7 @@ fn add_products(
     sums: &[u8],
     vectors: &[u8],
 )
-    requires { ⌜ (length (now mid) ≡ lanes) × (tau ≤ lanes) × WordsFit tau (now words) × InWords groups × (32768 ≤ length (now sums)) × VectorsFit tau (now vectors) ⌝ }
+    requires { ⌜ (length (now mid) ≡ lanes) × (tau ≤ lanes) × WordsFit tau (now words) × InWords groups × (mostSums ≤ length (now sums)) × VectorsFit tau (now vectors) ⌝ }
     ensures { λ _. ⌜ ((S : List ℕ) (χ : ℕ → ℕ → ℕ) (m e : ℕ) → WeighedAll S χ m (now (sums .entry)) (now (words .entry)) groups tau → e < tau
         → byteAt (now (mid .exit)) e ≡ bitXor (byteAt (now (mid .entry)) e) (lineProduct (now (vectors .entry)) e (weighedLine S (χ e) m))) ⌝ }
 {

@@ -11,7 +11,7 @@ ghost use Rattle.lanes.specs.Lanes.{lanes};
 ghost use Rattle.forms_choices.specs.Entries.{ChosenAll, WordsFit, GroupsFor};
 ghost use Rattle.forms_columns.specs.Stacks.{StacksFit};
 ghost use Rattle.forms_folds.specs.Folds.{FoldedSet};
-ghost use Rattle.forms_batching.specs.Batched.{formSum, IsBytes, VectorsFit, PanelCells, SumsRoom, PanelStacked, vectorOf, polarSum, BatchFits};
+ghost use Rattle.forms_batching.specs.Batched.{formSum, IsBytes, CellsRoom, VectorsFit, PanelCells, SumsRoom, PanelStacked, vectorOf, polarSum, BatchFits};
 ghost use Rattle.forms_batching.specs.Lines.{lineForm};
 use chunks::CHUNK;
 use forms_choices::sums::ENTRIES;
@@ -42,7 +42,7 @@ fn widen(bits: &mut [u8], xs: &[u8])
 
 // Panels are loaded four at a time, by the first of them; the others stand there already.
 fn load(cells: &mut [u8], a: &[u8], n: usize, width: usize, m: usize, panel: usize)
-    requires { ⌜ (length (now cells) ≡ 133120) × (length (now a) ≡ m * (n * width)) × (width ≡ bytesFor n) × (n ≤ mostVariables) × (m ≤ mostEquations) × (panel * 16 < n) ⌝ }
+    requires { ⌜ CellsRoom (now cells) × (length (now a) ≡ m * (n * width)) × (width ≡ bytesFor n) × (n ≤ mostVariables) × (m ≤ mostEquations) × (panel * 16 < n) ⌝ }
     requires { ⌜ ((panel % 4 ≡ 0 → ⊥) → FoldedSet n width m (now a) (panel / 4 * 4) (now cells)) ⌝ }
     ensures { λ _. ⌜ FoldedSet n width m (now (a .entry)) (panel / 4 * 4) (now (cells .exit)) ⌝ }
 {

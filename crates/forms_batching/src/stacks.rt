@@ -10,8 +10,8 @@ ghost use Rattle.strings.specs.Sums.{byteAt};
 ghost use Rattle.strings.specs.Rows.{RowsKept};
 ghost use Rattle.lanes.specs.Lanes.{lanes, laneAt};
 ghost use Rattle.chunks.specs.Chunks.{chunk, Masks};
-ghost use Rattle.forms_choices.specs.Entries.{InWords, WordsFit, GroupsFor, Weighed};
-ghost use Rattle.forms_columns.specs.Stacks.{product, planes, stackAt, stackOf, StacksFit};
+ghost use Rattle.forms_choices.specs.Entries.{mostSums, InWords, WordsFit, GroupsFor, Weighed};
+ghost use Rattle.forms_columns.specs.Stacks.{byteProduct, planes, stackAt, stackOf, StacksFit};
 ghost use Rattle.forms_batching.specs.Batched.{weighedBit, WeighedAll, VectorsFit, VectorsAre, PanelCells, SumsRoom, rowTimes, Collected};
 use chunks::CHUNK;
 use chunks::PAIR;
@@ -66,7 +66,7 @@ pub fn fill_vectors(vectors: &mut [u8], tau: usize, table: &[u8], n: usize)
 }
 
 // Both halves of a chunk become sixteen bytes of src, from `from` on.
-fn spread(v: &mut [u8], src: &[u8], from: usize)
+fn fill_halves(v: &mut [u8], src: &[u8], from: usize)
     requires { ⌜ (length (now v) ≡ chunk) × (from + 16 ≤ length (now src)) ⌝ }
     ensures { λ _. ⌜ ((h f : ℕ) → h < 2 → f < 16 → byteAt (now (v .exit)) (h * 16 + f) ≡ byteAt (now (src .entry)) (from + f)) ⌝ }
 {
@@ -77,9 +77,9 @@ fn spread(v: &mut [u8], src: &[u8], from: usize)
 // Adds a chunk of the batched matrix to a stack, times v: it is the sum of the rows S, each times its byte χ, whose
 // bits the words hold.
 fn absorb(t: &mut [u8], words: &[u64], base: usize, groups: usize, sums: &[u8], masks: &[u8])
-    requires { ⌜ (length (now t) ≡ planes * chunk) × ((base + 8) * 4 ≤ length (now words)) × InWords groups × (32768 ≤ length (now sums)) × (length (now masks) ≡ 8 * chunk) ⌝ }
+    requires { ⌜ (length (now t) ≡ planes * chunk) × ((base + 8) * 4 ≤ length (now words)) × InWords groups × (mostSums ≤ length (now sums)) × (length (now masks) ≡ 8 * chunk) ⌝ }
     ensures { λ _. ⌜ ((S v : List ℕ) (χ : ℕ → ℕ) (m f z : ℕ) → Weighed S χ m (now (sums .entry)) (now (words .entry)) groups base → Masks v (now (masks .entry)) → byteAt v f < 256 → f < chunk
-        → stackAt (now (t .exit)) f z ≡ bitXor (stackAt (now (t .entry)) f z) (product (byteAt v f) (weighedBit S χ m f z))) ⌝ }
+        → stackAt (now (t .exit)) f z ≡ bitXor (stackAt (now (t .entry)) f z) (byteProduct (byteAt v f) (weighedBit S χ m f z))) ⌝ }
 {
     let mut k = 0;
     while k < Gf256::DEGREE / 2 {
@@ -101,14 +101,14 @@ fn absorb_lane(
     first: usize,
 )
     requires { ⌜ (e * (planes * chunk) + planes * chunk ≤ length (now stacks)) × ((e * 8 + 8) * 4 ≤ length (now words)) × InWords groups
-        × (32768 ≤ length (now sums)) × (e * mostVariables + mostVariables ≤ length (now vectors)) × (first + 16 ≤ mostVariables) × (e < lanes) ⌝ }
+        × (mostSums ≤ length (now sums)) × (e * mostVariables + mostVariables ≤ length (now vectors)) × (first + 16 ≤ mostVariables) × (e < lanes) ⌝ }
     ensures { λ _. ⌜ ((S : List ℕ) (χ : ℕ → ℕ) (m h f z : ℕ) → Weighed S χ m (now (sums .entry)) (now (words .entry)) groups (e * 8) → h < 2 → f < 16
         → stackOf (now (stacks .exit)) e (h * 16 + f) z ≡ bitXor (stackOf (now (stacks .entry)) e (h * 16 + f) z) (rowTimes (now (vectors .entry)) e first S χ m h f z)) ⌝ }
     ensures { λ _. ⌜ RowsKept (planes * chunk) e (now (stacks .entry)) (now (stacks .exit)) ⌝ }
 {
     let mut v = [0u8; CHUNK];
     let mut masks = [0u8; MASKS];
-    spread(&mut v, vectors, e * MOST_VARIABLES + first);
+    fill_halves(&mut v, vectors, e * MOST_VARIABLES + first);
     chunks::masks::fill_masks(&mut masks, &v);
     let at = e * STACK;
     absorb(
@@ -131,7 +131,7 @@ fn absorb_lanes(
     vectors: &[u8],
     first: usize,
 )
-    requires { ⌜ StacksFit tau (now stacks) × WordsFit tau (now words) × InWords groups × (32768 ≤ length (now sums)) × VectorsFit tau (now vectors) × (first + 16 ≤ mostVariables) × (tau ≤ lanes) ⌝ }
+    requires { ⌜ StacksFit tau (now stacks) × WordsFit tau (now words) × InWords groups × (mostSums ≤ length (now sums)) × VectorsFit tau (now vectors) × (first + 16 ≤ mostVariables) × (tau ≤ lanes) ⌝ }
     ensures { λ _. ⌜ ((S : List ℕ) (χ : ℕ → ℕ → ℕ) (m e h f z : ℕ) → WeighedAll S χ m (now (sums .entry)) (now (words .entry)) groups tau → e < tau → h < 2 → f < 16
         → stackOf (now (stacks .exit)) e (h * 16 + f) z ≡ bitXor (stackOf (now (stacks .entry)) e (h * 16 + f) z) (rowTimes (now (vectors .entry)) e first S (χ e) m h f z)) ⌝ }
 {

@@ -1,4 +1,5 @@
 -- The table of the sums of each five rows of a table of chunks, and the entries of it that the bits of bytes choose.
+--   mostSums == the bytes of the longest table of sums: of 32 entries for each five of the most equations
 --   entryByte S k f == byte f of entry k of the table of sums: of the rows 5·⌊k/32⌋ + s, s < 5, those with bit s of k mod 32 set
 --   Tabled S sums count == sums holds the first count entries, one after the other
 --   choice χ p g == the number that bit p of each of the bytes χ(5·g), .., χ(5·g + 4) writes, the first lowest
@@ -23,6 +24,9 @@ use lib.ListN.{length}
 use Rattle.protocol.specs.Lists.{blockAt}
 use Rattle.strings.specs.Sums.{byteAt, bitOf, xorSum}
 use Rattle.chunks.specs.Chunks.{chunk, cellAt}
+
+abbrev pub mostSums : ℕ
+mostSums = 32768
 
 abbrev pub entryByte : List ℕ → ℕ → ℕ → ℕ
 entryByte S k f = xorSum 5 (λ s. bitOf (k % 32) s * cellAt S (k / 32 * 5 + s) f)

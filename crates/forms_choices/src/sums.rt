@@ -7,7 +7,7 @@ ghost use lib.Bits.{bitXor};
 ghost use Rattle.strings.specs.Sums.{byteAt};
 ghost use Rattle.strings.specs.Rows.{RowsKept};
 ghost use Rattle.chunks.specs.Chunks.{chunk, pair, cellAt};
-ghost use Rattle.forms_choices.specs.Entries.{entryByte, Tabled, five, wordByte, lookedUp, InWords};
+ghost use Rattle.forms_choices.specs.Entries.{mostSums, entryByte, Tabled, five, wordByte, lookedUp, InWords};
 use super::fives::ROW_WORDS;
 use chunks::CHUNK;
 
@@ -115,7 +115,7 @@ fn place_of(w: u64, g: usize, j: usize) -> usize
 // Adds the entries that word k chooses, w for the first and x for the second: side by side, so that neither waits for
 // the other.
 fn add_ten(first: &mut [u8; CHUNK], second: &mut [u8; CHUNK], w: u64, x: u64, sums: &[u8], k: usize)
-    requires { ⌜ (length (now first) ≡ chunk) × (length (now second) ≡ chunk) × (k < 3) × (32768 ≤ length (now sums)) ⌝ }
+    requires { ⌜ (length (now first) ≡ chunk) × (length (now second) ≡ chunk) × (k < 3) × (mostSums ≤ length (now sums)) ⌝ }
     ensures { λ _. ⌜ (length (now (first .exit)) ≡ chunk) × (length (now (second .exit)) ≡ chunk) ⌝ }
     ensures { λ _. ⌜ ((f : ℕ) → f < chunk → byteAt (now (first .exit)) f ≡ bitXor (byteAt (now (first .entry)) f) (wordByte (now (sums .entry)) k 10 w f)) ⌝ }
     ensures { λ _. ⌜ ((f : ℕ) → f < chunk → byteAt (now (second .exit)) f ≡ bitXor (byteAt (now (second .entry)) f) (wordByte (now (sums .entry)) k 10 x f)) ⌝ }
@@ -132,7 +132,7 @@ fn add_ten(first: &mut [u8; CHUNK], second: &mut [u8; CHUNK], w: u64, x: u64, su
 // The same of the last word, of which the first two fives are looked up. A function of its own, so that the count is a
 // constant and each of the two is called from one place.
 fn add_two(first: &mut [u8; CHUNK], second: &mut [u8; CHUNK], w: u64, x: u64, sums: &[u8])
-    requires { ⌜ (length (now first) ≡ chunk) × (length (now second) ≡ chunk) × (32768 ≤ length (now sums)) ⌝ }
+    requires { ⌜ (length (now first) ≡ chunk) × (length (now second) ≡ chunk) × (mostSums ≤ length (now sums)) ⌝ }
     ensures { λ _. ⌜ (length (now (first .exit)) ≡ chunk) × (length (now (second .exit)) ≡ chunk) ⌝ }
     ensures { λ _. ⌜ ((f : ℕ) → f < chunk → byteAt (now (first .exit)) f ≡ bitXor (byteAt (now (first .entry)) f) (wordByte (now (sums .entry)) 3 2 w f)) ⌝ }
     ensures { λ _. ⌜ ((f : ℕ) → f < chunk → byteAt (now (second .exit)) f ≡ bitXor (byteAt (now (second .entry)) f) (wordByte (now (sums .entry)) 3 2 x f)) ⌝ }
@@ -155,7 +155,7 @@ fn add_last(
     groups: usize,
     sums: &[u8],
 )
-    requires { ⌜ (length (now first) ≡ chunk) × (length (now second) ≡ chunk) × InWords groups × (32768 ≤ length (now sums)) ⌝ }
+    requires { ⌜ (length (now first) ≡ chunk) × (length (now second) ≡ chunk) × InWords groups × (mostSums ≤ length (now sums)) ⌝ }
     ensures { λ _. ⌜ (length (now (first .exit)) ≡ chunk) × (length (now (second .exit)) ≡ chunk) ⌝ }
     ensures { λ _. ⌜ ((f : ℕ) → f < chunk → byteAt (now (first .exit)) f ≡ bitXor (byteAt (now (first .entry)) f) (wordByte (now (sums .entry)) 3 (groups - 30) w f)) ⌝ }
     ensures { λ _. ⌜ ((f : ℕ) → f < chunk → byteAt (now (second .exit)) f ≡ bitXor (byteAt (now (second .entry)) f) (wordByte (now (sums .entry)) 3 (groups - 30) x f)) ⌝ }
@@ -168,7 +168,7 @@ fn add_last(
 // Chunk 0 of out is the sum of the entries that row r of the words chooses for so many groups of five, and chunk 1 that
 // of row r + 1.
 pub fn look_up_two(out: &mut [u8], words: &[u64], r: usize, groups: usize, sums: &[u8])
-    requires { ⌜ (length (now out) ≡ pair) × (r * 4 + 8 ≤ length (now words)) × InWords groups × (32768 ≤ length (now sums)) ⌝ }
+    requires { ⌜ (length (now out) ≡ pair) × (r * 4 + 8 ≤ length (now words)) × InWords groups × (mostSums ≤ length (now sums)) ⌝ }
     ensures { λ _. ⌜ ((f : ℕ) → f < chunk → cellAt (now (out .exit)) 0 f ≡ lookedUp (now (sums .entry)) (now (words .entry)) r groups f) ⌝ }
     ensures { λ _. ⌜ ((f : ℕ) → f < chunk → cellAt (now (out .exit)) 1 f ≡ lookedUp (now (sums .entry)) (now (words .entry)) (r + 1) groups f) ⌝ }
 {
@@ -215,7 +215,7 @@ pub fn add_first(dst: &mut [u8], sums: &[u8])
 
 // Adds the entries that the first n fives of word k choose.
 fn add_word(sum: &mut [u8; CHUNK], w: u64, n: usize, sums: &[u8], k: usize)
-    requires { ⌜ (length (now sum) ≡ chunk) × (n ≤ 10) × (k * 10 + n ≤ 32) × (32768 ≤ length (now sums)) ⌝ }
+    requires { ⌜ (length (now sum) ≡ chunk) × (n ≤ 10) × (k * 10 + n ≤ 32) × (mostSums ≤ length (now sums)) ⌝ }
     ensures { λ _. ⌜ length (now (sum .exit)) ≡ chunk ⌝ }
     ensures { λ _. ⌜ ((f : ℕ) → f < chunk → byteAt (now (sum .exit)) f ≡ bitXor (byteAt (now (sum .entry)) f) (wordByte (now (sums .entry)) k n w f)) ⌝ }
 {
@@ -235,7 +235,7 @@ fn last_fives(groups: usize) -> usize
 
 // The sum of the entries that row r of the words chooses for so many groups of five.
 pub fn look_up(out: &mut [u8], words: &[u64], r: usize, groups: usize, sums: &[u8])
-    requires { ⌜ (length (now out) ≡ chunk) × (r * 4 + 4 ≤ length (now words)) × InWords groups × (32768 ≤ length (now sums)) ⌝ }
+    requires { ⌜ (length (now out) ≡ chunk) × (r * 4 + 4 ≤ length (now words)) × InWords groups × (mostSums ≤ length (now sums)) ⌝ }
     ensures { λ _. ⌜ ((f : ℕ) → f < chunk → byteAt (now (out .exit)) f ≡ lookedUp (now (sums .entry)) (now (words .entry)) r groups f) ⌝ }
 {
     let mut sum = [0u8; CHUNK];

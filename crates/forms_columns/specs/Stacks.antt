@@ -1,5 +1,5 @@
 -- Polynomials in α whose coefficients are bits, in planes: plane s of a stack holds the coefficients of α^s, one bit for each place.
---   alpha s == α^s as a byte, where α is the element 02;  product x y == the product of two bytes as elements
+--   alpha s == α^s as a byte, where α is the element 02;  byteProduct x y == the product of two bytes as elements
 --   planes == 2·8 - 1, the planes of a stack: as many coefficients as a product of two polynomials of eight has
 --   stackAt t f z == the value of a stack at bit z of byte f;  stackOf T e f z == that of stack e of a table of them
 --   foldOf T e h z == the sum of the values of stack e at bit z of the sixteen bytes of half h
@@ -27,8 +27,8 @@ use Rattle.chunks.specs.Chunks.{chunk}
 unfoldable pub alpha : ℕ → ℕ
 alpha s = powByte gf256 2 s
 
-unfoldable pub product : ℕ → ℕ → ℕ
-product x y = mulByte gf256 x y
+unfoldable pub byteProduct : ℕ → ℕ → ℕ
+byteProduct x y = mulByte gf256 x y
 
 abbrev pub planes : ℕ
 planes = 15
@@ -52,7 +52,7 @@ abbrev pub valueOf : List ℕ → ℕ → ℕ → ℕ
 valueOf rows z e = xorSum planes (λ s. bitOf (laneAt rows s e) z * alpha s)
 
 abbrev pub twoPlanes : ℕ → ℕ → ℕ → ℕ → ℕ → ℕ
-twoPlanes p x y z v = bitXor (bitOf x z * product (alpha p) v) (bitOf y z * product (alpha (p + 1)) v)
+twoPlanes p x y z v = bitXor (bitOf x z * byteProduct (alpha p) v) (bitOf y z * byteProduct (alpha (p + 1)) v)
 
 abbrev pub IsBits : List ℕ → Type 0
 IsBits xs = (c : ℕ) → byteAt xs c < 2

@@ -8,7 +8,7 @@ ghost use Rattle.strings.specs.Sums.{byteAt, bitOf, xorSum};
 ghost use Rattle.strings.specs.Rows.{RowsKept};
 ghost use Rattle.lanes.specs.Lanes.{lanes, laneAt, LanesAdded};
 ghost use Rattle.chunks.specs.Chunks.{chunk};
-ghost use Rattle.forms_columns.specs.Stacks.{product, planes, columnOf, sixteenOf, valueOf, StacksFit, ColumnFits, ColumnsFit, PanelFits};
+ghost use Rattle.forms_columns.specs.Stacks.{byteProduct, planes, columnOf, sixteenOf, valueOf, StacksFit, ColumnFits, ColumnsFit, PanelFits};
 use chunks::CHUNK;
 use field::Gf256;
 use lanes::LANES;
@@ -99,7 +99,7 @@ fn weigh(u: &mut [u8], rows: &[u8], z: usize)
 // acc[e] ^= coordinate c of repetition e, times u[e]. Coordinates from n on are 0.
 fn add_product(acc: &mut [u8], c: usize, n: usize, table: &[u8], u: &[u8])
     requires { ⌜ (length (now acc) ≡ lanes) × (length (now table) ≡ n * lanes) × (length (now u) ≡ lanes) ⌝ }
-    ensures { λ _. ⌜ LanesAdded lanes (λ e. product (laneAt (now (table .entry)) c e) (byteAt (now (u .entry)) e)) (now (acc .entry)) (now (acc .exit)) ⌝ }
+    ensures { λ _. ⌜ LanesAdded lanes (λ e. byteProduct (laneAt (now (table .entry)) c e) (byteAt (now (u .entry)) e)) (now (acc .entry)) (now (acc .exit)) ⌝ }
 {
     if c < n {
         lanes::accumulate(acc, strings::row_at(table, LANES, c), u);
@@ -131,7 +131,7 @@ fn add_column(
     polar: bool,
 )
     requires { ⌜ ColumnFits (now quad) (now mid) (now rows) c z n (now table) (now xs) ⌝ }
-    ensures { λ _. ⌜ LanesAdded lanes (λ e. product (laneAt (now (table .entry)) c e) (valueOf (now (rows .entry)) z e)) (now (quad .entry)) (now (quad .exit)) ⌝ }
+    ensures { λ _. ⌜ LanesAdded lanes (λ e. byteProduct (laneAt (now (table .entry)) c e) (valueOf (now (rows .entry)) z e)) (now (quad .entry)) (now (quad .exit)) ⌝ }
     ensures { λ _. ⌜ (polar ≡ true → LanesAdded lanes (λ e. byteAt (now (xs .entry)) c * valueOf (now (rows .entry)) z e) (now (mid .entry)) (now (mid .exit))) ⌝ }
     ensures { λ _. ⌜ (polar ≡ false → now (mid .exit) ≡ now (mid .entry)) ⌝ }
 {
@@ -153,7 +153,7 @@ fn add_columns(
     polar: bool,
 )
     requires { ⌜ ColumnsFit (now quad) (now mid) (now rows) first n (now table) (now xs) ⌝ }
-    ensures { λ _. ⌜ LanesAdded lanes (λ e. xorSum 8 (λ z. product (laneAt (now (table .entry)) (first + z) e) (valueOf (now (rows .entry)) z e))) (now (quad .entry)) (now (quad .exit)) ⌝ }
+    ensures { λ _. ⌜ LanesAdded lanes (λ e. xorSum 8 (λ z. byteProduct (laneAt (now (table .entry)) (first + z) e) (valueOf (now (rows .entry)) z e))) (now (quad .entry)) (now (quad .exit)) ⌝ }
     ensures { λ _. ⌜ (polar ≡ true → LanesAdded lanes (λ e. xorSum 8 (λ z. byteAt (now (xs .entry)) (first + z) * valueOf (now (rows .entry)) z e)) (now (mid .entry)) (now (mid .exit))) ⌝ }
     ensures { λ _. ⌜ (polar ≡ false → now (mid .exit) ≡ now (mid .entry)) ⌝ }
 {
@@ -178,7 +178,7 @@ pub fn finish(
     polar: bool,
 )
     requires { ⌜ PanelFits (now quad) (now mid) (now stacks) panel tau n (now table) (now xs) ⌝ }
-    ensures { λ _. ⌜ LanesAdded tau (λ e. xorSum 16 (λ s. product (laneAt (now (table .entry)) (panel * 16 + s) e) (columnOf (now (stacks .entry)) e s))) (now (quad .entry)) (now (quad .exit)) ⌝ }
+    ensures { λ _. ⌜ LanesAdded tau (λ e. xorSum 16 (λ s. byteProduct (laneAt (now (table .entry)) (panel * 16 + s) e) (columnOf (now (stacks .entry)) e s))) (now (quad .entry)) (now (quad .exit)) ⌝ }
     ensures { λ _. ⌜ (polar ≡ true → LanesAdded tau (λ e. xorSum 16 (λ s. byteAt (now (xs .entry)) (panel * 16 + s) * columnOf (now (stacks .entry)) e s)) (now (mid .entry)) (now (mid .exit))) ⌝ }
     ensures { λ _. ⌜ (polar ≡ false → now (mid .exit) ≡ now (mid .entry)) ⌝ }
 {

@@ -10,6 +10,7 @@
 --   OthersKept m i old new == the other matrices' cells are as they were
 --   ChunkFolded w M J q cells at == chunk `at` of the cells holds the folded entries of the sixteen rows q of panel J (Folds), as far as a row of M has bytes
 --   SetFolded w M first end m i count cells == so do the chunks of matrix i of m, for the panels before `end`, in the first `count` sixteens of rows
+--   TurnedFits turned == a byte for each row of a matrix, for each of eight byte columns
 --   CellsFit m cells == the cells have room for a set of panels of m matrices
 --   RowsFit first end m i cells made turned == the panels are of one set, matrix i is one of m, and the buffers have room for them
 --   FoldFits w src from first end m i cells turned == the same, and src has the rows, from `from` on up to a whole sixteen, and 32 bytes more
@@ -30,11 +31,11 @@ use Rattle.chunks.specs.Chunks.{chunk, cellAt}
 use Rattle.forms_folds.specs.Folds.{entry, foldedBit, before}
 
 abbrev pub Mirrored : ℕ → List ℕ → ℕ → List ℕ → ℕ → Type 0
-Mirrored w M C t k = (r z : ℕ) → r < C / 2 * 16 → z < 8 → bitOf (byteAt t (k * 160 + r)) z ≡ entry w M (C * 8 + z) r
+Mirrored w M C t k = (r z : ℕ) → r < C / 2 * 16 → z < 8 → bitOf (byteAt t (k * mostVariables + r)) z ≡ entry w M (C * 8 + z) r
 
 abbrev pub Reflected : ℕ → List ℕ → ℕ → List ℕ → ℕ → Type 0
 Reflected w M C t k =
-    (r z : ℕ) → r < C / 2 * 16 + 16 → z < 8 → bitOf (byteAt t (k * 160 + r)) z ≡ cond (ltb (r / 16) (C / 2)) (entry w M (C * 8 + z) r) 0
+    (r z : ℕ) → r < C / 2 * 16 + 16 → z < 8 → bitOf (byteAt t (k * mostVariables + r)) z ≡ cond (ltb (r / 16) (C / 2)) (entry w M (C * 8 + z) r) 0
 
 abbrev pub Mirrors : ℕ → List ℕ → ℕ → ℕ → List ℕ → Type 0
 Mirrors w M first end t = (k : ℕ) → 2 * first + k < 2 * end → 2 * first + k < w → Reflected w M (2 * first + k) t k
@@ -43,7 +44,7 @@ abbrev pub Parted : ℕ → List ℕ → ℕ → ℕ → List ℕ → Type 0
 Parted w M first q made = (k f : ℕ) → k < 8 → f < 16 → byteAt made (k * 16 + f) ≡ byteAt M ((q * 16 + f) * w + (2 * first + k))
 
 abbrev pub summed : List ℕ → List ℕ → ℕ → ℕ → ℕ → ℕ
-summed made t q p e = bitXor (byteAt made (p * chunk + e)) (byteAt t ((2 * p + e / 16) * 160 + (q * 16 + e % 16)))
+summed made t q p e = bitXor (byteAt made (p * chunk + e)) (byteAt t ((2 * p + e / 16) * mostVariables + (q * 16 + e % 16)))
 
 abbrev pub chunkPlace : ℕ → ℕ → ℕ → ℕ → ℕ → ℕ
 chunkPlace first p q m i = (before first p + q) * m + i
@@ -69,21 +70,24 @@ abbrev pub SetFolded : ℕ → List ℕ → ℕ → ℕ → ℕ → ℕ → ℕ 
 SetFolded w M first end m i count cells =
     (q p : ℕ) → q < count → p < 4 → q ≤ first + p → first + p < end → ChunkFolded w M (first + p) q cells (chunkPlace first p q m i)
 
+abbrev pub TurnedFits : List ℕ → Type 0
+TurnedFits turned = length turned ≡ 8 * mostVariables
+
 abbrev pub CellsFit : ℕ → List ℕ → Type 0
 CellsFit m cells = 26 * (m * chunk) ≤ length cells
 
 abbrev pub RowsFit : ℕ → ℕ → ℕ → ℕ → List ℕ → List ℕ → List ℕ → Type 0
 RowsFit first end m i cells made turned =
-    (first % 4 ≡ 0) × (first < end) × (end ≤ 10) × (i < m) × (m ≤ mostEquations) × CellsFit m cells × (length made ≡ 128) × (length turned ≡ 1280)
+    (first % 4 ≡ 0) × (first < end) × (end ≤ 10) × (i < m) × (m ≤ mostEquations) × CellsFit m cells × (length made ≡ 128) × TurnedFits turned
 
 abbrev pub FoldFits : ℕ → List ℕ → ℕ → ℕ → ℕ → ℕ → ℕ → List ℕ → List ℕ → Type 0
 FoldFits w src from first end m i cells turned =
-    (first % 4 ≡ 0) × (first < end) × (end ≤ first + 4) × (end ≤ 10) × (i < m) × (m ≤ mostEquations) × CellsFit m cells × (length turned ≡ 1280) × (from + end * 16 * w + 32 ≤ length src)
+    (first % 4 ≡ 0) × (first < end) × (end ≤ first + 4) × (end ≤ 10) × (i < m) × (m ≤ mostEquations) × CellsFit m cells × TurnedFits turned × (from + end * 16 * w + 32 ≤ length src)
 
 abbrev pub MatrixFits : ℕ → ℕ → ℕ → ℕ → ℕ → ℕ → List ℕ → List ℕ → List ℕ → Type 0
 MatrixFits n w first end m i A cells turned =
     (w ≡ bytesFor n) × (n ≤ mostVariables) × (first % 4 ≡ 0) × (first < end) × (end ≤ first + 4) × (end ≤ 10) × ((p : ℕ) → p < 4 → (first + p) * 16 < n → first + p < end)
-    × (i < m) × (m ≤ mostEquations) × (length A ≡ m * (n * w)) × CellsFit m cells × (length turned ≡ 1280)
+    × (i < m) × (m ≤ mostEquations) × (length A ≡ m * (n * w)) × CellsFit m cells × TurnedFits turned
 
 abbrev pub MatrixFolded : ℕ → ℕ → List ℕ → ℕ → ℕ → ℕ → List ℕ → Type 0
 MatrixFolded n w M first m i cells =

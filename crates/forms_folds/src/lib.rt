@@ -9,7 +9,7 @@ ghost use Rattle.protocol.specs.Lists.{blockAt};
 ghost use Rattle.strings.specs.Limits.{mostVariables, mostEquations};
 ghost use Rattle.chunks.specs.Chunks.{chunk};
 ghost use Rattle.forms_folds.specs.Folds.{Folded, FoldedSet};
-ghost use Rattle.forms_folds.specs.Sets.{Mirrors, SetFolded, MatrixFolded, OthersKept, CellsFit, FoldFits, MatrixFits};
+ghost use Rattle.forms_folds.specs.Sets.{TurnedFits, Mirrors, SetFolded, MatrixFolded, OthersKept, CellsFit, FoldFits, MatrixFits};
 use chunks::CHUNK;
 use chunks::cells::copy_front;
 use chunks::turns::EIGHT_ROWS;
@@ -48,7 +48,7 @@ fn fold_all(
     m: usize,
     i: usize,
 )
-    requires { ⌜ (first % 4 ≡ 0) × (first < end) × (end ≤ 10) × (i < m) × (m ≤ mostEquations) × CellsFit m (now cells) × (length (now turned) ≡ 1280)
+    requires { ⌜ (first % 4 ≡ 0) × (first < end) × (end ≤ 10) × (i < m) × (m ≤ mostEquations) × CellsFit m (now cells) × TurnedFits (now turned)
         × (from + end * 16 * width + 32 ≤ length (now src)) × Mirrors width (drop from (now src)) first end (now turned) ⌝ }
     ensures { λ _. ⌜ SetFolded width (drop from (now (src .entry))) first end m i end (now (cells .exit)) ⌝ }
     ensures { λ _. ⌜ OthersKept m i (now (cells .entry)) (now (cells .exit)) ⌝ }

@@ -5,7 +5,7 @@ ghost use lib.ListN.{length, drop};
 ghost use Rattle.strings.specs.Limits.{mostVariables};
 ghost use Rattle.strings.specs.Sums.{byteAt, bitOf};
 ghost use Rattle.strings.specs.Rows.{RowsKept};
-ghost use Rattle.forms_folds.specs.Sets.{Mirrored, Reflected, Mirrors};
+ghost use Rattle.forms_folds.specs.Sets.{Mirrored, Reflected, Mirrors, TurnedFits};
 use chunks::masks::fill_part;
 use chunks::turns::EIGHT_ROWS;
 use chunks::turns::turn_rows;
@@ -19,10 +19,10 @@ const MOST_SIXTEENS: usize = MOST_VARIABLES / SIXTEEN;
 
 // Bytes at, .., at + 127 of row k of `turned`.
 fn turn_part(turned: &mut [u8], k: usize, at: usize, src: &[u8], from: usize, width: usize)
-    requires { ⌜ (k * 160 + at + 128 ≤ length (now turned)) × (from + 7 * width + 16 ≤ length (now src)) ⌝ }
-    ensures { λ _. ⌜ ((r z : ℕ) → r < 128 → z < 8 → bitOf (byteAt (now (turned .exit)) (k * 160 + at + r)) z ≡ bitOf (byteAt (now (src .entry)) (from + z * width + r / 8)) (r % 8)) ⌝ }
-    ensures { λ _. ⌜ ((x : ℕ) → x < k * 160 + at → byteAt (now (turned .exit)) x ≡ byteAt (now (turned .entry)) x) ⌝ }
-    ensures { λ _. ⌜ ((x : ℕ) → byteAt (now (turned .exit)) (k * 160 + at + (128 + x)) ≡ byteAt (now (turned .entry)) (k * 160 + at + (128 + x))) ⌝ }
+    requires { ⌜ (k * mostVariables + at + 128 ≤ length (now turned)) × (from + 7 * width + 16 ≤ length (now src)) ⌝ }
+    ensures { λ _. ⌜ ((r z : ℕ) → r < 128 → z < 8 → bitOf (byteAt (now (turned .exit)) (k * mostVariables + at + r)) z ≡ bitOf (byteAt (now (src .entry)) (from + z * width + r / 8)) (r % 8)) ⌝ }
+    ensures { λ _. ⌜ ((x : ℕ) → x < k * mostVariables + at → byteAt (now (turned .exit)) x ≡ byteAt (now (turned .entry)) x) ⌝ }
+    ensures { λ _. ⌜ ((x : ℕ) → byteAt (now (turned .exit)) (k * mostVariables + at + (128 + x)) ≡ byteAt (now (turned .entry)) (k * mostVariables + at + (128 + x))) ⌝ }
 {
     let start = k * MOST_VARIABLES + at;
     turn_rows(&mut turned[start..start + EIGHT_ROWS], src, from, width);
@@ -31,7 +31,7 @@ fn turn_part(turned: &mut [u8], k: usize, at: usize, src: &[u8], from: usize, wi
 // The eight rows whose entries fold onto byte column col stand together. Their columns from 128 on are not among the
 // first sixteen bytes.
 fn turn_column(turned: &mut [u8], k: usize, src: &[u8], from: usize, width: usize, col: usize)
-    requires { ⌜ (k < 8) × (col < 20) × (length (now turned) ≡ 1280) × (from + (col * 8 + 8) * width + 18 ≤ length (now src)) ⌝ }
+    requires { ⌜ (k < 8) × (col < 20) × TurnedFits (now turned) × (from + (col * 8 + 8) * width + 18 ≤ length (now src)) ⌝ }
     ensures { λ _. ⌜ Mirrored width (drop from (now (src .entry))) col (now (turned .exit)) k ⌝ }
     ensures { λ _. ⌜ RowsKept mostVariables k (now (turned .entry)) (now (turned .exit)) ⌝ }
 {
@@ -44,7 +44,7 @@ fn turn_column(turned: &mut [u8], k: usize, src: &[u8], from: usize, width: usiz
 
 // The first sixteen has none before it.
 fn turn_above(turned: &mut [u8], k: usize, src: &[u8], from: usize, width: usize, col: usize)
-    requires { ⌜ (k < 8) × (col < 20) × (length (now turned) ≡ 1280) × (from + (col * 8 + 8) * width + 18 ≤ length (now src)) ⌝ }
+    requires { ⌜ (k < 8) × (col < 20) × TurnedFits (now turned) × (from + (col * 8 + 8) * width + 18 ≤ length (now src)) ⌝ }
     ensures { λ _. ⌜ Mirrored width (drop from (now (src .entry))) col (now (turned .exit)) k ⌝ }
     ensures { λ _. ⌜ RowsKept mostVariables k (now (turned .entry)) (now (turned .exit)) ⌝ }
 {
@@ -55,7 +55,7 @@ fn turn_above(turned: &mut [u8], k: usize, src: &[u8], from: usize, width: usize
 
 // In the rows of the column's own sixteen nothing is added to an entry.
 fn reflect(turned: &mut [u8], k: usize, src: &[u8], from: usize, width: usize, col: usize)
-    requires { ⌜ (k < 8) × (col < 20) × (length (now turned) ≡ 1280) × (from + (col * 8 + 8) * width + 18 ≤ length (now src)) ⌝ }
+    requires { ⌜ (k < 8) × (col < 20) × TurnedFits (now turned) × (from + (col * 8 + 8) * width + 18 ≤ length (now src)) ⌝ }
     ensures { λ _. ⌜ Reflected width (drop from (now (src .entry))) col (now (turned .exit)) k ⌝ }
     ensures { λ _. ⌜ RowsKept mostVariables k (now (turned .entry)) (now (turned .exit)) ⌝ }
 {
@@ -73,7 +73,7 @@ pub fn reflect_all(
     first: usize,
     end: usize,
 )
-    requires { ⌜ (first < end) × (end ≤ first + 4) × (end ≤ 10) × (length (now turned) ≡ 1280) × (from + end * 16 * width + 32 ≤ length (now src)) ⌝ }
+    requires { ⌜ (first < end) × (end ≤ first + 4) × (end ≤ 10) × TurnedFits (now turned) × (from + end * 16 * width + 32 ≤ length (now src)) ⌝ }
     ensures { λ _. ⌜ Mirrors width (drop from (now (src .entry))) first end (now (turned .exit)) ⌝ }
 {
     let last = least(2 * end, width);

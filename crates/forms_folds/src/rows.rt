@@ -3,11 +3,11 @@ ghost use mathlib.Core.Path.{_≡_};
 ghost use Prim.Native.Nat.{ℕ, _+_, _*_, _/_, _%_, _<_, _≤_};
 ghost use lib.ListN.{length, drop};
 ghost use lib.Bits.{bitXor};
-ghost use Rattle.strings.specs.Limits.{mostEquations};
+ghost use Rattle.strings.specs.Limits.{mostVariables, mostEquations};
 ghost use Rattle.strings.specs.Sums.{byteAt};
 ghost use Rattle.chunks.specs.Chunks.{chunk, cellAt};
 ghost use Rattle.forms_folds.specs.Folds.{before};
-ghost use Rattle.forms_folds.specs.Sets.{Parted, summed, chunkPlace, Put, ChunksKept, CellsFit, RowsFit};
+ghost use Rattle.forms_folds.specs.Sets.{TurnedFits, Parted, summed, chunkPlace, Put, ChunksKept, CellsFit, RowsFit};
 use chunks::CHUNK;
 use chunks::cells::copy_apart;
 use chunks::cells::copy_front;
@@ -41,7 +41,7 @@ pub fn begin(first: usize, p: usize) -> usize
 fn add_turned(sum: &mut [u8; CHUNK], turned: &[u8], at: usize)
     requires { ⌜ (length (now sum) ≡ chunk) × (at + 176 ≤ length (now turned)) ⌝ }
     ensures { λ _. ⌜ length (now (sum .exit)) ≡ chunk ⌝ }
-    ensures { λ _. ⌜ ((e : ℕ) → e < chunk → byteAt (now (sum .exit)) e ≡ bitXor (byteAt (now (sum .entry)) e) (byteAt (now (turned .entry)) (at + (e / 16 * 160 + e % 16)))) ⌝ }
+    ensures { λ _. ⌜ ((e : ℕ) → e < chunk → byteAt (now (sum .exit)) e ≡ bitXor (byteAt (now (sum .entry)) e) (byteAt (now (turned .entry)) (at + (e / 16 * mostVariables + e % 16)))) ⌝ }
 {
     let mut f = 0;
     while f < SIXTEEN {
@@ -65,7 +65,7 @@ fn put_panel(
     i: usize,
 )
     requires { ⌜ (first % 4 ≡ 0) × (p < 4) × (first < end) × (end ≤ 10) × (i < m) × (m ≤ mostEquations) × CellsFit m (now cells)
-        × (length (now made) ≡ 128) × (length (now turned) ≡ 1280) ⌝ }
+        × (length (now made) ≡ 128) × TurnedFits (now turned) ⌝ }
     ensures { λ _. ⌜ (q ≤ first + p → first + p < end → (e : ℕ) → e < chunk → cellAt (now (cells .exit)) (chunkPlace first p q m i) e ≡ summed (now (made .entry)) (now (turned .entry)) q p e) ⌝ }
     ensures { λ _. ⌜ ((at e : ℕ) → (q ≤ first + p → at ≡ chunkPlace first p q m i → ⊥) → e < chunk → cellAt (now (cells .exit)) at e ≡ cellAt (now (cells .entry)) at e) ⌝ }
 {

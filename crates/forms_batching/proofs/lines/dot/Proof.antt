@@ -9,13 +9,13 @@ use denote.Ref.{now}
 use lib.Bits.{bitXor}
 use Rattle.strings.specs.Sums.{byteAt, xorSum}
 use Rattle.strings.proofs.SumLaws.{sum-more}
-use Rattle.forms_columns.specs.Stacks.{product}
+use Rattle.forms_columns.specs.Stacks.{byteProduct}
 use Rattle.strings.specs.Limits.{mostVariables}
 use Rattle.forms_batching.proofs.lines.dot.Statement.{statement}
 use Rattle.forms_batching.proofs.lines.dot.Tie as tie
 
 abbrev term : List ℕ → List ℕ → ℕ → ℕ
-term f t c = product (byteAt f c) (byteAt t c)
+term f t c = byteProduct (byteAt f c) (byteAt t c)
 
 abbrev Inv-loop : tie.InvT-loop
 Inv-loop f t sum₀ c₀ sum c = (c ≤ mostVariables) × (sum ≡ xorSum c (term f t))
@@ -43,7 +43,7 @@ loop-less : tie.Need-loop-less Inv-loop μ-loop
 loop-less c = search needs
 
 loop-again : tie.Need-loop-again Inv-loop μ-loop
-unfolding product
+unfolding byteProduct
 loop-again c =
     let a = c .before .before .before .before .before .before .before .args in
     let l = c .before .before .before .before .loop in

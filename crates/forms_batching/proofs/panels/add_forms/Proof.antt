@@ -16,7 +16,7 @@ use Rattle.lanes.specs.Lanes.{lanes, laneAt}
 use Rattle.chunks.specs.Chunks.{chunk, cellAt}
 use Rattle.forms_choices.specs.Entries.{Chosen}
 use Rattle.forms_folds.specs.Folds.{Folded, FoldedSet}
-use Rattle.forms_columns.specs.Stacks.{product, columnOf}
+use Rattle.forms_columns.specs.Stacks.{byteProduct, columnOf}
 use Rattle.forms_columns.proofs.ProductLaws.{product-zero}
 use Rattle.strings.specs.Limits.{mostVariables}
 use Rattle.forms_batching.specs.Batched.{leftSum}
@@ -30,10 +30,10 @@ use Rattle.forms_batching.proofs.panels.add_forms.Tie as tie
 
 -- what panel J gives
 abbrev term : ℕ → ℕ → ℕ → List ℕ → List ℕ → List ℕ → ℕ → ℕ → ℕ
-term n w m A T χ e J = xorSum 16 (λ s. product (laneAt T (J * 16 + s) e) (leftSum w (n * w) m A χ e (λ ρ. laneAt T ρ e) J (J * 16 + s)))
+term n w m A T χ e J = xorSum 16 (λ s. byteProduct (laneAt T (J * 16 + s) e) (leftSum w (n * w) m A χ e (λ ρ. laneAt T ρ e) J (J * 16 + s)))
 
 abbrev half : ℕ → ℕ → ℕ → List ℕ → List ℕ → List ℕ → List ℕ → ℕ → ℕ → ℕ
-half n w m A T xs χ e J = xorSum 16 (λ s. product (byteAt xs (J * 16 + s)) (leftSum w (n * w) m A χ e (λ ρ. laneAt T ρ e) J (J * 16 + s)))
+half n w m A T xs χ e J = xorSum 16 (λ s. byteProduct (byteAt xs (J * 16 + s)) (leftSum w (n * w) m A χ e (λ ρ. laneAt T ρ e) J (J * 16 + s)))
 
 -- a panel that is not the first of a set is of the set of the panel before it
 same-set : (J : ℕ) → ((J + 1) % 4 ≡ 0 → ⊥) → (J + 1) / 4 * 4 ≡ J / 4 * 4
@@ -225,12 +225,12 @@ returns c =
       (λ χ e small chosen he.
           let y : ℕ → ℕ = λ k. laneAt T k e in
           let columns = xorSum (l .panel) (half (a .s .n) (a .s .width) (a .s .m) A T (now (a .xs)) χ e) in
-          let given = xorSum (a .s .n) (λ k. product (y k) (lineSum L (a .s .m) χ e k)) in
-          let added-left = xorSum (l .panel) (λ J. xorSum 16 (λ s. product (y (J * 16 + s)) (leftSum (a .s .width) (a .s .n * a .s .width) (a .s .m) A χ e x J (J * 16 + s)))) in
+          let given = xorSum (a .s .n) (λ k. byteProduct (y k) (lineSum L (a .s .m) χ e k)) in
+          let added-left = xorSum (l .panel) (λ J. xorSum 16 (λ s. byteProduct (y (J * 16 + s)) (leftSum (a .s .width) (a .s .n * a .s .width) (a .s .m) A χ e x J (J * 16 + s)))) in
           c .before .before .before .add-lines .ensures χ e small chosen he
           ∙ ap₂ bitXor (l .inv .8 χ e small chosen he)
-          (sum-same mostVariables _ (λ k. product (y k) (lineSum (l .lines) (a .s .m) χ e k)) (λ k h. ap (λ (v : ℕ). product v (lineSum (l .lines) (a .s .m) χ e k)) (l .inv .5 e k he h))
-          ∙ sum-short (a .s .n) mostVariables (λ k. product (y k) (lineSum (l .lines) (a .s .m) χ e k)) (pre .4) (λ k h b. ap (λ (v : ℕ). product v (lineSum (l .lines) (a .s .m) χ e k)) (gone e k h) ∙ product-zero _)
+          (sum-same mostVariables _ (λ k. byteProduct (y k) (lineSum (l .lines) (a .s .m) χ e k)) (λ k h. ap (λ (v : ℕ). byteProduct v (lineSum (l .lines) (a .s .m) χ e k)) (l .inv .5 e k he h))
+          ∙ sum-short (a .s .n) mostVariables (λ k. byteProduct (y k) (lineSum (l .lines) (a .s .m) χ e k)) (pre .4) (λ k h b. ap (λ (v : ℕ). byteProduct v (lineSum (l .lines) (a .s .m) χ e k)) (gone e k h) ∙ product-zero _)
           ∙ lines-added (a .s .width) (a .s .n * a .s .width) (a .s .m) A χ e small x (pre .13) (l .panel) (a .s .n) enough y (gone e) L (l .lines) added)
           ∙ both-halves (byteAt (now (a .mid)) e) given added-left columns
           ∙ ap (λ (v : ℕ). bitXor (bitXor (byteAt (now (a .mid)) e) v) given) (polar-is (l .panel) (a .s .n) (a .s .width) (a .s .m) A χ e enough y (gone e) x (pre .14))),

@@ -14,7 +14,7 @@ use Rattle.strings.specs.Sums.{byteAt, xorSum}
 use Rattle.strings.proofs.SumLaws.{sum-same}
 use Rattle.lanes.specs.Lanes.{laneAt}
 use Rattle.chunks.specs.Chunks.{chunk}
-use Rattle.forms_columns.specs.Stacks.{product, planes, stackOf}
+use Rattle.forms_columns.specs.Stacks.{byteProduct, planes, stackOf}
 use Rattle.forms_batching.specs.Batched.{cellSum}
 use Rattle.forms_batching.proofs.StackLaws.{stack-none, lane-past}
 use Rattle.forms_batching.proofs.PanelLaws.{fold-is}
@@ -68,9 +68,9 @@ returns c =
     fold-is n w (a .m) A χ cells e J folded (λ ρ. laneAt T ρ e) (λ ρ h. lane-past T n ρ e long h) (collected .last .0) s hs col
     (λ f hf.
     collected .ensures χ e (s / 8) f (s % 8) small chosen he (omega arith) hf
-    ∙ ap (λ (x : ℕ). bitXor x (xorSum (J + 1) (λ q. product (byteAt (now (a .vectors)) (e * mostVariables + (q * 16 + f))) (cellSum cells (a .m) χ e q (s / 8 * 16 + f) (s % 8))))) (empty e (s / 8 * 16 + f) (s % 8) (omega (arith, he)) (omega (arith, hs, hf)))
+    ∙ ap (λ (x : ℕ). bitXor x (xorSum (J + 1) (λ q. byteProduct (byteAt (now (a .vectors)) (e * mostVariables + (q * 16 + f))) (cellSum cells (a .m) χ e q (s / 8 * 16 + f) (s % 8))))) (empty e (s / 8 * 16 + f) (s % 8) (omega (arith, he)) (omega (arith, hs, hf)))
     ∙ xor-zero-l _
-    ∙ sum-same (J + 1) _ _ (λ q hq. ap (λ (x : ℕ). product x (cellSum cells (a .m) χ e q (s / 8 * 16 + f) (s % 8))) (are e (q * 16 + f) he (omega (arith, pre .3)))))
+    ∙ sum-same (J + 1) _ _ (λ q hq. ap (λ (x : ℕ). byteProduct x (cellSum cells (a .m) χ e q (s / 8 * 16 + f) (s % 8))) (are e (q * 16 + f) he (omega (arith, pre .3)))))
 
 pub stack-panel-spec : {M : Type 1} → statement M
 stack-panel-spec =

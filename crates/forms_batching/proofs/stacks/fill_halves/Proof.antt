@@ -1,11 +1,11 @@
--- `forms_batching::stacks::spread` meets its contract: one half after the other.
+-- `forms_batching::stacks::fill_halves` meets its contract: one half after the other.
 -- Assumes nothing.
 use borrow.Author.Needs.{needs}
 use Prim.Native.Nat.{zero, suc}
 use mathlib.Core.Path.{_∙_}
 use native.Mathlib.Omega.{arith}
-use Rattle.forms_batching.proofs.stacks.spread.Statement.{statement}
-use Rattle.forms_batching.proofs.stacks.spread.Tie as tie
+use Rattle.forms_batching.proofs.stacks.fill_halves.Statement.{statement}
+use Rattle.forms_batching.proofs.stacks.fill_halves.Tie as tie
 
 copy-part-requires : tie.Need-copy-part-requires
 copy-part-requires c κs = search needs
@@ -25,5 +25,5 @@ returns c (suc zero) f h k =
     c .before .before .copy-part2 .ensures .0 f k
 returns c (suc (suc q)) f h k = absurd (omega arith)
 
-pub spread-spec : {M : Type 1} → statement M
-spread-spec = tie.close (tie.spec copy-part-requires copy-part-requires-2 same-length returns)
+pub fill-halves-spec : {M : Type 1} → statement M
+fill-halves-spec = tie.close (tie.spec copy-part-requires copy-part-requires-2 same-length returns)

@@ -1,10 +1,10 @@
--- `chunks::turns::spread` meets its contract: an exchange, merged.
+-- `chunks::turns::one_pass` meets its contract: an exchange, merged.
 -- Assumes nothing.
 use borrow.Author.Needs.{needs}
 use denote.Ref.{now}
-use Rattle.chunks.proofs.PassLaws.{spread}
-use Rattle.chunks.proofs.turns.spread.Statement.{statement}
-use Rattle.chunks.proofs.turns.spread.Tie as tie
+use Rattle.chunks.proofs.PassLaws.{pass-is}
+use Rattle.chunks.proofs.turns.one_pass.Statement.{statement}
+use Rattle.chunks.proofs.turns.one_pass.Tie as tie
 
 slice-aggregate-exchange : tie.Need-slice-aggregate-exchange
 slice-aggregate-exchange c = search needs
@@ -25,10 +25,10 @@ returns : tie.Need-returns
 returns c =
     let a = c .before .before .before .before .before .before .before .before .before .before .args in
     let exchange = c .before .before .before .before .before .before .exchange in
-    spread (a .s) (now (a .rows)) (exchange .last .0) (c .before .before .merge .last .0) (exchange .ensures) (c .before .before .merge .ensures)
+    pass-is (a .s) (now (a .rows)) (exchange .last .0) (c .before .before .merge .last .0) (exchange .ensures) (c .before .before .merge .ensures)
 
-pub spread-spec : {M : Type 1} → statement M
-spread-spec =
+pub one-pass-spec : {M : Type 1} → statement M
+one-pass-spec =
     tie.close
     (tie.spec
     slice-aggregate-exchange
