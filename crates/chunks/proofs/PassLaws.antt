@@ -17,7 +17,7 @@ use Rattle.strings.specs.Sums.{byteAt, bitOf}
 use Rattle.strings.proofs.Meaning.{bitOf-lt, bitOf-xor, bitOf-zero}
 use Rattle.strings.proofs.BitLaws.{kept-bit}
 use Rattle.strings.proofs.XorLaws.{xor-cancel}
-use Rattle.chunks.specs.Turns.{Step, moved, Exchanged, Spread}
+use Rattle.chunks.specs.Turns.{Step, moved, Exchanged, Passed}
 
 -- ---- bits under a mask, and moved
 
@@ -202,5 +202,5 @@ module _ (j v v′ : ℕ) (rows l : List ℕ) (inside : j < 64) (fits : 128 ≤ 
           let fits′ : 2 * j + 1 < length (set l (2 * j) v) = omega (arith, length-set l (2 * j) v) in
           ap (byteAt (set (set l (2 * j) v) (2 * j + 1) v′)) e ∙ getD-set-same (set l (2 * j) v) (2 * j + 1) v′ 0 fits′ ∙ odd ∙ ap (byteAt rows) at
 
-pub spread : (s : ℕ) (rows between out : List ℕ) → Exchanged s rows 64 between → ((i : ℕ) → i < 128 → byteAt out i ≡ byteAt between (i % 2 * 64 + i / 2)) → Spread s 64 rows 128 out
-spread s rows between out exchanged merged i x hi h = ap (λ z. bitOf z x) (merged i hi) ∙ exchanged (i / 2) (i % 2) x (omega arith) (omega arith) h
+pub pass-is : (s : ℕ) (rows between out : List ℕ) → Exchanged s rows 64 between → ((i : ℕ) → i < 128 → byteAt out i ≡ byteAt between (i % 2 * 64 + i / 2)) → Passed s 64 rows 128 out
+pass-is s rows between out exchanged merged i x hi h = ap (λ z. bitOf z x) (merged i hi) ∙ exchanged (i / 2) (i % 2) x (omega arith) (omega arith) h

@@ -6,7 +6,7 @@ use Prim.Native.Nat.{ℕ, zero, suc, _+_, _*_, _-_, _/_, _%_, _≤_, _<_}
 use native.Mathlib.Nat.{mul-assoc, mul-comm, div-one}
 use native.Mathlib.Omega.{arith}
 use Rattle.strings.specs.Sums.{byteAt, bitOf}
-use Rattle.chunks.specs.Turns.{Spread, Turned, TurnedAt}
+use Rattle.chunks.specs.Turns.{Passed, Turned, TurnedAt}
 use Rattle.chunks.proofs.PassLaws.{eight}
 
 -- ---- three passes
@@ -25,7 +25,7 @@ by-bits b w =
     eight (λ b. b * w ≡ 4 * (b / 4 % 2 * w) + 2 * (b / 2 % 2 * w) + b % 2 * w) (omega arith) (omega arith) (omega arith) (omega arith) (omega arith) (omega arith) (omega arith) (omega arith) b
 
 -- a pass over eight rows of w bytes, at a bit x that takes the half β
-pass-at : (s w : ℕ) (from to : List ℕ) → Spread s (4 * w) from (2 * (4 * w)) to
+pass-at : (s w : ℕ) (from to : List ℕ) → Passed s (4 * w) from (2 * (4 * w)) to
     → (i x β i′ x′ : ℕ) → i < 8 * w → x < 8 → x / s % 2 ≡ β → i′ ≡ 4 * (β * w) + i / 2 → x′ ≡ x + i % 2 * s - β * s → bitOf (byteAt to i) x ≡ bitOf (byteAt from i′) x′
 pass-at s w from to pass i x β i′ x′ hi hx half at place =
     let e : x / s % 2 * (4 * w) + i / 2 ≡ i′ = omega (arith, ap (λ k. k * (4 * w)) half ∙ times β w) in
@@ -49,7 +49,7 @@ place-4 b r k l h =
     let t : b / 4 % 2 ≡ b / 4 = omega arith in
     rw (u, v, t) (omega arith)
 
-pub turned : (w : ℕ) (rows one two three : List ℕ) → Spread 4 (4 * w) rows (2 * (4 * w)) one → Spread 2 (4 * w) one (2 * (4 * w)) two → Spread 1 (4 * w) two (2 * (4 * w)) three → Turned w rows three
+pub turned : (w : ℕ) (rows one two three : List ℕ) → Passed 4 (4 * w) rows (2 * (4 * w)) one → Passed 2 (4 * w) one (2 * (4 * w)) two → Passed 1 (4 * w) two (2 * (4 * w)) three → Turned w rows three
 turned w rows one two three p q t r b hr hb =
     let low = b % 2 * w in
     let mid = b / 2 % 2 * w in

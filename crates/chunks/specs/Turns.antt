@@ -3,7 +3,7 @@
 --   moved s mask a b == the bits under the mask that b and a, moved s places down, do not share
 --   Exchanged s rows n out == the first n bytes of each half of out are those of a pass over rows:
 --     where ⌊x/s⌋ is even bit x is of a byte of the first half, else of the last; those of the last half of out are s places further up
---   Spread s half rows n out == the same, where the bytes of the two halves of out stand side by side, for the first n bytes of out
+--   Passed s half rows n out == the same, where the bytes of the two halves of out stand side by side, for the first n bytes of out
 --   Turned w rows out == byte r of out is column r of the eight rows of w bytes
 --   TurnedAt w from src out == the same for sixteen bytes of each of eight rows of src, which stand w bytes apart, the first at from
 -- Assumes nothing.
@@ -24,8 +24,8 @@ abbrev pub Exchanged : ℕ → List ℕ → ℕ → List ℕ → Type 0
 Exchanged s rows n out =
     (i y x : ℕ) → i < n → y < 2 → x < 8 → bitOf (byteAt out (y * 64 + i)) x ≡ bitOf (byteAt rows (x / s % 2 * 64 + i)) (x + y * s - x / s % 2 * s)
 
-abbrev pub Spread : ℕ → ℕ → List ℕ → ℕ → List ℕ → Type 0
-Spread s half rows n out =
+abbrev pub Passed : ℕ → ℕ → List ℕ → ℕ → List ℕ → Type 0
+Passed s half rows n out =
     (i x : ℕ) → i < n → x < 8 → bitOf (byteAt out i) x ≡ bitOf (byteAt rows (x / s % 2 * half + i / 2)) (x + i % 2 * s - x / s % 2 * s)
 
 abbrev pub Turned : ℕ → List ℕ → List ℕ → Type 0

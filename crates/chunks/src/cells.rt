@@ -3,6 +3,7 @@ ghost use mathlib.Core.Path.{_≡_};
 ghost use Prim.Native.Nat.{ℕ, _+_, _*_, _<_, _≤_};
 ghost use lib.ListN.{length};
 ghost use Rattle.strings.specs.Sums.{byteAt};
+ghost use Rattle.strings.specs.Rows.{RowsKept};
 ghost use Rattle.chunks.specs.Chunks.{chunk};
 use super::CHUNK;
 
@@ -23,14 +24,15 @@ pub fn copy_front(dst: &mut [u8], src: &[u8], from: usize, len: usize)
 pub fn copy_part(dst: &mut [u8], g: usize, w: usize, src: &[u8], from: usize)
     requires { ⌜ (g * w + w ≤ length (now dst)) × (from + w ≤ length (now src)) ⌝ }
     ensures { λ _. ⌜ ((f : ℕ) → f < w → byteAt (now (dst .exit)) (g * w + f) ≡ byteAt (now (src .entry)) (from + f)) ⌝ }
-    ensures { λ _. ⌜ ((q f : ℕ) → (q ≡ g → ⊥) → f < w → byteAt (now (dst .exit)) (q * w + f) ≡ byteAt (now (dst .entry)) (q * w + f)) ⌝ }
+    ensures { λ _. ⌜ RowsKept w g (now (dst .entry)) (now (dst .exit)) ⌝ }
 {
     let at = g * w;
     copy_front(&mut dst[at..at + w], src, from, w);
 }
 
-// The first parts of dst, of w bytes, become those that stand `width` bytes apart in src, the first at `from`. The last of these must end before
-// src does. Callers give count and w as constants, so that what they copy to stays in registers.
+// The first parts of dst, of w bytes, become those that stand `width` bytes apart in src, the first at `from`. The
+// last of these must end before src does. Callers give count and w as constants, so that what they copy to stays in
+// registers.
 pub fn copy_apart(dst: &mut [u8], count: usize, w: usize, src: &[u8], from: usize, width: usize)
     requires { ⌜ (count * w ≤ length (now dst)) × (from + count * width + w ≤ length (now src) + width) ⌝ }
     ensures { λ _. ⌜ ((z f : ℕ) → z < count → f < w → byteAt (now (dst .exit)) (z * w + f) ≡ byteAt (now (src .entry)) (from + z * width + f)) ⌝ }

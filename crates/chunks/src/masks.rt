@@ -3,8 +3,10 @@ ghost use mathlib.Core.Path.{_≡_};
 ghost use Prim.Native.Nat.{ℕ, _+_, _*_, _<_, _≤_};
 ghost use lib.ListN.{length};
 ghost use Rattle.strings.specs.Sums.{byteAt, bitOf};
+ghost use Rattle.strings.specs.Rows.{RowsKept};
 ghost use Rattle.chunks.specs.Chunks.{chunk, Masks};
 use super::CHUNK;
+use strings::BITS;
 
 fn fill(dst: &mut [u8], x: u8)
     ensures { λ _. ⌜ ((f : ℕ) → f < length (now (dst .entry)) → byteAt (now (dst .exit)) f ≡ x) ⌝ }
@@ -19,7 +21,7 @@ fn fill(dst: &mut [u8], x: u8)
 pub fn fill_part(dst: &mut [u8], g: usize, w: usize, x: u8)
     requires { ⌜ g * w + w ≤ length (now dst) ⌝ }
     ensures { λ _. ⌜ ((j : ℕ) → j < w → byteAt (now (dst .exit)) (g * w + j) ≡ x) ⌝ }
-    ensures { λ _. ⌜ ((q j : ℕ) → (q ≡ g → ⊥) → j < w → byteAt (now (dst .exit)) (q * w + j) ≡ byteAt (now (dst .entry)) (q * w + j)) ⌝ }
+    ensures { λ _. ⌜ RowsKept w g (now (dst .entry)) (now (dst .exit)) ⌝ }
 {
     let at = g * w;
     fill(&mut dst[at..at + w], x);
@@ -40,7 +42,7 @@ fn fill_mask(out: &mut [u8], v: &[u8], b: usize)
 fn fill_mask_at(masks: &mut [u8], v: &[u8], b: usize)
     requires { ⌜ (length (now masks) ≡ 8 * chunk) × (length (now v) ≡ chunk) × (b < 8) ⌝ }
     ensures { λ _. ⌜ ((f : ℕ) → f < chunk → byteAt (now (masks .exit)) (b * chunk + f) ≡ bitOf (byteAt (now (v .entry)) f) b * 255) ⌝ }
-    ensures { λ _. ⌜ ((q f : ℕ) → (q ≡ b → ⊥) → f < chunk → byteAt (now (masks .exit)) (q * chunk + f) ≡ byteAt (now (masks .entry)) (q * chunk + f)) ⌝ }
+    ensures { λ _. ⌜ RowsKept chunk b (now (masks .entry)) (now (masks .exit)) ⌝ }
 {
     let at = b * CHUNK;
     fill_mask(&mut masks[at..at + CHUNK], v, b);
@@ -51,7 +53,7 @@ pub fn fill_masks(masks: &mut [u8], v: &[u8])
     ensures { λ _. ⌜ Masks (now (v .entry)) (now (masks .exit)) ⌝ }
 {
     let mut b = 0;
-    while b < 8 {
+    while b < BITS {
         fill_mask_at(masks, v, b);
         b += 1;
     }

@@ -1,14 +1,11 @@
-// Whether a witness solves the equations of a key: arithmetic over GF(2), each product of a row with x taken as 01 has it (`parity`). The witness is
-// secret, so no branch goes by it before every equation is looked at.
+// Whether a witness solves the equations of a key: arithmetic over GF(2), each product of a row with x taken as 01 has
+// it (`parity`). The witness is secret, so no branch goes by it before every equation is looked at.
 ghost use mathlib.Core.Path.{_≡_};
 ghost use Prim.Native.Nat.{ℕ, _*_, _<_, _≤_};
 ghost use lib.ListN.{length};
 ghost use Rattle.protocol.specs.Strings.{bytesFor, bit};
 ghost use Rattle.strings.specs.Sums.{byteAt};
-ghost use Rattle.equations.specs.Equations.{errorBit, errorOf, FirstIn};
-
-// As many as a key may have variables (01: 1..160).
-pub const VARIABLES: usize = 160;
+ghost use Rattle.equations.specs.Equations.{errorBit, errorOf, EquationsFit, FirstIn};
 
 // The first equation that fails, or that none does.
 pub enum Found {
@@ -29,8 +26,8 @@ pub fn unpack(out: &mut [u8], x: &[u8], n: usize)
     }
 }
 
-// The error of one equation at x: its left side plus y (01, verifier's rules), that is Σ_ρ x_ρ·(row ρ of the matrix times x), plus row times x, plus y.
-// Every row is multiplied, whatever its x_ρ.
+// The error of one equation at x: its left side plus y (01, verifier's rules), that is
+// Σ_ρ x_ρ·(row ρ of the matrix times x), plus row times x, plus y. Every row is multiplied, whatever its x_ρ.
 fn equation_error(matrix: &[u8], row: &[u8], y: u8, x: &[u8], n: usize) -> u8
     requires { ⌜ (length (now x) ≡ bytesFor n) × (length (now row) ≡ length (now x)) × (length (now matrix) ≡ n * length (now x)) × (n < 65536) ⌝ }
     ensures { λ r. ⌜ r ≡ errorBit n (now (matrix .entry)) (now (row .entry)) y (now (x .entry)) ⌝ }
@@ -46,10 +43,10 @@ fn equation_error(matrix: &[u8], row: &[u8], y: u8, x: &[u8], n: usize) -> u8
     sum
 }
 
-// errors[i] = the error of equation i of the sections A, b, y of a key at the witness x, 0 or 1 (question 11). Every equation is looked at, whatever
-// the others gave.
+// errors[i] = the error of equation i of the sections A, b, y of a key at the witness x, 0 or 1 (question 11). Every
+// equation is looked at, whatever the others gave.
 pub fn equation_errors(errors: &mut [u8], a: &[u8], b: &[u8], y: &[u8], x: &[u8], n: usize)
-    requires { ⌜ (n < 65536) × (length (now x) ≡ bytesFor n) × (length (now a) ≡ length (now errors) * (n * bytesFor n)) × (length (now b) ≡ length (now errors) * bytesFor n) × (length (now errors) ≤ length (now y) * 8) ⌝ }
+    requires { ⌜ EquationsFit n (length (now errors)) (now a) (now b) (now y) (now x) ⌝ }
     ensures { λ _. ⌜ ((i : ℕ) → i < length (now (errors .entry)) → byteAt (now (errors .exit)) i ≡ errorOf n (now (a .entry)) (now (b .entry)) (now (y .entry)) (now (x .entry)) i) ⌝ }
 {
     let width = x.len();
@@ -63,7 +60,8 @@ pub fn equation_errors(errors: &mut [u8], a: &[u8], b: &[u8], y: &[u8], x: &[u8]
     }
 }
 
-// The first equation whose error is not 0. This is the answer to question 11, which the caller is told, so it may branch.
+// The first equation whose error is not 0. This is the answer to question 11, which the caller is told, so it may
+// branch.
 pub fn first_failing(errors: &[u8]) -> Found
     ensures { λ r. ⌜ FirstIn (now (errors .entry)) r ⌝ }
 {

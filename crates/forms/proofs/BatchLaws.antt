@@ -18,7 +18,7 @@ use Rattle.strings.proofs.ProductLaws.{bit-times-lt}
 use Rattle.lanes.specs.Lanes.{lanes, laneAt}
 use Rattle.chunks.specs.Chunks.{cellAt}
 use Rattle.chunks.proofs.BitSumLaws.{sum-swap}
-use Rattle.forms_columns.specs.Stacks.{product}
+use Rattle.forms_columns.specs.Stacks.{byteProduct}
 use Rattle.forms_columns.proofs.ProductLaws.{product-comm, product-bits}
 use Rattle.forms_batching.specs.Batched.{formSum}
 use Rattle.forms_batching.specs.Lines.{lineBit, lineSum}
@@ -33,7 +33,7 @@ use Rattle.forms.specs.Batch.{batchByte}
 -- ---- batched sums
 
 pub batch-xor : (m : ℕ) (χ : List ℕ) (e : ℕ) (u v : ℕ → ℕ) → bitXor (batchByte m χ e u) (batchByte m χ e v) ≡ batchByte m χ e (λ i. bitXor (u i) (v i))
-unfolding product
+unfolding byteProduct
 batch-xor m χ e u v =
     sym (sum-both m (λ i. mulByte gf256 (byteAt χ (e * m + i)) (u i)) (λ i. mulByte gf256 (byteAt χ (e * m + i)) (v i)))
     ∙ sum-same m _ _ (λ i l. sym (product-xor (byteAt χ (e * m + i)) (u i) (v i)))
@@ -55,27 +55,27 @@ line-bit n m b L are i c hi hc =
 
 module _ (n m e : ℕ) (A T χ : List ℕ) where
   -- the sums of formSum, by rows
-  by-rows : (y W : ℕ → ℕ) → formSum n (bytesFor n) m A χ e y W ≡ xorSum m (λ i. product (byteAt χ (e * m + i)) (xorSum n (λ ρ. product (W ρ) (rowBit n (rowOf n (matrixOf n A i) ρ) y))))
+  by-rows : (y W : ℕ → ℕ) → formSum n (bytesFor n) m A χ e y W ≡ xorSum m (λ i. byteProduct (byteAt χ (e * m + i)) (xorSum n (λ ρ. byteProduct (W ρ) (rowBit n (rowOf n (matrixOf n A i) ρ) y))))
   unfolding formSum
   by-rows y W =
-      sum-same m _ _ (λ i l. ap (product (byteAt χ (e * m + i))) (sum-same n _ _ (λ ρ k. ap (product (W ρ)) (sum-same n _ _ (λ c j.
+      sum-same m _ _ (λ i l. ap (byteProduct (byteAt χ (e * m + i))) (sum-same n _ _ (λ ρ k. ap (byteProduct (W ρ)) (sum-same n _ _ (λ c j.
       ap (λ x. x * y c) (row-bit (matrixOf n A i) (bytesFor n) ρ c (omega (arith, bytes-enough n))))))))
 
   pub form-is : formSum n (bytesFor n) m A χ e (λ c. laneAt T c e) (λ c. laneAt T c e) ≡ batchByte m χ e (λ i. formByte n (matrixOf n A i) T e)
-  unfolding product
+  unfolding byteProduct
   form-is = by-rows (λ c. laneAt T c e) (λ c. laneAt T c e)
 
   -- the batched lines at the vectors, where the lines are the rows of b
   pub lines-are : (b L : List ℕ) → ((i f : ℕ) → i < m → f < bytesFor n → cellAt L i f ≡ byteAt b (i * bytesFor n + f))
-      → xorSum n (λ c. product (laneAt T c e) (lineSum L m χ e c)) ≡ batchByte m χ e (λ i. selected n (rowOf n b i) T lanes e)
-  unfolding product lineSum
+      → xorSum n (λ c. byteProduct (laneAt T c e) (lineSum L m χ e c)) ≡ batchByte m χ e (λ i. selected n (rowOf n b i) T lanes e)
+  unfolding byteProduct lineSum
   lines-are b L are =
-      sum-same n _ (λ c. xorSum m (λ i. bit (rowOf n b i) c * product (byteAt χ (e * m + i)) (laneAt T c e))) (λ c l.
-      ap (product (laneAt T c e)) (sum-same m _ (λ i. bit (rowOf n b i) c * byteAt χ (e * m + i)) (λ i k.
+      sum-same n _ (λ c. xorSum m (λ i. bit (rowOf n b i) c * byteProduct (byteAt χ (e * m + i)) (laneAt T c e))) (λ c l.
+      ap (byteProduct (laneAt T c e)) (sum-same m _ (λ i. bit (rowOf n b i) c * byteAt χ (e * m + i)) (λ i k.
       ap (λ x. x * byteAt χ (e * m + i)) (line-bit n m b L are i c k l)))
       ∙ sym (product-bits (laneAt T c e) m (λ i. bit (rowOf n b i) c) (λ i. byteAt χ (e * m + i)) (λ i. bit-lt (rowOf n b i) c))
       ∙ sum-same m _ _ (λ i k. ap (λ x. bit (rowOf n b i) c * x) (product-comm (laneAt T c e) (byteAt χ (e * m + i)))))
-      ∙ sum-swap n m (λ c i. bit (rowOf n b i) c * product (byteAt χ (e * m + i)) (laneAt T c e))
+      ∙ sum-swap n m (λ c i. bit (rowOf n b i) c * byteProduct (byteAt χ (e * m + i)) (laneAt T c e))
       ∙ sum-same m _ _ (λ i k. product-bits (byteAt χ (e * m + i)) n (bit (rowOf n b i)) (λ c. laneAt T c e) (bit-lt (rowOf n b i)))
 
   module _ (bytes : (k : ℕ) → byteAt T k < 256) (x : ℕ → ℕ) (bits : (c : ℕ) → x c < 2) where
@@ -90,7 +90,7 @@ module _ (n m e : ℕ) (A T χ : List ℕ) where
     row-lt row = sum-lt 1 n _ (lit< tt) (λ c l. bit-times-lt (bit row c) (x c) (bit-lt row c) (bits c))
 
     pub polar-is : bitXor (formSum n (bytesFor n) m A χ e (λ c. laneAt T c e) x) (formSum n (bytesFor n) m A χ e x (λ c. laneAt T c e)) ≡ batchByte m χ e cross
-    unfolding product cross
+    unfolding byteProduct cross
     polar-is =
         ap₂ bitXor
         (by-rows (λ c. laneAt T c e) x ∙ sum-same m _ (λ i. mulByte gf256 (byteAt χ (e * m + i)) (xorSum n (λ ρ. x ρ * selected n (rowOf n (matrixOf n A i) ρ) T lanes e))) (λ i l.

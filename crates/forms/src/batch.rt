@@ -1,35 +1,38 @@
-// QS0 and QS1 of all repetitions at once (01, prover's rules). The key and the batching bytes are public; the table, the witness and the
-// string u are secret.
+// QS0 and QS1 of all repetitions at once (01, prover's rules). The key and the batching bytes are public; the table,
+// the witness and the string u are secret.
 ghost use mathlib.Core.Path.{_≡_};
-ghost use mathlib.Core.Bool.{false};
 ghost use Prim.Native.Nat.{ℕ, _+_, _*_, _<_, _≤_};
 ghost use lib.ListN.{length};
 ghost use lib.Bits.{bitXor};
 ghost use Rattle.field.specs.Gf256.{gf256};
-ghost use Rattle.protocol.specs.Strings.{bytesFor};
+ghost use Rattle.protocol.specs.Shape.{mostVariables};
 ghost use Rattle.strings.specs.Sums.{byteAt};
-ghost use Rattle.lanes.specs.Lanes.{lanes, maskLane, maskBits};
+ghost use Rattle.strings.specs.Rows.{RowsKept};
+ghost use Rattle.lanes.specs.Lanes.{lanes, LanesAdded, maskLane, maskBits};
 ghost use Rattle.chunks.specs.Chunks.{chunk, cellAt};
-ghost use Rattle.equations.specs.Equations.{rowOf, matrixOf};
-ghost use Rattle.forms.specs.Forms.{formByte, middleByte};
-ghost use Rattle.forms.specs.Batch.{batchByte, qs0Byte, qs1Byte};
-use super::EQUATIONS;
+ghost use Rattle.forms.specs.Batch.{formsByte, middlesByte, qs0Byte, qs1Byte, FormsInputs, BatchInputs};
 use chunks::CHUNK;
-use equations::VARIABLES;
+use field::Gf256;
+use format::sizes::MOST_EQUATIONS;
+use format::sizes::MOST_VARIABLES;
+use forms_batching::panels::Batch;
+use forms_batching::panels::add_forms;
 use forms_choices::fives::ROW_WORDS;
+use lanes::Dimensions;
 use lanes::LANES;
+use strings::BITS;
 
-// The words of the choices, eight rows for each of as many repetitions as a key may have.
-const WORDS: usize = 8 * LANES * ROW_WORDS;
+// The words of the choices: a row for each bit of an element, for each of as many repetitions as a key may have.
+const WORDS: usize = Gf256::DEGREE * LANES * ROW_WORDS;
 
 // The bytes of as many lines as a key may have equations.
-const LINES: usize = EQUATIONS * CHUNK;
+const LINES: usize = MOST_EQUATIONS * CHUNK;
 
 // Line i becomes row i of b, of `width` bytes.
 fn put_line(lines: &mut [u8], i: usize, b: &[u8], width: usize)
     requires { ⌜ (i * chunk + chunk ≤ length (now lines)) × (i * width + width ≤ length (now b)) × (width ≤ chunk) ⌝ }
     ensures { λ _. ⌜ ((f : ℕ) → f < width → cellAt (now (lines .exit)) i f ≡ byteAt (now (b .entry)) (i * width + f)) ⌝ }
-    ensures { λ _. ⌜ ((q f : ℕ) → (q ≡ i → ⊥) → f < chunk → cellAt (now (lines .exit)) q f ≡ cellAt (now (lines .entry)) q f) ⌝ }
+    ensures { λ _. ⌜ RowsKept chunk i (now (lines .entry)) (now (lines .exit)) ⌝ }
 {
     let at = i * CHUNK;
     chunks::cells::copy_front(&mut lines[at..at + CHUNK], b, i * width, width);
@@ -47,9 +50,9 @@ fn put_lines(lines: &mut [u8], b: &[u8], width: usize, m: usize)
     }
 }
 
-// The batched forms of a key, added to what stands there: fᵀ·A·f to quad, and xᵀ·A·f + (A·x)ᵀ·f + b·f to lin, where f is the vector of
-// repetition e, which the table holds. The bits of x are lent one to a byte, 0 from n on. Where `polar` is
-// not asked for they are all 0, and lin gets b·f.
+// The batched forms of a key, added to what stands there: fᵀ·A·f to quad, and xᵀ·A·f + (A·x)ᵀ·f + b·f to lin, where f
+// is the vector of repetition e, which the table holds. The bits of x are lent one to a byte, 0 from n on. Where
+// `polar` is not asked for they are all 0, and lin gets b·f.
 pub fn batch_forms(
     quad: &mut [u8],
     lin: &mut [u8],
@@ -57,42 +60,37 @@ pub fn batch_forms(
     b: &[u8],
     xs: &[u8],
     chi: &[u8],
-    n: usize,
-    m: usize,
-    tau: usize,
     table: &[u8],
     polar: bool,
+    d: Dimensions,
 )
-    requires { ⌜ (length (now quad) ≡ lanes) × (length (now lin) ≡ lanes) × (n ≤ 160) × (m ≤ 160) × (tau ≤ lanes) × (length (now a) ≡ m * (n * bytesFor n)) × (length (now b) ≡ m * bytesFor n) × (length (now chi) ≡ tau * m) × (length (now table) ≡ n * lanes) × (length (now xs) ≡ 160) × ((c : ℕ) → byteAt (now xs) c < 2) × ((c : ℕ) → n ≤ c → byteAt (now xs) c ≡ 0) × (0 < m) × (0 < tau) × (polar ≡ false → (c : ℕ) → byteAt (now xs) c ≡ 0) ⌝ }
-    ensures { λ _. ⌜ ((e : ℕ) → e < tau → byteAt (now (quad .exit)) e ≡ bitXor (byteAt (now (quad .entry)) e) (batchByte m (now (chi .entry)) e (λ i. formByte n (matrixOf n (now (a .entry)) i) (now (table .entry)) e))) ⌝ }
-    ensures { λ _. ⌜ ((e : ℕ) → e < tau → byteAt (now (lin .exit)) e ≡ bitXor (byteAt (now (lin .entry)) e) (batchByte m (now (chi .entry)) e (λ i. middleByte n (matrixOf n (now (a .entry)) i) (rowOf n (now (b .entry)) i) (byteAt (now (xs .entry))) (now (table .entry)) e))) ⌝ }
+    requires { ⌜ FormsInputs (d .n) (d .m) (d .tau) (now quad) (now lin) (now a) (now b) (now xs) (now chi) (now table) polar ⌝ }
+    ensures { λ _. ⌜ LanesAdded (d .tau) (formsByte (d .n) (d .m) (now (a .entry)) (now (chi .entry)) (now (table .entry))) (now (quad .entry)) (now (quad .exit)) ⌝ }
+    ensures { λ _. ⌜ LanesAdded (d .tau) (middlesByte (d .n) (d .m) (now (a .entry)) (now (b .entry)) (byteAt (now (xs .entry))) (now (chi .entry)) (now (table .entry)))
+        (now (lin .entry)) (now (lin .exit)) ⌝ }
 {
+    let n = d.n;
+    let m = d.m;
+    let tau = d.tau;
     let groups = forms_choices::fives::groups_for(m);
-    let width = (n + 7) / 8;
+    let width = (n + 7) / BITS;
     let mut words = [0u64; WORDS];
     let mut lines = [0u8; LINES];
     forms_choices::fives::fill_words(&mut words, chi, m, tau);
     put_lines(&mut lines, b, width, m);
-    forms_batching::forms::add_forms(
-        quad,
-        lin,
-        &mut lines,
-        a,
+    let s = Batch {
         n,
         width,
         m,
         tau,
-        &words,
         groups,
-        table,
-        xs,
-        polar,
-    );
+    };
+    add_forms(quad, lin, &mut lines, a, &words, table, xs, polar, s);
 }
 
 // Adds the masks: A*₀ of each repetition to qs0, and A*₁, the same for all, to qs1.
 fn add_masks(qs0: &mut [u8], qs1: &mut [u8], table: &[u8], u: &[u8], n: usize)
-    requires { ⌜ (length (now qs0) ≡ lanes) × (length (now qs1) ≡ lanes) × ((n + gf256 .degree) * lanes ≤ length (now table)) × (n + gf256 .degree ≤ length (now u) * 8) × (n ≤ 160) ⌝ }
+    requires { ⌜ (length (now qs0) ≡ lanes) × (length (now qs1) ≡ lanes) × ((n + gf256 .degree) * lanes ≤ length (now table)) × (n + gf256 .degree ≤ length (now u) * 8) × (n ≤ mostVariables) ⌝ }
     ensures { λ _. ⌜ ((e : ℕ) → e < lanes → byteAt (now (qs0 .exit)) e ≡ bitXor (byteAt (now (qs0 .entry)) e) (maskLane (now (table .entry)) n e)) ⌝ }
     ensures { λ _. ⌜ ((e : ℕ) → e < lanes → byteAt (now (qs1 .exit)) e ≡ bitXor (byteAt (now (qs1 .entry)) e) (maskBits (now (u .entry)) n)) ⌝ }
 {
@@ -101,8 +99,8 @@ fn add_masks(qs0: &mut [u8], qs1: &mut [u8], table: &[u8], u: &[u8], n: usize)
     strings::xor_into(qs1, &mask);
 }
 
-// QS0 and QS1 of the tau repetitions: the batched coefficients of the sections a and b of a key, with the masks. The table holds the
-// vectors, with their mask coordinates, and the string u the bits of the mask of QS1.
+// QS0 and QS1 of the tau repetitions: the batched coefficients of the sections a and b of a key, with the masks. The
+// table holds the vectors, with their mask coordinates, and the string u the bits of the mask of QS1.
 pub fn batch_lanes(
     qs0: &mut [u8],
     qs1: &mut [u8],
@@ -111,20 +109,20 @@ pub fn batch_lanes(
     x: &[u8],
     chi: &[u8],
     u: &[u8],
-    n: usize,
-    m: usize,
-    tau: usize,
     table: &[u8],
+    d: Dimensions,
 )
-    requires { ⌜ (length (now qs0) ≡ lanes) × (length (now qs1) ≡ lanes) × (n ≤ 160) × (tau ≤ lanes) × (length (now a) ≡ m * (n * bytesFor n)) × (length (now b) ≡ m * bytesFor n) × (length (now x) ≡ bytesFor n) × (length (now chi) ≡ tau * m) × ((n + gf256 .degree) * lanes ≤ length (now table)) × (n + gf256 .degree ≤ length (now u) * 8) × (m ≤ 160) × (0 < m) × (0 < tau) ⌝ }
-    ensures { λ _. ⌜ ((e : ℕ) → e < tau → byteAt (now (qs0 .exit)) e ≡ qs0Byte n m (now (a .entry)) (now (chi .entry)) (now (table .entry)) e) ⌝ }
-    ensures { λ _. ⌜ ((e : ℕ) → e < tau → byteAt (now (qs1 .exit)) e ≡ qs1Byte n m (now (a .entry)) (now (b .entry)) (now (x .entry)) (now (chi .entry)) (now (u .entry)) (now (table .entry)) e) ⌝ }
+    requires { ⌜ BatchInputs (d .n) (d .m) (d .tau) (now qs0) (now qs1) (now a) (now b) (now x) (now chi) (now u) (now table) ⌝ }
+    ensures { λ _. ⌜ ((e : ℕ) → e < d .tau → byteAt (now (qs0 .exit)) e ≡ qs0Byte (d .n) (d .m) (now (a .entry)) (now (chi .entry)) (now (table .entry)) e) ⌝ }
+    ensures { λ _. ⌜ ((e : ℕ) → e < d .tau
+        → byteAt (now (qs1 .exit)) e ≡ qs1Byte (d .n) (d .m) (now (a .entry)) (now (b .entry)) (now (x .entry)) (now (chi .entry)) (now (u .entry)) (now (table .entry)) e) ⌝ }
 {
-    let mut xs = [0u8; VARIABLES];
+    let n = d.n;
+    let mut xs = [0u8; MOST_VARIABLES];
     let front = &table[..n * LANES];
     equations::unpack(&mut xs, x, n);
     strings::clear(qs0);
     strings::clear(qs1);
-    batch_forms(qs0, qs1, a, b, &xs, chi, n, m, tau, front, true);
+    batch_forms(qs0, qs1, a, b, &xs, chi, front, true, d);
     add_masks(qs0, qs1, table, u, n);
 }

@@ -18,7 +18,7 @@ use Rattle.strings.proofs.Meaning.{bitOf-lt}
 use Rattle.chunks.specs.Chunks.{chunk, cellAt}
 use Rattle.chunks.proofs.BitSumLaws.{sum-swap, sum-blocks, bits-lt, times-sum, bit-sum}
 use Rattle.forms_folds.specs.Folds.{foldedBit, Folded}
-use Rattle.forms_columns.specs.Stacks.{product}
+use Rattle.forms_columns.specs.Stacks.{byteProduct}
 use Rattle.forms_columns.proofs.ProductLaws.{product-zero}
 use Rattle.forms_batching.specs.Batched.{batchedByte, leftSum}
 use Rattle.forms_batching.specs.Lines.{lineBit, leftBit, lineSum, leftOf}
@@ -113,20 +113,20 @@ module _ (w size m : ℕ) (A χ : List ℕ) (e : ℕ) (small : (k : ℕ) → byt
       ∙ ap (bitXor (lineSum L₀ m χ e c)) (left-sum c)
 
   module _ (N n : ℕ) (enough : n ≤ N * 16) (y : ℕ → ℕ) (gone : (c : ℕ) → n ≤ c → y c ≡ 0) where
-    by-panels : xorSum n (λ c. product (y c) (leftSum w size m A χ e x (c / 16) c)) ≡ xorSum N (λ J. xorSum 16 (λ s. product (y (J * 16 + s)) (leftSum w size m A χ e x J (J * 16 + s))))
+    by-panels : xorSum n (λ c. byteProduct (y c) (leftSum w size m A χ e x (c / 16) c)) ≡ xorSum N (λ J. xorSum 16 (λ s. byteProduct (y (J * 16 + s)) (leftSum w size m A χ e x J (J * 16 + s))))
     by-panels =
-        sym (sum-short n (N * 16) (λ c. product (y c) (leftSum w size m A χ e x (c / 16) c)) enough (λ c h l. ap (λ v. product v (leftSum w size m A χ e x (c / 16) c)) (gone c h) ∙ product-zero _))
-        ∙ sym (sum-blocks N 16 (λ c. product (y c) (leftSum w size m A χ e x (c / 16) c)))
-        ∙ sum-same N _ _ (λ J l. sum-same 16 _ _ (λ s k. ap (λ j. product (y (J * 16 + s)) (leftSum w size m A χ e x j (J * 16 + s))) (digits-div J k)))
+        sym (sum-short n (N * 16) (λ c. byteProduct (y c) (leftSum w size m A χ e x (c / 16) c)) enough (λ c h l. ap (λ v. byteProduct v (leftSum w size m A χ e x (c / 16) c)) (gone c h) ∙ product-zero _))
+        ∙ sym (sum-blocks N 16 (λ c. byteProduct (y c) (leftSum w size m A χ e x (c / 16) c)))
+        ∙ sum-same N _ _ (λ J l. sum-same 16 _ _ (λ s k. ap (λ j. byteProduct (y (J * 16 + s)) (leftSum w size m A χ e x j (J * 16 + s))) (digits-div J k)))
 
     pub lines-added : (L₀ L : List ℕ) → ((i c : ℕ) → i < m → c < n → Added w size A x L₀ L i c)
-        → xorSum n (λ c. product (y c) (lineSum L m χ e c))
-        ≡ bitXor (xorSum n (λ c. product (y c) (lineSum L₀ m χ e c))) (xorSum N (λ J. xorSum 16 (λ s. product (y (J * 16 + s)) (leftSum w size m A χ e x J (J * 16 + s)))))
+        → xorSum n (λ c. byteProduct (y c) (lineSum L m χ e c))
+        ≡ bitXor (xorSum n (λ c. byteProduct (y c) (lineSum L₀ m χ e c))) (xorSum N (λ J. xorSum 16 (λ s. byteProduct (y (J * 16 + s)) (leftSum w size m A χ e x J (J * 16 + s)))))
     lines-added L₀ L are =
-        sum-same n _ (λ c. bitXor (product (y c) (lineSum L₀ m χ e c)) (product (y c) (leftSum w size m A χ e x (c / 16) c)))
-        (λ c l. ap (product (y c)) (line-added L₀ L c (λ i k. are i c k l)) ∙ product-xor (y c) (lineSum L₀ m χ e c) (leftSum w size m A χ e x (c / 16) c))
-        ∙ sum-both n (λ c. product (y c) (lineSum L₀ m χ e c)) (λ c. product (y c) (leftSum w size m A χ e x (c / 16) c))
-        ∙ ap (bitXor (xorSum n (λ c. product (y c) (lineSum L₀ m χ e c)))) by-panels
+        sum-same n _ (λ c. bitXor (byteProduct (y c) (lineSum L₀ m χ e c)) (byteProduct (y c) (leftSum w size m A χ e x (c / 16) c)))
+        (λ c l. ap (byteProduct (y c)) (line-added L₀ L c (λ i k. are i c k l)) ∙ product-xor (y c) (lineSum L₀ m χ e c) (leftSum w size m A χ e x (c / 16) c))
+        ∙ sum-both n (λ c. byteProduct (y c) (lineSum L₀ m χ e c)) (λ c. byteProduct (y c) (leftSum w size m A χ e x (c / 16) c))
+        ∙ ap (bitXor (xorSum n (λ c. byteProduct (y c) (lineSum L₀ m χ e c)))) by-panels
 
 -- the columns q, and then the lines b with what was added, p
 pub both-halves : (v b p q : ℕ) → bitXor (bitXor v q) (bitXor b p) ≡ bitXor (bitXor v (bitXor p q)) b

@@ -23,9 +23,9 @@ use Rattle.chunks.specs.Chunks.{chunk, cellAt}
 use Rattle.chunks.proofs.BitSumLaws.{sum-swap, sum-blocks}
 use Rattle.forms_choices.specs.Entries.{Tabled, choice, Chosen, lookedUp, Weighed}
 use Rattle.forms_choices.proofs.ChoiceLaws.{chosen-sum}
-use Rattle.forms_columns.specs.Stacks.{alpha, product}
+use Rattle.forms_columns.specs.Stacks.{alpha, byteProduct}
 use Rattle.forms_columns.proofs.ProductLaws.{product-comm, byte-bits}
-use Rattle.forms_batching.specs.Batched.{most}
+use Rattle.protocol.specs.Shape.{mostVariables}
 use Rattle.forms_batching.specs.Lines.{lineBit, leftByte, leftBit, lineSum}
 use Rattle.forms_batching.proofs.FormLaws.{product-one}
 use Rattle.forms_batching.proofs.StackLaws.{scaled-lt, planes-added}
@@ -33,7 +33,7 @@ use Rattle.forms_batching.proofs.StackLaws.{scaled-lt, planes-added}
 -- ---- a chunk, added under masks
 
 -- what a half of a chunk of sums comes to
-pub half-left-bit : (cells bits : List ℕ) (s x : ℕ → ℕ) (m i J h z : ℕ) → ((k : ℕ) → byteAt cells k < 256) → ((c : ℕ) → x c < 2) → ((c : ℕ) → c < most → byteAt bits c ≡ x c * 255) → J < 10 → h < 2
+pub half-left-bit : (cells bits : List ℕ) (s x : ℕ → ℕ) (m i J h z : ℕ) → ((k : ℕ) → byteAt cells k < 256) → ((c : ℕ) → x c < 2) → ((c : ℕ) → c < mostVariables → byteAt bits c ≡ x c * 255) → J < 10 → h < 2
     → ((k : ℕ) → k < chunk → s k ≡ leftByte cells m bits i J k) → bitOf (xorSum 16 (λ f. s (h * 16 + f))) z ≡ leftBit cells m x i J h z
 unfolding leftBit
 half-left-bit cells bits s x m i J h z small bit masks hJ hh are =
@@ -101,7 +101,7 @@ alpha-lt p = gf256 .byte-lt _
 planes-sum : (S : List ℕ) (χ : ℕ → ℕ) (m f z : ℕ) → ((i : ℕ) → i < m → χ i < 256)
     → xorSum 8 (λ p. bitOf (xorSum m (λ i. bitOf (χ i) p * cellAt S i f)) z * alpha p) ≡ xorSum m (λ i. bitOf (cellAt S i f) z * χ i)
 planes-sum S χ m f z small =
-    sum-same 8 _ (λ p. xorSum m (λ i. bitOf (χ i) p * bitOf (cellAt S i f) z) * product (alpha p) 1)
+    sum-same 8 _ (λ p. xorSum m (λ i. bitOf (χ i) p * bitOf (cellAt S i f) z) * byteProduct (alpha p) 1)
     (λ p l. ap₂ _*_ (bitOf-sum m (λ i. bitOf (χ i) p * cellAt S i f) z ∙ sum-same m _ _ (λ i k. bit-times (bitOf (χ i) p) (cellAt S i f) z (bitOf-lt (χ i) p)))
     (sym (product-comm (alpha p) 1 ∙ product-one (alpha p) (alpha-lt p))))
     ∙ planes-added m 1 χ (λ i. bitOf (cellAt S i f) z) small (λ i. bitOf-lt (cellAt S i f) z)

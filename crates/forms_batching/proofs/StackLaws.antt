@@ -14,7 +14,7 @@ use Rattle.strings.proofs.ProductLaws.{bit-times-lt}
 use Rattle.lanes.specs.Lanes.{lanes, laneAt}
 use Rattle.chunks.specs.Chunks.{chunk}
 use Rattle.chunks.proofs.BitSumLaws.{sum-swap, times-sum, bit-sum}
-use Rattle.forms_columns.specs.Stacks.{alpha, product, planes, stackAt, stackOf}
+use Rattle.forms_columns.specs.Stacks.{alpha, byteProduct, planes, stackAt, stackOf}
 use Rattle.forms_columns.proofs.ProductLaws.{product-comm, byte-bits, product-bits}
 
 pub scaled-lt : (q x : ℕ) → q < 2 → x < 256 → q * x < 256
@@ -28,14 +28,14 @@ order : (a b x : ℕ) → a * b * x ≡ b * (a * x)
 order a b x = ap (λ y. y * x) (mul-comm a b) ∙ mul-assoc b a x
 
 pub planes-added : (m v : ℕ) (χ y : ℕ → ℕ) → ((i : ℕ) → i < m → χ i < 256) → ((i : ℕ) → y i < 2)
-    → xorSum 8 (λ p. xorSum m (λ i. bitOf (χ i) p * y i) * product (alpha p) v) ≡ product v (xorSum m (λ i. y i * χ i))
+    → xorSum 8 (λ p. xorSum m (λ i. bitOf (χ i) p * y i) * byteProduct (alpha p) v) ≡ byteProduct v (xorSum m (λ i. y i * χ i))
 planes-added m v χ y small bits =
-    sum-same 8 _ (λ p. xorSum m (λ i. bitOf (χ i) p * y i * product (alpha p) v)) (λ p l. times-sum m (λ i. bitOf (χ i) p * y i) (product (alpha p) v) (λ i. bit-times-lt (bitOf (χ i) p) (y i) (bitOf-lt (χ i) p) (bits i)))
-    ∙ sum-swap 8 m (λ p i. bitOf (χ i) p * y i * product (alpha p) v)
-    ∙ sum-same m _ (λ i. y i * product v (χ i)) (λ i l.
-    sum-same 8 _ (λ p. y i * (bitOf (χ i) p * product v (alpha p))) (λ p k. order (bitOf (χ i) p) (y i) (product (alpha p) v) ∙ ap (λ x. y i * (bitOf (χ i) p * x)) (product-comm (alpha p) v))
-    ∙ sym (bit-sum (y i) 8 (λ p. bitOf (χ i) p * product v (alpha p)) (bits i))
-    ∙ ap (λ x. y i * x) (product-bits v 8 (bitOf (χ i)) alpha (bitOf-lt (χ i)) ∙ ap (product v) (byte-bits (χ i) (small i l))))
+    sum-same 8 _ (λ p. xorSum m (λ i. bitOf (χ i) p * y i * byteProduct (alpha p) v)) (λ p l. times-sum m (λ i. bitOf (χ i) p * y i) (byteProduct (alpha p) v) (λ i. bit-times-lt (bitOf (χ i) p) (y i) (bitOf-lt (χ i) p) (bits i)))
+    ∙ sum-swap 8 m (λ p i. bitOf (χ i) p * y i * byteProduct (alpha p) v)
+    ∙ sum-same m _ (λ i. y i * byteProduct v (χ i)) (λ i l.
+    sum-same 8 _ (λ p. y i * (bitOf (χ i) p * byteProduct v (alpha p))) (λ p k. order (bitOf (χ i) p) (y i) (byteProduct (alpha p) v) ∙ ap (λ x. y i * (bitOf (χ i) p * x)) (product-comm (alpha p) v))
+    ∙ sym (bit-sum (y i) 8 (λ p. bitOf (χ i) p * byteProduct v (alpha p)) (bits i))
+    ∙ ap (λ x. y i * x) (product-bits v 8 (bitOf (χ i)) alpha (bitOf-lt (χ i)) ∙ ap (byteProduct v) (byte-bits (χ i) (small i l))))
     ∙ product-bits v m y χ bits
 
 -- ---- stacks whose bytes are known

@@ -1,28 +1,32 @@
-// The lines of the equations, in which the prover's bits are added from the left, and their batch times the vectors of the repetitions. A line is a chunk
-// of bits, one for each coordinate: the coefficients of a linear form. The cells, and the words of what the batching bytes choose, are public; lines,
-// bits, vectors, and the sums of any of them are secret: no branch and no index goes by them.
+// The lines of the equations, in which the prover's bits are added from the left, and their batch times the vectors of
+// the repetitions. A line is a chunk of bits, one for each coordinate: the coefficients of a linear form. The cells,
+// and the words of what the batching bytes choose, are public; lines, bits, vectors, and the sums of any of them are
+// secret: no branch and no index goes by them.
 ghost use mathlib.Core.Path.{_≡_};
 ghost use mathlib.Core.Bool.{true, false};
 ghost use mathlib.Core.List.{List};
 ghost use Prim.Native.Nat.{ℕ, _+_, _*_, _/_, _%_, _<_, _≤_};
 ghost use lib.ListN.{length};
 ghost use lib.Bits.{bitXor, bitAnd};
+ghost use Rattle.protocol.specs.Shape.{mostVariables, mostEquations};
 ghost use Rattle.strings.specs.Sums.{byteAt, bitOf, xorSum};
+ghost use Rattle.strings.specs.Rows.{RowsKept};
 ghost use Rattle.lanes.specs.Lanes.{lanes};
 ghost use Rattle.chunks.specs.Chunks.{chunk, cellAt};
-ghost use Rattle.forms_choices.specs.Entries.{Chosen, lookedUp, InWords, Weighed};
-ghost use Rattle.forms_columns.specs.Stacks.{product};
-ghost use Rattle.forms_batching.specs.Batched.{most};
-ghost use Rattle.forms_batching.specs.Lines.{lineBit, leftByte, leftBit, lineSum};
-use super::stacks::MOST;
+ghost use Rattle.forms_choices.specs.Entries.{mostSums, lookedUp, InWords, ChosenAll, WordsFit, GroupsFor, Weighed};
+ghost use Rattle.forms_columns.specs.Stacks.{byteProduct};
+ghost use Rattle.forms_batching.specs.Batched.{IsBytes, WeighedAll, VectorsFit, PanelCells, SumsRoom};
+ghost use Rattle.forms_batching.specs.Lines.{leftByte, lineSum, LeftAdded, LinesBeside, weighedLine, lineProduct};
 use chunks::CHUNK;
 use chunks::cells::copy_part;
 use chunks::turns::EIGHT_ROWS;
 use chunks::turns::turn_rows;
 use field::Gf256;
+use format::sizes::MOST_VARIABLES;
+use strings::SIXTEEN;
 
-// The bytes of eight planes, each a chunk.
-const EIGHT_PLANES: usize = 8 * CHUNK;
+// A plane for each bit of an element, each a chunk.
+const ELEMENT_PLANES: usize = Gf256::DEGREE * CHUNK;
 
 // As many elements as two turns give.
 const ELEMENTS: usize = 2 * EIGHT_ROWS;
@@ -31,26 +35,27 @@ const ELEMENTS: usize = 2 * EIGHT_ROWS;
 fn add_masked(acc: &mut [u8; CHUNK], cells: &[u8], at: usize, bits: &[u8], from: usize)
     requires { ⌜ (length (now acc) ≡ chunk) × (at + chunk ≤ length (now cells)) × (from + 16 ≤ length (now bits)) ⌝ }
     ensures { λ _. ⌜ length (now (acc .exit)) ≡ chunk ⌝ }
-    ensures { λ _. ⌜ ((k : ℕ) → k < chunk → byteAt (now (acc .exit)) k ≡ bitXor (byteAt (now (acc .entry)) k) (bitAnd (byteAt (now (cells .entry)) (at + k)) (byteAt (now (bits .entry)) (from + k % 16)))) ⌝ }
+    ensures { λ _. ⌜ ((k : ℕ) → k < chunk
+        → byteAt (now (acc .exit)) k ≡ bitXor (byteAt (now (acc .entry)) k) (bitAnd (byteAt (now (cells .entry)) (at + k)) (byteAt (now (bits .entry)) (from + k % 16)))) ⌝ }
 {
     let mut f = 0;
-    while f < 16 {
+    while f < SIXTEEN {
         acc[f] ^= cells[at + f] & bits[from + f];
-        acc[16 + f] ^= cells[at + 16 + f] & bits[from + f];
+        acc[SIXTEEN + f] ^= cells[at + SIXTEEN + f] & bits[from + f];
         f += 1;
     }
 }
 
 // Chunk i of the sums becomes the sum of the panel's chunks of matrix i, in the rows whose bits are set.
 fn sum_left(sums: &mut [u8], i: usize, cells: &[u8], m: usize, panel: usize, bits: &[u8])
-    requires { ⌜ (i < m) × (m * chunk ≤ length (now sums)) × ((panel + 1) * (m * chunk) ≤ length (now cells)) × (panel < 10) × (m ≤ 160) × (length (now bits) ≡ most) ⌝ }
+    requires { ⌜ (i < m) × (m * chunk ≤ length (now sums)) × PanelCells m panel (now cells) × (panel < 10) × (m ≤ mostEquations) × (length (now bits) ≡ mostVariables) ⌝ }
     ensures { λ _. ⌜ ((k : ℕ) → k < chunk → cellAt (now (sums .exit)) i k ≡ leftByte (now (cells .entry)) m (now (bits .entry)) i panel k) ⌝ }
-    ensures { λ _. ⌜ ((j k : ℕ) → (j ≡ i → ⊥) → k < chunk → cellAt (now (sums .exit)) j k ≡ cellAt (now (sums .entry)) j k) ⌝ }
+    ensures { λ _. ⌜ RowsKept chunk i (now (sums .entry)) (now (sums .exit)) ⌝ }
 {
     let mut acc = [0u8; CHUNK];
     let mut q = 0;
     while q <= panel {
-        add_masked(&mut acc, cells, (q * m + i) * CHUNK, bits, q * 16);
+        add_masked(&mut acc, cells, (q * m + i) * CHUNK, bits, q * SIXTEEN);
         q += 1;
     }
     copy_part(sums, i, CHUNK, &acc, 0);
@@ -58,7 +63,7 @@ fn sum_left(sums: &mut [u8], i: usize, cells: &[u8], m: usize, panel: usize, bit
 
 // The same for each of the m matrices.
 fn sum_each(sums: &mut [u8], cells: &[u8], m: usize, panel: usize, bits: &[u8])
-    requires { ⌜ (m * chunk ≤ length (now sums)) × ((panel + 1) * (m * chunk) ≤ length (now cells)) × (panel < 10) × (m ≤ 160) × (length (now bits) ≡ most) ⌝ }
+    requires { ⌜ (m * chunk ≤ length (now sums)) × PanelCells m panel (now cells) × (panel < 10) × (m ≤ mostEquations) × (length (now bits) ≡ mostVariables) ⌝ }
     ensures { λ _. ⌜ ((i k : ℕ) → i < m → k < chunk → cellAt (now (sums .exit)) i k ≡ leftByte (now (cells .entry)) m (now (bits .entry)) i panel k) ⌝ }
 {
     let mut i = 0;
@@ -68,24 +73,25 @@ fn sum_each(sums: &mut [u8], cells: &[u8], m: usize, panel: usize, bits: &[u8])
     }
 }
 
-// Adds to each line its two sums of sixteen bytes, at the panel's columns. They are taken from memory: of a chunk in registers the compiler would make a
-// chain of bytes.
+// Adds to each line its two sums of sixteen bytes, at the panel's columns. They are taken from memory: of a chunk in
+// registers the compiler would make a chain of bytes.
 fn add_each(lines: &mut [u8], sums: &[u8], m: usize, panel: usize)
-    requires { ⌜ (m * chunk ≤ length (now lines)) × (m * chunk ≤ length (now sums)) × (panel < 10) × (m ≤ 160) ⌝ }
-    ensures { λ _. ⌜ ((i h : ℕ) → i < m → h < 2 → cellAt (now (lines .exit)) i (panel * 2 + h) ≡ bitXor (cellAt (now (lines .entry)) i (panel * 2 + h)) (xorSum 16 (λ f. cellAt (now (sums .entry)) i (h * 16 + f)))) ⌝ }
-    ensures { λ _. ⌜ ((i k : ℕ) → k < chunk → (k / 2 ≡ panel → ⊥) → cellAt (now (lines .exit)) i k ≡ cellAt (now (lines .entry)) i k) ⌝ }
+    requires { ⌜ (m * chunk ≤ length (now lines)) × (m * chunk ≤ length (now sums)) × (panel < 10) × (m ≤ mostEquations) ⌝ }
+    ensures { λ _. ⌜ ((i h : ℕ) → i < m → h < 2
+        → cellAt (now (lines .exit)) i (panel * 2 + h) ≡ bitXor (cellAt (now (lines .entry)) i (panel * 2 + h)) (xorSum 16 (λ f. cellAt (now (sums .entry)) i (h * 16 + f)))) ⌝ }
+    ensures { λ _. ⌜ LinesBeside panel (now (lines .entry)) (now (lines .exit)) ⌝ }
 {
     let mut i = 0;
     while i < m {
         let at = i * CHUNK + panel * 2;
         lines[at] ^= forms_columns::sum_at(sums, i * CHUNK);
-        lines[at + 1] ^= forms_columns::sum_at(sums, i * CHUNK + 16);
+        lines[at + 1] ^= forms_columns::sum_at(sums, i * CHUNK + SIXTEEN);
         i += 1;
     }
 }
 
-// Adds to each line a panel of its folded matrix, times the bits from the left, where the polar form is asked for. The bits are lent as masks. `sums` is
-// space.
+// Adds to each line a panel of its folded matrix, times the bits from the left, where the polar form is asked for. The
+// bits are lent as masks. `sums` is space.
 pub fn add_left(
     lines: &mut [u8],
     sums: &mut [u8],
@@ -95,9 +101,9 @@ pub fn add_left(
     bits: &[u8],
     polar: bool,
 )
-    requires { ⌜ (m * chunk ≤ length (now lines)) × ((panel + 1) * (m * chunk) ≤ length (now cells)) × (panel < 10) × (m ≤ 160) × (length (now bits) ≡ most) × (m * chunk ≤ length (now sums)) ⌝ }
-    ensures { λ _. ⌜ (polar ≡ true → (x : ℕ → ℕ) (i h z : ℕ) → ((c : ℕ) → x c < 2) → ((c : ℕ) → c < most → byteAt (now (bits .entry)) c ≡ x c * 255) → i < m → h < 2 → z < 8 → bitOf (cellAt (now (lines .exit)) i (panel * 2 + h)) z ≡ bitXor (bitOf (cellAt (now (lines .entry)) i (panel * 2 + h)) z) (leftBit (now (cells .entry)) m x i panel h z)) ⌝ }
-    ensures { λ _. ⌜ ((i k : ℕ) → k < chunk → (k / 2 ≡ panel → ⊥) → cellAt (now (lines .exit)) i k ≡ cellAt (now (lines .entry)) i k) ⌝ }
+    requires { ⌜ (m * chunk ≤ length (now lines)) × PanelCells m panel (now cells) × (panel < 10) × (m ≤ mostEquations) × (length (now bits) ≡ mostVariables) × (m * chunk ≤ length (now sums)) ⌝ }
+    ensures { λ _. ⌜ (polar ≡ true → LeftAdded m panel (now (bits .entry)) (now (cells .entry)) (now (lines .entry)) (now (lines .exit))) ⌝ }
+    ensures { λ _. ⌜ LinesBeside panel (now (lines .entry)) (now (lines .exit)) ⌝ }
     ensures { λ _. ⌜ (polar ≡ false → now (lines .exit) ≡ now (lines .entry)) ⌝ }
 {
     if polar {
@@ -108,12 +114,12 @@ pub fn add_left(
 
 // The sum of the products of the coordinates.
 fn dot(f: &[u8], t: &[u8]) -> u8
-    requires { ⌜ (most ≤ length (now f)) × (most ≤ length (now t)) ⌝ }
-    ensures { λ r. ⌜ r ≡ xorSum most (λ c. product (byteAt (now (f .entry)) c) (byteAt (now (t .entry)) c)) ⌝ }
+    requires { ⌜ (mostVariables ≤ length (now f)) × (mostVariables ≤ length (now t)) ⌝ }
+    ensures { λ r. ⌜ r ≡ xorSum mostVariables (λ c. byteProduct (byteAt (now (f .entry)) c) (byteAt (now (t .entry)) c)) ⌝ }
 {
     let mut sum: u8 = 0;
     let mut c = 0;
-    while c < MOST {
+    while c < MOST_VARIABLES {
         sum ^= Gf256::multiply(f[c], t[c]);
         c += 1;
     }
@@ -122,9 +128,9 @@ fn dot(f: &[u8], t: &[u8]) -> u8
 
 // Plane p becomes the sum of the entries that row r of the words chooses.
 fn look_up_plane(planes: &mut [u8], p: usize, words: &[u64], r: usize, groups: usize, sums: &[u8])
-    requires { ⌜ (p * chunk + chunk ≤ length (now planes)) × (r * 4 + 4 ≤ length (now words)) × InWords groups × (32768 ≤ length (now sums)) ⌝ }
+    requires { ⌜ (p * chunk + chunk ≤ length (now planes)) × (r * 4 + 4 ≤ length (now words)) × InWords groups × (mostSums ≤ length (now sums)) ⌝ }
     ensures { λ _. ⌜ ((f : ℕ) → f < chunk → cellAt (now (planes .exit)) p f ≡ lookedUp (now (sums .entry)) (now (words .entry)) r groups f) ⌝ }
-    ensures { λ _. ⌜ ((q f : ℕ) → (q ≡ p → ⊥) → f < chunk → cellAt (now (planes .exit)) q f ≡ cellAt (now (planes .entry)) q f) ⌝ }
+    ensures { λ _. ⌜ RowsKept chunk p (now (planes .entry)) (now (planes .exit)) ⌝ }
 {
     let at = p * CHUNK;
     forms_choices::sums::look_up(&mut planes[at..at + CHUNK], words, r, groups, sums);
@@ -132,11 +138,11 @@ fn look_up_plane(planes: &mut [u8], p: usize, words: &[u64], r: usize, groups: u
 
 // The eight planes of the batched line whose rows of words begin with row `base`.
 fn look_up_planes(planes: &mut [u8], words: &[u64], base: usize, groups: usize, sums: &[u8])
-    requires { ⌜ (length (now planes) ≡ 8 * chunk) × ((base + 8) * 4 ≤ length (now words)) × InWords groups × (32768 ≤ length (now sums)) ⌝ }
+    requires { ⌜ (length (now planes) ≡ 8 * chunk) × ((base + 8) * 4 ≤ length (now words)) × InWords groups × (mostSums ≤ length (now sums)) ⌝ }
     ensures { λ _. ⌜ ((p f : ℕ) → p < 8 → f < chunk → cellAt (now (planes .exit)) p f ≡ lookedUp (now (sums .entry)) (now (words .entry)) (base + p) groups f) ⌝ }
 {
     let mut p = 0;
-    while p < 8 {
+    while p < Gf256::DEGREE {
         look_up_plane(planes, p, words, base + p, groups, sums);
         p += 1;
     }
@@ -146,24 +152,29 @@ fn look_up_planes(planes: &mut [u8], words: &[u64], base: usize, groups: usize, 
 fn turn_half(elements: &mut [u8], h: usize, planes: &[u8])
     requires { ⌜ (h * 128 + 128 ≤ length (now elements)) × (length (now planes) ≡ 8 * chunk) × (h < 2) ⌝ }
     ensures { λ _. ⌜ ((r p : ℕ) → r < 128 → p < 8 → bitOf (byteAt (now (elements .exit)) (h * 128 + r)) p ≡ bitOf (cellAt (now (planes .entry)) p (h * 16 + r / 8)) (r % 8)) ⌝ }
-    ensures { λ _. ⌜ ((q r : ℕ) → (q ≡ h → ⊥) → r < 128 → byteAt (now (elements .exit)) (q * 128 + r) ≡ byteAt (now (elements .entry)) (q * 128 + r)) ⌝ }
+    ensures { λ _. ⌜ RowsKept 128 h (now (elements .entry)) (now (elements .exit)) ⌝ }
     ensures { λ _. ⌜ ((k : ℕ) → byteAt (now (elements .exit)) k < 256) ⌝ }
 {
     let at = h * EIGHT_ROWS;
-    turn_rows(&mut elements[at..at + EIGHT_ROWS], planes, h * 16, CHUNK);
+    turn_rows(
+        &mut elements[at..at + EIGHT_ROWS],
+        planes,
+        h * SIXTEEN,
+        CHUNK,
+    );
 }
 
 // The batched line of repetition e times its vector.
 fn line_product(words: &[u64], e: usize, groups: usize, sums: &[u8], vectors: &[u8]) -> u8
-    requires { ⌜ ((e * 8 + 8) * 4 ≤ length (now words)) × (e < lanes) × InWords groups × (32768 ≤ length (now sums)) × (e * most + most ≤ length (now vectors)) ⌝ }
-    ensures { λ r. ⌜ ((S : List ℕ) (χ : ℕ → ℕ) (m : ℕ) → Weighed S χ m (now (sums .entry)) (now (words .entry)) groups (e * 8) → r ≡ xorSum most (λ c. product (byteAt (now (vectors .entry)) (e * most + c)) (xorSum m (λ i. lineBit S i c * χ i)))) ⌝ }
+    requires { ⌜ ((e * 8 + 8) * 4 ≤ length (now words)) × (e < lanes) × InWords groups × (mostSums ≤ length (now sums)) × (e * mostVariables + mostVariables ≤ length (now vectors)) ⌝ }
+    ensures { λ r. ⌜ ((S : List ℕ) (χ : ℕ → ℕ) (m : ℕ) → Weighed S χ m (now (sums .entry)) (now (words .entry)) groups (e * 8) → r ≡ lineProduct (now (vectors .entry)) e (weighedLine S χ m)) ⌝ }
 {
-    let mut planes = [0u8; EIGHT_PLANES];
+    let mut planes = [0u8; ELEMENT_PLANES];
     let mut elements = [0u8; ELEMENTS];
-    look_up_planes(&mut planes, words, e * 8, groups, sums);
+    look_up_planes(&mut planes, words, e * Gf256::DEGREE, groups, sums);
     turn_half(&mut elements, 0, &planes);
     turn_half(&mut elements, 1, &planes);
-    dot(strings::row_at(vectors, MOST, e), &elements)
+    dot(strings::row_at(vectors, MOST_VARIABLES, e), &elements)
 }
 
 // Adds to each of the first tau places of mid the product of its repetition.
@@ -175,8 +186,9 @@ fn add_products(
     sums: &[u8],
     vectors: &[u8],
 )
-    requires { ⌜ (length (now mid) ≡ lanes) × (tau ≤ lanes) × (tau * 8 * 4 ≤ length (now words)) × InWords groups × (32768 ≤ length (now sums)) × (tau * most ≤ length (now vectors)) ⌝ }
-    ensures { λ _. ⌜ ((S : List ℕ) (χ : ℕ → ℕ → ℕ) (m e : ℕ) → ((q : ℕ) → q < tau → Weighed S (χ q) m (now (sums .entry)) (now (words .entry)) groups (q * 8)) → e < tau → byteAt (now (mid .exit)) e ≡ bitXor (byteAt (now (mid .entry)) e) (xorSum most (λ c. product (byteAt (now (vectors .entry)) (e * most + c)) (xorSum m (λ i. lineBit S i c * χ e i))))) ⌝ }
+    requires { ⌜ (length (now mid) ≡ lanes) × (tau ≤ lanes) × WordsFit tau (now words) × InWords groups × (mostSums ≤ length (now sums)) × VectorsFit tau (now vectors) ⌝ }
+    ensures { λ _. ⌜ ((S : List ℕ) (χ : ℕ → ℕ → ℕ) (m e : ℕ) → WeighedAll S χ m (now (sums .entry)) (now (words .entry)) groups tau → e < tau
+        → byteAt (now (mid .exit)) e ≡ bitXor (byteAt (now (mid .entry)) e) (lineProduct (now (vectors .entry)) e (weighedLine S (χ e) m))) ⌝ }
 {
     let mut e = 0;
     while e < tau {
@@ -185,7 +197,8 @@ fn add_products(
     }
 }
 
-// Adds to each place of mid the batched line of its repetition times its vector. `sums` is space for the tables of sums of the lines.
+// Adds to each place of mid the batched line of its repetition times its vector. `sums` is space for the tables of
+// sums of the lines.
 pub fn add_lines(
     mid: &mut [u8],
     sums: &mut [u8],
@@ -196,8 +209,10 @@ pub fn add_lines(
     groups: usize,
     vectors: &[u8],
 )
-    requires { ⌜ (length (now mid) ≡ lanes) × (length (now sums) ≡ 32768) × (m * chunk ≤ length (now lines)) × (0 < m) × (m ≤ 160) × (tau ≤ lanes) × (InWords groups × (m ≤ groups * 5)) × (tau * 8 * 4 ≤ length (now words)) × (tau * most ≤ length (now vectors)) ⌝ }
-    ensures { λ _. ⌜ ((χ : List ℕ) (e : ℕ) → ((k : ℕ) → byteAt χ k < 256) → ((r : ℕ) → r < tau * 8 → Chosen χ m (now (words .entry)) r) → e < tau → byteAt (now (mid .exit)) e ≡ bitXor (byteAt (now (mid .entry)) e) (xorSum most (λ c. product (byteAt (now (vectors .entry)) (e * most + c)) (lineSum (now (lines .entry)) m χ e c)))) ⌝ }
+    requires { ⌜ (length (now mid) ≡ lanes) × SumsRoom (now sums) × (m * chunk ≤ length (now lines))
+        × (0 < m) × (m ≤ mostEquations) × (tau ≤ lanes) × GroupsFor m groups × WordsFit tau (now words) × VectorsFit tau (now vectors) ⌝ }
+    ensures { λ _. ⌜ ((χ : List ℕ) (e : ℕ) → IsBytes χ → ChosenAll χ m tau (now (words .entry)) → e < tau
+        → byteAt (now (mid .exit)) e ≡ bitXor (byteAt (now (mid .entry)) e) (lineProduct (now (vectors .entry)) e (lineSum (now (lines .entry)) m χ e))) ⌝ }
 {
     forms_choices::sums::fill_sums(sums, groups, m, &lines[..m * CHUNK]);
     add_products(mid, tau, words, groups, sums, vectors);

@@ -13,7 +13,7 @@ use Rattle.strings.proofs.SumLaws.{sum-same, sum-parts, sum-past}
 use Rattle.strings.proofs.Meaning.{bitOf-lt}
 use Rattle.chunks.specs.Chunks.{chunk, cellAt}
 use Rattle.chunks.proofs.BitSumLaws.{sum-blocks}
-use Rattle.forms_choices.specs.Entries.{entryByte, choice, five, wordOf, rowFive, Chosen, wordByte, lookedUp, InWords, Weighed}
+use Rattle.forms_choices.specs.Entries.{entryByte, choice, five, fivesWord, rowFive, Chosen, wordByte, lookedUp, InWords, Weighed}
 
 -- ---- the five bits of a choice
 
@@ -61,7 +61,7 @@ entry-chosen S χ p g f =
 -- ---- words
 
 -- the fives of a word, each by those below it
-word-digits : (P : List ℕ) (at w : ℕ) → w ≡ wordOf P at
+word-digits : (P : List ℕ) (at w : ℕ) → w ≡ fivesWord P at
     → (byteAt P at < 32 → w / 1 % 32 ≡ byteAt P at) × (byteAt P at < 32 → byteAt P (at + 1) < 32 → w / 32 % 32 ≡ byteAt P (at + 1)) × (byteAt P at < 32 → byteAt P (at + 1) < 32 → byteAt P (at + 2) < 32 → w / 1024 % 32 ≡ byteAt P (at + 2)) × (byteAt P at < 32 → byteAt P (at + 1) < 32 → byteAt P (at + 2) < 32 → byteAt P (at + 3) < 32 → w / 32768 % 32 ≡ byteAt P (at + 3)) × (byteAt P at < 32 → byteAt P (at + 1) < 32 → byteAt P (at + 2) < 32 → byteAt P (at + 3) < 32 → byteAt P (at + 4) < 32 → w / 1048576 % 32 ≡ byteAt P (at + 4)) × (byteAt P at < 32 → byteAt P (at + 1) < 32 → byteAt P (at + 2) < 32 → byteAt P (at + 3) < 32 → byteAt P (at + 4) < 32 → byteAt P (at + 5) < 32 → w / 33554432 % 32 ≡ byteAt P (at + 5)) × (byteAt P at < 32 → byteAt P (at + 1) < 32 → byteAt P (at + 2) < 32 → byteAt P (at + 3) < 32 → byteAt P (at + 4) < 32 → byteAt P (at + 5) < 32 → byteAt P (at + 6) < 32 → w / 1073741824 % 32 ≡ byteAt P (at + 6)) × (byteAt P at < 32 → byteAt P (at + 1) < 32 → byteAt P (at + 2) < 32 → byteAt P (at + 3) < 32 → byteAt P (at + 4) < 32 → byteAt P (at + 5) < 32 → byteAt P (at + 6) < 32 → byteAt P (at + 7) < 32 → w / 34359738368 % 32 ≡ byteAt P (at + 7)) × (byteAt P at < 32 → byteAt P (at + 1) < 32 → byteAt P (at + 2) < 32 → byteAt P (at + 3) < 32 → byteAt P (at + 4) < 32 → byteAt P (at + 5) < 32 → byteAt P (at + 6) < 32 → byteAt P (at + 7) < 32 → byteAt P (at + 8) < 32 → w / 1099511627776 % 32 ≡ byteAt P (at + 8)) × (byteAt P at < 32 → byteAt P (at + 1) < 32 → byteAt P (at + 2) < 32 → byteAt P (at + 3) < 32 → byteAt P (at + 4) < 32 → byteAt P (at + 5) < 32 → byteAt P (at + 6) < 32 → byteAt P (at + 7) < 32 → byteAt P (at + 8) < 32 → byteAt P (at + 9) < 32 → w / 35184372088832 % 32 ≡ byteAt P (at + 9))
 word-digits P at w is = (
   (λ l0. omega arith),
@@ -77,21 +77,21 @@ word-digits P at w is = (
 )
 
 -- a word holds its fives
-pub word-five : (P : List ℕ) (at j : ℕ) → j < 10 → ((i : ℕ) → i ≤ j → byteAt P (at + i) < 32) → five (wordOf P at) j ≡ byteAt P (at + j)
+pub word-five : (P : List ℕ) (at j : ℕ) → j < 10 → ((i : ℕ) → i ≤ j → byteAt P (at + i) < 32) → five (fivesWord P at) j ≡ byteAt P (at + j)
 unfolding five
 word-five P at j h small = go j h small
   where
-    go : (j : ℕ) → j < 10 → ((i : ℕ) → i ≤ j → byteAt P (at + i) < 32) → wordOf P at / 2 ^ (5 * j) % 32 ≡ byteAt P (at + j)
-    go zero h l = word-digits P at (wordOf P at) refl .0 (rw (add-zero at) at (l 0 (omega arith))) ∙ ap (byteAt P) (sym (add-zero at))
-    go (suc zero) h l = word-digits P at (wordOf P at) refl .1 (rw (add-zero at) at (l 0 (omega arith))) (l 1 (omega arith))
-    go (suc (suc zero)) h l = word-digits P at (wordOf P at) refl .2 (rw (add-zero at) at (l 0 (omega arith))) (l 1 (omega arith)) (l 2 (omega arith))
-    go (suc (suc (suc zero))) h l = word-digits P at (wordOf P at) refl .3 (rw (add-zero at) at (l 0 (omega arith))) (l 1 (omega arith)) (l 2 (omega arith)) (l 3 (omega arith))
-    go (suc (suc (suc (suc zero)))) h l = word-digits P at (wordOf P at) refl .4 (rw (add-zero at) at (l 0 (omega arith))) (l 1 (omega arith)) (l 2 (omega arith)) (l 3 (omega arith)) (l 4 (omega arith))
-    go (suc (suc (suc (suc (suc zero))))) h l = word-digits P at (wordOf P at) refl .5 (rw (add-zero at) at (l 0 (omega arith))) (l 1 (omega arith)) (l 2 (omega arith)) (l 3 (omega arith)) (l 4 (omega arith)) (l 5 (omega arith))
-    go (suc (suc (suc (suc (suc (suc zero)))))) h l = word-digits P at (wordOf P at) refl .6 (rw (add-zero at) at (l 0 (omega arith))) (l 1 (omega arith)) (l 2 (omega arith)) (l 3 (omega arith)) (l 4 (omega arith)) (l 5 (omega arith)) (l 6 (omega arith))
-    go (suc (suc (suc (suc (suc (suc (suc zero))))))) h l = word-digits P at (wordOf P at) refl .7 (rw (add-zero at) at (l 0 (omega arith))) (l 1 (omega arith)) (l 2 (omega arith)) (l 3 (omega arith)) (l 4 (omega arith)) (l 5 (omega arith)) (l 6 (omega arith)) (l 7 (omega arith))
-    go (suc (suc (suc (suc (suc (suc (suc (suc zero)))))))) h l = word-digits P at (wordOf P at) refl .8 (rw (add-zero at) at (l 0 (omega arith))) (l 1 (omega arith)) (l 2 (omega arith)) (l 3 (omega arith)) (l 4 (omega arith)) (l 5 (omega arith)) (l 6 (omega arith)) (l 7 (omega arith)) (l 8 (omega arith))
-    go (suc (suc (suc (suc (suc (suc (suc (suc (suc zero))))))))) h l = word-digits P at (wordOf P at) refl .9 (rw (add-zero at) at (l 0 (omega arith))) (l 1 (omega arith)) (l 2 (omega arith)) (l 3 (omega arith)) (l 4 (omega arith)) (l 5 (omega arith)) (l 6 (omega arith)) (l 7 (omega arith)) (l 8 (omega arith)) (l 9 (omega arith))
+    go : (j : ℕ) → j < 10 → ((i : ℕ) → i ≤ j → byteAt P (at + i) < 32) → fivesWord P at / 2 ^ (5 * j) % 32 ≡ byteAt P (at + j)
+    go zero h l = word-digits P at (fivesWord P at) refl .0 (rw (add-zero at) at (l 0 (omega arith))) ∙ ap (byteAt P) (sym (add-zero at))
+    go (suc zero) h l = word-digits P at (fivesWord P at) refl .1 (rw (add-zero at) at (l 0 (omega arith))) (l 1 (omega arith))
+    go (suc (suc zero)) h l = word-digits P at (fivesWord P at) refl .2 (rw (add-zero at) at (l 0 (omega arith))) (l 1 (omega arith)) (l 2 (omega arith))
+    go (suc (suc (suc zero))) h l = word-digits P at (fivesWord P at) refl .3 (rw (add-zero at) at (l 0 (omega arith))) (l 1 (omega arith)) (l 2 (omega arith)) (l 3 (omega arith))
+    go (suc (suc (suc (suc zero)))) h l = word-digits P at (fivesWord P at) refl .4 (rw (add-zero at) at (l 0 (omega arith))) (l 1 (omega arith)) (l 2 (omega arith)) (l 3 (omega arith)) (l 4 (omega arith))
+    go (suc (suc (suc (suc (suc zero))))) h l = word-digits P at (fivesWord P at) refl .5 (rw (add-zero at) at (l 0 (omega arith))) (l 1 (omega arith)) (l 2 (omega arith)) (l 3 (omega arith)) (l 4 (omega arith)) (l 5 (omega arith))
+    go (suc (suc (suc (suc (suc (suc zero)))))) h l = word-digits P at (fivesWord P at) refl .6 (rw (add-zero at) at (l 0 (omega arith))) (l 1 (omega arith)) (l 2 (omega arith)) (l 3 (omega arith)) (l 4 (omega arith)) (l 5 (omega arith)) (l 6 (omega arith))
+    go (suc (suc (suc (suc (suc (suc (suc zero))))))) h l = word-digits P at (fivesWord P at) refl .7 (rw (add-zero at) at (l 0 (omega arith))) (l 1 (omega arith)) (l 2 (omega arith)) (l 3 (omega arith)) (l 4 (omega arith)) (l 5 (omega arith)) (l 6 (omega arith)) (l 7 (omega arith))
+    go (suc (suc (suc (suc (suc (suc (suc (suc zero)))))))) h l = word-digits P at (fivesWord P at) refl .8 (rw (add-zero at) at (l 0 (omega arith))) (l 1 (omega arith)) (l 2 (omega arith)) (l 3 (omega arith)) (l 4 (omega arith)) (l 5 (omega arith)) (l 6 (omega arith)) (l 7 (omega arith)) (l 8 (omega arith))
+    go (suc (suc (suc (suc (suc (suc (suc (suc (suc zero))))))))) h l = word-digits P at (fivesWord P at) refl .9 (rw (add-zero at) at (l 0 (omega arith))) (l 1 (omega arith)) (l 2 (omega arith)) (l 3 (omega arith)) (l 4 (omega arith)) (l 5 (omega arith)) (l 6 (omega arith)) (l 7 (omega arith)) (l 8 (omega arith)) (l 9 (omega arith))
     go (suc (suc (suc (suc (suc (suc (suc (suc (suc (suc k)))))))))) h l = absurd (omega arith)
 
 -- a repetition's eight rows, after those of the earlier ones

@@ -1,30 +1,30 @@
-// Which entries of the tables of sums the batching bytes choose, which are public: row 8·e + p is for bit p of the bytes of repetition e, a number
-// below 32 for each five equations. A word holds ten of them, so that one load serves ten look-ups; the last two of 32 begin a fourth word,
-// whose other fives are not looked up.
+// Which entries of the tables of sums the batching bytes choose, which are public: row 8·e + p is for bit p of the
+// bytes of repetition e, a number below 32 for each five equations. A word holds ten of them, so that one load serves
+// ten look-ups; the last two of 32 begin a fourth word, whose other fives are not looked up.
 ghost use mathlib.Core.Path.{_≡_};
 ghost use Prim.Native.Nat.{ℕ, _+_, _*_, _<_, _≤_};
 ghost use lib.ListN.{length};
+ghost use Rattle.protocol.specs.Shape.{mostEquations};
 ghost use Rattle.strings.specs.Sums.{byteAt};
-ghost use Rattle.forms_choices.specs.Entries.{wordOf, Chosen, InWords};
+ghost use Rattle.strings.specs.Rows.{RowsKept};
+ghost use Rattle.forms_choices.specs.Entries.{fivesWord, Chosen, ChosenAll, WordsFit, GroupsFor};
 use super::picks::FIVES;
 use super::picks::PICKS;
-use super::picks::ROWS;
+use super::picks::SIXTEENS;
+use super::picks::TAKEN;
 use super::picks::choose_all;
 use super::picks::fill_rows;
 use chunks::cells::copy_front;
+use field::Gf256;
+use format::sizes::MOST_EQUATIONS;
 use strings::least;
+use strings::word;
 
 // The words of a row.
 pub const ROW_WORDS: usize = 4;
 
-// Room for the bytes of the most equations, and for eight where the last five begin.
-const MOST: usize = 168;
-
-fn wide(x: u8) -> u64
-    ensures { λ r. ⌜ (r ≡ x) × (r < 256) ⌝ }
-{
-    x as u64
-}
+// Room for the bytes of the most equations, and for what is taken where the last five begins.
+const BYTES: usize = MOST_EQUATIONS + TAKEN;
 
 // Four numbers, five bits to each.
 fn four_at(picks: &[u8], at: usize) -> u64
@@ -32,10 +32,10 @@ fn four_at(picks: &[u8], at: usize) -> u64
     ensures { λ r. ⌜ r ≡ byteAt (now (picks .entry)) at + byteAt (now (picks .entry)) (at + 1) * 32 + byteAt (now (picks .entry)) (at + 2) * 1024 + byteAt (now (picks .entry)) (at + 3) * 32768 ⌝ }
     ensures { λ r. ⌜ r < 16777216 ⌝ }
 {
-    wide(picks[at])
-        + wide(picks[at + 1]) * 32
-        + wide(picks[at + 2]) * 1024
-        + wide(picks[at + 3]) * 32768
+    word(picks[at])
+        + word(picks[at + 1]) * 32
+        + word(picks[at + 2]) * 1024
+        + word(picks[at + 3]) * 32768
 }
 
 // Two numbers.
@@ -44,13 +44,13 @@ fn two_at(picks: &[u8], at: usize) -> u64
     ensures { λ r. ⌜ r ≡ byteAt (now (picks .entry)) at + byteAt (now (picks .entry)) (at + 1) * 32 ⌝ }
     ensures { λ r. ⌜ r < 16384 ⌝ }
 {
-    wide(picks[at]) + wide(picks[at + 1]) * 32
+    word(picks[at]) + word(picks[at + 1]) * 32
 }
 
 // The four words of a row. The last takes eight numbers of the next bit too, which are not looked up.
 fn put(row: &mut [u64], picks: &[u8], at: usize)
     requires { ⌜ (length (now row) ≡ 4) × (at + 40 ≤ length (now picks)) ⌝ }
-    ensures { λ _. ⌜ ((k : ℕ) → k < 4 → byteAt (now (row .exit)) k ≡ wordOf (now (picks .entry)) (at + k * 10)) ⌝ }
+    ensures { λ _. ⌜ ((k : ℕ) → k < 4 → byteAt (now (row .exit)) k ≡ fivesWord (now (picks .entry)) (at + k * 10)) ⌝ }
 {
     let mut k = 0;
     while k < ROW_WORDS {
@@ -66,8 +66,8 @@ fn put(row: &mut [u64], picks: &[u8], at: usize)
 // Row r, which is for bit p.
 fn put_row(words: &mut [u64], r: usize, p: usize, picks: &[u8])
     requires { ⌜ (r * 4 + 4 ≤ length (now words)) × (p < 8) × (length (now picks) ≡ 264) ⌝ }
-    ensures { λ _. ⌜ ((k : ℕ) → k < 4 → byteAt (now (words .exit)) (r * 4 + k) ≡ wordOf (now (picks .entry)) (p * 32 + k * 10)) ⌝ }
-    ensures { λ _. ⌜ ((q k : ℕ) → (q ≡ r → ⊥) → k < 4 → byteAt (now (words .exit)) (q * 4 + k) ≡ byteAt (now (words .entry)) (q * 4 + k)) ⌝ }
+    ensures { λ _. ⌜ ((k : ℕ) → k < 4 → byteAt (now (words .exit)) (r * 4 + k) ≡ fivesWord (now (picks .entry)) (p * 32 + k * 10)) ⌝ }
+    ensures { λ _. ⌜ RowsKept 4 r (now (words .entry)) (now (words .exit)) ⌝ }
 {
     let at = r * ROW_WORDS;
     put(&mut words[at..at + ROW_WORDS], picks, p * FIVES);
@@ -76,24 +76,24 @@ fn put_row(words: &mut [u64], r: usize, p: usize, picks: &[u8])
 // The eight rows of repetition e.
 fn put_rows(words: &mut [u64], e: usize, picks: &[u8])
     requires { ⌜ ((e * 8 + 8) * 4 ≤ length (now words)) × (length (now picks) ≡ 264) ⌝ }
-    ensures { λ _. ⌜ ((p k : ℕ) → p < 8 → k < 4 → byteAt (now (words .exit)) ((e * 8 + p) * 4 + k) ≡ wordOf (now (picks .entry)) (p * 32 + k * 10)) ⌝ }
+    ensures { λ _. ⌜ ((p k : ℕ) → p < 8 → k < 4 → byteAt (now (words .exit)) ((e * 8 + p) * 4 + k) ≡ fivesWord (now (picks .entry)) (p * 32 + k * 10)) ⌝ }
     ensures { λ _. ⌜ ((q k : ℕ) → q < e * 8 → k < 4 → byteAt (now (words .exit)) (q * 4 + k) ≡ byteAt (now (words .entry)) (q * 4 + k)) ⌝ }
 {
     let mut p = 0;
-    while p < 8 {
-        put_row(words, e * 8 + p, p, picks);
+    while p < Gf256::DEGREE {
+        put_row(words, e * Gf256::DEGREE + p, p, picks);
         p += 1;
     }
 }
 
 fn fill_repetition(words: &mut [u64], e: usize, chi: &[u8], m: usize)
-    requires { ⌜ (m ≤ 160) × ((e * 8 + 8) * 4 ≤ length (now words)) × (e * m + m ≤ length (now chi)) ⌝ }
+    requires { ⌜ (m ≤ mostEquations) × ((e * 8 + 8) * 4 ≤ length (now words)) × (e * m + m ≤ length (now chi)) ⌝ }
     ensures { λ _. ⌜ ((p : ℕ) → p < 8 → Chosen (now (chi .entry)) m (now (words .exit)) (e * 8 + p)) ⌝ }
     ensures { λ _. ⌜ ((q k : ℕ) → q < e * 8 → k < 4 → byteAt (now (words .exit)) (q * 4 + k) ≡ byteAt (now (words .entry)) (q * 4 + k)) ⌝ }
 {
-    let mut bytes = [0u8; MOST];
+    let mut bytes = [0u8; BYTES];
     copy_front(&mut bytes, chi, e * m, m);
-    let mut rows = [0u8; ROWS];
+    let mut rows = [0u8; SIXTEENS];
     fill_rows(&mut rows, 0, &bytes);
     fill_rows(&mut rows, 1, &bytes);
     let mut picks = [0u8; PICKS];
@@ -103,16 +103,16 @@ fn fill_repetition(words: &mut [u64], e: usize, chi: &[u8], m: usize)
 
 // The fives that are looked up for m equations: those of whole words of ten, or all 32.
 pub fn groups_for(m: usize) -> usize
-    requires { ⌜ m ≤ 160 ⌝ }
-    ensures { λ r. ⌜ InWords r × (m ≤ r * 5) ⌝ }
+    requires { ⌜ m ≤ mostEquations ⌝ }
+    ensures { λ r. ⌜ GroupsFor m r ⌝ }
 {
     least((m + 49) / 50 * 10, FIVES)
 }
 
 // The words of what the m bytes of each of tau repetitions choose.
 pub fn fill_words(words: &mut [u64], chi: &[u8], m: usize, tau: usize)
-    requires { ⌜ (m ≤ 160) × (tau * 8 * 4 ≤ length (now words)) × (length (now chi) ≡ tau * m) ⌝ }
-    ensures { λ _. ⌜ ((r : ℕ) → r < tau * 8 → Chosen (now (chi .entry)) m (now (words .exit)) r) ⌝ }
+    requires { ⌜ (m ≤ mostEquations) × WordsFit tau (now words) × (length (now chi) ≡ tau * m) ⌝ }
+    ensures { λ _. ⌜ ChosenAll (now (chi .entry)) m tau (now (words .exit)) ⌝ }
 {
     let mut e = 0;
     while e < tau {

@@ -1,31 +1,38 @@
-// The number that bit p of each of five bytes writes, for each bit and each five: sixteen fives to a register. Bytes five apart are costly to
-// gather, so eight are taken where each five begins, and merged into rows: row z has byte z of each of sixteen fives.
+// The number that bit p of each of five bytes writes, for each bit and each five: sixteen fives to a register. Bytes
+// five apart are costly to gather, so eight are taken where each five begins, and merged into rows: row z has byte z
+// of each of sixteen fives.
 ghost use mathlib.Core.Path.{_≡_};
 ghost use Prim.Native.Nat.{ℕ, _+_, _*_, _/_, _%_, _<_, _≤_};
 ghost use lib.ListN.{length};
 ghost use Rattle.strings.specs.Sums.{byteAt};
+ghost use Rattle.strings.specs.Rows.{RowsKept};
 ghost use Rattle.forms_choices.specs.Entries.{choice, inRows};
 use chunks::cells::copy_apart;
 use chunks::turns::EIGHT_ROWS;
-use chunks::turns::SIXTEEN;
 use chunks::turns::part;
+use field::Gf256;
+use strings::SIXTEEN;
 
-// The numbers of one bit, for the most fives, and those of eight, with room for ten where the last two begin.
+// The numbers of one bit, for the most fives.
 pub const FIVES: usize = 32;
 
-pub const PICKS: usize = 264;
+// The numbers of all bits, with room for ten where the last two begin.
+pub const PICKS: usize = Gf256::DEGREE * FIVES + 8;
 
-// Both sixteens of fives, eight rows each.
-pub const ROWS: usize = 256;
+// So many bytes are taken where each five begins: as many as rows are merged into.
+pub const TAKEN: usize = 8;
+
+// The bytes of two sixteens of fives, eight rows each.
+pub const SIXTEENS: usize = 2 * EIGHT_ROWS;
 
 // The rows of the sixteen fives h. They are taken eight bytes apart: after each, three bytes of the next.
 pub fn fill_rows(rows: &mut [u8], h: usize, bytes: &[u8])
     requires { ⌜ (h < 2) × (length (now rows) ≡ 256) × (163 ≤ length (now bytes)) ⌝ }
     ensures { λ _. ⌜ ((i : ℕ) → i < 128 → byteAt (now (rows .exit)) (h * 128 + i) ≡ byteAt (now (bytes .entry)) (h * 80 + i % 16 * 5 + i / 16)) ⌝ }
-    ensures { λ _. ⌜ ((q i : ℕ) → (q ≡ h → ⊥) → i < 128 → byteAt (now (rows .exit)) (q * 128 + i) ≡ byteAt (now (rows .entry)) (q * 128 + i)) ⌝ }
+    ensures { λ _. ⌜ RowsKept 128 h (now (rows .entry)) (now (rows .exit)) ⌝ }
 {
     let mut apart = [0u8; EIGHT_ROWS];
-    copy_apart(&mut apart, SIXTEEN, 8, bytes, h * 80, 5);
+    copy_apart(&mut apart, SIXTEEN, TAKEN, bytes, h * 80, 5);
     let at = h * EIGHT_ROWS;
     part(&mut rows[at..at + EIGHT_ROWS], &apart);
 }
@@ -57,7 +64,7 @@ fn choose_both(plane: &mut [u8], rows: &[u8], p: usize)
 fn choose_at(picks: &mut [u8], rows: &[u8], p: usize)
     requires { ⌜ (length (now picks) ≡ 264) × (length (now rows) ≡ 256) × (p < 8) ⌝ }
     ensures { λ _. ⌜ ((g : ℕ) → g < 32 → byteAt (now (picks .exit)) (p * 32 + g) ≡ choice (inRows (now (rows .entry))) p g) ⌝ }
-    ensures { λ _. ⌜ ((q g : ℕ) → (q ≡ p → ⊥) → g < 32 → byteAt (now (picks .exit)) (q * 32 + g) ≡ byteAt (now (picks .entry)) (q * 32 + g)) ⌝ }
+    ensures { λ _. ⌜ RowsKept 32 p (now (picks .entry)) (now (picks .exit)) ⌝ }
 {
     let at = p * FIVES;
     choose_both(&mut picks[at..at + FIVES], rows, p);
@@ -69,7 +76,7 @@ pub fn choose_all(picks: &mut [u8], rows: &[u8])
     ensures { λ _. ⌜ ((p g : ℕ) → p < 8 → g < 32 → byteAt (now (picks .exit)) (p * 32 + g) ≡ choice (inRows (now (rows .entry))) p g) ⌝ }
 {
     let mut p = 0;
-    while p < 8 {
+    while p < Gf256::DEGREE {
         choose_at(picks, rows, p);
         p += 1;
     }

@@ -1,16 +1,18 @@
-// Sums of the rows that public bits select. Five rows at a time, the 32 sums of them are in a table, so that one addition serves five rows.
+// Sums of the rows that public bits select. Five rows at a time, the 32 sums of them are in a table, so that one
+// addition serves five rows.
 ghost use mathlib.Core.Path.{_≡_};
 ghost use Prim.Native.Nat.{ℕ, _+_, _*_, _-_, _<_, _≤_};
 ghost use lib.ListN.{length};
 ghost use lib.Bits.{bitXor};
 ghost use Rattle.strings.specs.Sums.{byteAt};
+ghost use Rattle.strings.specs.Rows.{RowsKept};
 ghost use Rattle.chunks.specs.Chunks.{chunk, pair, cellAt};
-ghost use Rattle.forms_choices.specs.Entries.{entryByte, Tabled, five, wordByte, lookedUp, InWords};
+ghost use Rattle.forms_choices.specs.Entries.{mostSums, entryByte, Tabled, five, wordByte, lookedUp, InWords};
 use super::fives::ROW_WORDS;
 use chunks::CHUNK;
 
 // The entries of the table of sums for five rows, one for each value of five bits.
-const ENTRIES: usize = 32;
+pub const ENTRIES: usize = 32;
 
 // dst[f] ^= s[at + f], for a chunk. The count is a constant, so that a caller's local array stays in registers.
 fn add_at(dst: &mut [u8; CHUNK], s: &[u8], at: usize)
@@ -39,7 +41,7 @@ fn add_row(dst: &mut [u8; CHUNK], c: usize, n: usize, table: &[u8])
 fn store(sums: &mut [u8], k: usize, src: &[u8; CHUNK])
     requires { ⌜ (k * chunk + chunk ≤ length (now sums)) × (length (now src) ≡ chunk) ⌝ }
     ensures { λ _. ⌜ ((f : ℕ) → f < chunk → cellAt (now (sums .exit)) k f ≡ byteAt (now (src .entry)) f) ⌝ }
-    ensures { λ _. ⌜ ((q f : ℕ) → (q ≡ k → ⊥) → f < chunk → cellAt (now (sums .exit)) q f ≡ cellAt (now (sums .entry)) q f) ⌝ }
+    ensures { λ _. ⌜ RowsKept chunk k (now (sums .entry)) (now (sums .exit)) ⌝ }
 {
     let at = k * CHUNK;
     chunks::cells::copy_chunk(&mut sums[at..at + CHUNK], src);
@@ -49,7 +51,7 @@ fn store(sums: &mut [u8], k: usize, src: &[u8; CHUNK])
 fn fill_entry(sums: &mut [u8], from: usize, to: usize, row: &[u8; CHUNK])
     requires { ⌜ (from * chunk + chunk ≤ length (now sums)) × (to * chunk + chunk ≤ length (now sums)) × (length (now row) ≡ chunk) ⌝ }
     ensures { λ _. ⌜ ((f : ℕ) → f < chunk → cellAt (now (sums .exit)) to f ≡ bitXor (cellAt (now (sums .entry)) from f) (byteAt (now (row .entry)) f)) ⌝ }
-    ensures { λ _. ⌜ ((q f : ℕ) → (q ≡ to → ⊥) → f < chunk → cellAt (now (sums .exit)) q f ≡ cellAt (now (sums .entry)) q f) ⌝ }
+    ensures { λ _. ⌜ RowsKept chunk to (now (sums .entry)) (now (sums .exit)) ⌝ }
 {
     let mut sum = [0u8; CHUNK];
     add_at(&mut sum, sums, from * CHUNK);
@@ -89,7 +91,8 @@ fn fill_group(sums: &mut [u8], g: usize, n: usize, table: &[u8])
     }
 }
 
-// The table of sums of the n rows, 32 entries for each five of them. Made once, it serves every plane of every repetition.
+// The table of sums of the n rows, 32 entries for each five of them. Made once, it serves every plane of every
+// repetition.
 pub fn fill_sums(sums: &mut [u8], groups: usize, n: usize, table: &[u8])
     requires { ⌜ (groups * 32 * chunk ≤ length (now sums)) × (length (now table) ≡ n * chunk) ⌝ }
     ensures { λ _. ⌜ Tabled (now (table .entry)) (now (sums .exit)) (groups * 32) ⌝ }
@@ -109,9 +112,10 @@ fn place_of(w: u64, g: usize, j: usize) -> usize
     (g * ENTRIES + ((w >> (5 * j)) % 32) as usize) * CHUNK
 }
 
-// Adds the entries that word k chooses, w for the first and x for the second: side by side, so that neither waits for the other.
+// Adds the entries that word k chooses, w for the first and x for the second: side by side, so that neither waits for
+// the other.
 fn add_ten(first: &mut [u8; CHUNK], second: &mut [u8; CHUNK], w: u64, x: u64, sums: &[u8], k: usize)
-    requires { ⌜ (length (now first) ≡ chunk) × (length (now second) ≡ chunk) × (k < 3) × (32768 ≤ length (now sums)) ⌝ }
+    requires { ⌜ (length (now first) ≡ chunk) × (length (now second) ≡ chunk) × (k < 3) × (mostSums ≤ length (now sums)) ⌝ }
     ensures { λ _. ⌜ (length (now (first .exit)) ≡ chunk) × (length (now (second .exit)) ≡ chunk) ⌝ }
     ensures { λ _. ⌜ ((f : ℕ) → f < chunk → byteAt (now (first .exit)) f ≡ bitXor (byteAt (now (first .entry)) f) (wordByte (now (sums .entry)) k 10 w f)) ⌝ }
     ensures { λ _. ⌜ ((f : ℕ) → f < chunk → byteAt (now (second .exit)) f ≡ bitXor (byteAt (now (second .entry)) f) (wordByte (now (sums .entry)) k 10 x f)) ⌝ }
@@ -125,10 +129,10 @@ fn add_ten(first: &mut [u8; CHUNK], second: &mut [u8; CHUNK], w: u64, x: u64, su
     }
 }
 
-// The same of the last word, of which the first two fives are looked up. A function of its own, so that the count is a constant and each of the two is
-// called from one place.
+// The same of the last word, of which the first two fives are looked up. A function of its own, so that the count is a
+// constant and each of the two is called from one place.
 fn add_two(first: &mut [u8; CHUNK], second: &mut [u8; CHUNK], w: u64, x: u64, sums: &[u8])
-    requires { ⌜ (length (now first) ≡ chunk) × (length (now second) ≡ chunk) × (32768 ≤ length (now sums)) ⌝ }
+    requires { ⌜ (length (now first) ≡ chunk) × (length (now second) ≡ chunk) × (mostSums ≤ length (now sums)) ⌝ }
     ensures { λ _. ⌜ (length (now (first .exit)) ≡ chunk) × (length (now (second .exit)) ≡ chunk) ⌝ }
     ensures { λ _. ⌜ ((f : ℕ) → f < chunk → byteAt (now (first .exit)) f ≡ bitXor (byteAt (now (first .entry)) f) (wordByte (now (sums .entry)) 3 2 w f)) ⌝ }
     ensures { λ _. ⌜ ((f : ℕ) → f < chunk → byteAt (now (second .exit)) f ≡ bitXor (byteAt (now (second .entry)) f) (wordByte (now (sums .entry)) 3 2 x f)) ⌝ }
@@ -151,7 +155,7 @@ fn add_last(
     groups: usize,
     sums: &[u8],
 )
-    requires { ⌜ (length (now first) ≡ chunk) × (length (now second) ≡ chunk) × InWords groups × (32768 ≤ length (now sums)) ⌝ }
+    requires { ⌜ (length (now first) ≡ chunk) × (length (now second) ≡ chunk) × InWords groups × (mostSums ≤ length (now sums)) ⌝ }
     ensures { λ _. ⌜ (length (now (first .exit)) ≡ chunk) × (length (now (second .exit)) ≡ chunk) ⌝ }
     ensures { λ _. ⌜ ((f : ℕ) → f < chunk → byteAt (now (first .exit)) f ≡ bitXor (byteAt (now (first .entry)) f) (wordByte (now (sums .entry)) 3 (groups - 30) w f)) ⌝ }
     ensures { λ _. ⌜ ((f : ℕ) → f < chunk → byteAt (now (second .exit)) f ≡ bitXor (byteAt (now (second .entry)) f) (wordByte (now (sums .entry)) 3 (groups - 30) x f)) ⌝ }
@@ -161,9 +165,10 @@ fn add_last(
     }
 }
 
-// Chunk 0 of out is the sum of the entries that row r of the words chooses for so many groups of five, and chunk 1 that of row r + 1.
+// Chunk 0 of out is the sum of the entries that row r of the words chooses for so many groups of five, and chunk 1 that
+// of row r + 1.
 pub fn look_up_two(out: &mut [u8], words: &[u64], r: usize, groups: usize, sums: &[u8])
-    requires { ⌜ (length (now out) ≡ pair) × (r * 4 + 8 ≤ length (now words)) × InWords groups × (32768 ≤ length (now sums)) ⌝ }
+    requires { ⌜ (length (now out) ≡ pair) × (r * 4 + 8 ≤ length (now words)) × InWords groups × (mostSums ≤ length (now sums)) ⌝ }
     ensures { λ _. ⌜ ((f : ℕ) → f < chunk → cellAt (now (out .exit)) 0 f ≡ lookedUp (now (sums .entry)) (now (words .entry)) r groups f) ⌝ }
     ensures { λ _. ⌜ ((f : ℕ) → f < chunk → cellAt (now (out .exit)) 1 f ≡ lookedUp (now (sums .entry)) (now (words .entry)) (r + 1) groups f) ⌝ }
 {
@@ -194,8 +199,8 @@ pub fn look_up_two(out: &mut [u8], words: &[u64], r: usize, groups: usize, sums:
     store(out, 1, &second);
 }
 
-// dst[f] ^= sums[f] for a chunk. As the first entry is 0 this changes nothing; but it is an access to the start of two arrays, from which the
-// compiler learns that it may align them, and so add from memory at once.
+// dst[f] ^= sums[f] for a chunk. As the first entry is 0 this changes nothing; but it is an access to the start of two
+// arrays, from which the compiler learns that it may align them, and so add from memory at once.
 pub fn add_first(dst: &mut [u8], sums: &[u8])
     requires { ⌜ (chunk ≤ length (now dst)) × (chunk ≤ length (now sums)) ⌝ }
     ensures { λ _. ⌜ ((f : ℕ) → f < chunk → byteAt (now (dst .exit)) f ≡ bitXor (byteAt (now (dst .entry)) f) (byteAt (now (sums .entry)) f)) ⌝ }
@@ -210,7 +215,7 @@ pub fn add_first(dst: &mut [u8], sums: &[u8])
 
 // Adds the entries that the first n fives of word k choose.
 fn add_word(sum: &mut [u8; CHUNK], w: u64, n: usize, sums: &[u8], k: usize)
-    requires { ⌜ (length (now sum) ≡ chunk) × (n ≤ 10) × (k * 10 + n ≤ 32) × (32768 ≤ length (now sums)) ⌝ }
+    requires { ⌜ (length (now sum) ≡ chunk) × (n ≤ 10) × (k * 10 + n ≤ 32) × (mostSums ≤ length (now sums)) ⌝ }
     ensures { λ _. ⌜ length (now (sum .exit)) ≡ chunk ⌝ }
     ensures { λ _. ⌜ ((f : ℕ) → f < chunk → byteAt (now (sum .exit)) f ≡ bitXor (byteAt (now (sum .entry)) f) (wordByte (now (sums .entry)) k n w f)) ⌝ }
 {
@@ -230,7 +235,7 @@ fn last_fives(groups: usize) -> usize
 
 // The sum of the entries that row r of the words chooses for so many groups of five.
 pub fn look_up(out: &mut [u8], words: &[u64], r: usize, groups: usize, sums: &[u8])
-    requires { ⌜ (length (now out) ≡ chunk) × (r * 4 + 4 ≤ length (now words)) × InWords groups × (32768 ≤ length (now sums)) ⌝ }
+    requires { ⌜ (length (now out) ≡ chunk) × (r * 4 + 4 ≤ length (now words)) × InWords groups × (mostSums ≤ length (now sums)) ⌝ }
     ensures { λ _. ⌜ ((f : ℕ) → f < chunk → byteAt (now (out .exit)) f ≡ lookedUp (now (sums .entry)) (now (words .entry)) r groups f) ⌝ }
 {
     let mut sum = [0u8; CHUNK];

@@ -20,7 +20,7 @@ use Rattle.strings.specs.Sums.{bitOf, xorSum}
 use Rattle.strings.proofs.SumLaws.{sum-same}
 use Rattle.strings.proofs.BitLaws.{bits-sum}
 use Rattle.strings.proofs.Meaning.{bitOf-lt, elem-sum, byte-sum}
-use Rattle.forms_columns.specs.Stacks.{alpha, product}
+use Rattle.forms_columns.specs.Stacks.{alpha, byteProduct}
 
 module _ (C : Coded) where
   open Coded C using (base, elem, byte)
@@ -54,23 +54,23 @@ module _ (C : Coded) where
       ap byte (power-add (elem x) p i)
       ∙ ap₂ (λ y z. byte (y ⊗ z)) (sym (C .elem-byte (power R (elem x) p))) (sym (C .elem-byte (power R (elem x) i)))
 
-pub product-sum : (a n : ℕ) (g : ℕ → ℕ) → product a (xorSum n g) ≡ xorSum n (λ i. product a (g i))
-unfolding product
+pub product-sum : (a n : ℕ) (g : ℕ → ℕ) → byteProduct a (xorSum n g) ≡ xorSum n (λ i. byteProduct a (g i))
+unfolding byteProduct
 product-sum a n g = coded-sum gf256 a n g
 
-pub product-bit : (a q x : ℕ) → q < 2 → product a (q * x) ≡ q * product a x
-unfolding product
+pub product-bit : (a q x : ℕ) → q < 2 → byteProduct a (q * x) ≡ q * byteProduct a x
+unfolding byteProduct
 product-bit a q x h = coded-bit gf256 a q x h
 
-pub product-comm : (a b : ℕ) → product a b ≡ product b a
-unfolding product
+pub product-comm : (a b : ℕ) → byteProduct a b ≡ byteProduct b a
+unfolding byteProduct
 product-comm a b = coded-comm gf256 a b
 
-pub product-zero : (a : ℕ) → product 0 a ≡ 0
-product-zero a = product-comm 0 a ∙ ap (product a) (sym (zero-mul 0)) ∙ product-bit a 0 0 (lit< tt) ∙ zero-mul (product a 0)
+pub product-zero : (a : ℕ) → byteProduct 0 a ≡ 0
+product-zero a = product-comm 0 a ∙ ap (byteProduct a) (sym (zero-mul 0)) ∙ product-bit a 0 0 (lit< tt) ∙ zero-mul (byteProduct a 0)
 
-pub alpha-add : (p i : ℕ) → alpha (p + i) ≡ product (alpha p) (alpha i)
-unfolding alpha product
+pub alpha-add : (p i : ℕ) → alpha (p + i) ≡ byteProduct (alpha p) (alpha i)
+unfolding alpha byteProduct
 alpha-add p i = coded-power gf256 2 p i
 
 weighs : ℕ → Bool
@@ -91,11 +91,11 @@ byte-bits v h =
     sum-same 8 _ _ (λ i l. ap (λ x. bitOf v i * x) (sym (alpha-low i l))) ∙ bits-sum 8 (bitOf v) (bitOf-lt v) ∙ bits-of 8 v h
 
 -- a sum that bits weigh, times a byte
-pub product-bits : (a n : ℕ) (q x : ℕ → ℕ) → ((i : ℕ) → q i < 2) → xorSum n (λ i. q i * product a (x i)) ≡ product a (xorSum n (λ i. q i * x i))
+pub product-bits : (a n : ℕ) (q x : ℕ → ℕ) → ((i : ℕ) → q i < 2) → xorSum n (λ i. q i * byteProduct a (x i)) ≡ byteProduct a (xorSum n (λ i. q i * x i))
 product-bits a n q x h = sum-same n _ _ (λ i l. sym (product-bit a (q i) (x i) (h i))) ∙ sym (product-sum a n (λ i. q i * x i))
 
 pub alpha-zero : 1 ≡ alpha 0
 alpha-zero = alpha-low 0 (lit< tt)
 
-pub alpha-more : (s : ℕ) → product 2 (alpha s) ≡ alpha (s + 1)
-alpha-more s = ap (λ x. product x (alpha s)) (alpha-low 1 (lit< tt)) ∙ sym (alpha-add 1 s) ∙ ap alpha (add-comm 1 s)
+pub alpha-more : (s : ℕ) → byteProduct 2 (alpha s) ≡ alpha (s + 1)
+alpha-more s = ap (λ x. byteProduct x (alpha s)) (alpha-low 1 (lit< tt)) ∙ sym (alpha-add 1 s) ∙ ap alpha (add-comm 1 s)

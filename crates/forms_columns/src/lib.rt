@@ -1,27 +1,29 @@
-// The columns of products that stand in stacks, for all repetitions side by side, and their products with vectors. All of it is secret but the
-// places, and whether the polar form is asked for.
+// The columns of products that stand in stacks, for all repetitions side by side, and their products with vectors. All
+// of it is secret but the places, and whether the polar form is asked for.
 ghost use mathlib.Core.Path.{_≡_};
 ghost use mathlib.Core.Bool.{true, false};
-ghost use Prim.Native.Nat.{ℕ, _+_, _*_, _/_, _%_, _<_, _≤_};
+ghost use Prim.Native.Nat.{ℕ, _+_, _*_, _<_, _≤_};
 ghost use lib.ListN.{length};
-ghost use lib.Bits.{bitXor};
 ghost use Rattle.strings.specs.Sums.{byteAt, bitOf, xorSum};
-ghost use Rattle.lanes.specs.Lanes.{lanes, laneAt};
+ghost use Rattle.strings.specs.Rows.{RowsKept};
+ghost use Rattle.lanes.specs.Lanes.{lanes, laneAt, LanesAdded};
 ghost use Rattle.chunks.specs.Chunks.{chunk};
-ghost use Rattle.forms_columns.specs.Stacks.{alpha, product, planes, foldOf};
+ghost use Rattle.forms_columns.specs.Stacks.{byteProduct, planes, columnOf, sixteenOf, valueOf, StacksFit, ColumnFits, ColumnsFit, PanelFits};
 use chunks::CHUNK;
 use field::Gf256;
 use lanes::LANES;
+use strings::BITS;
+use strings::SIXTEEN;
 use strings::word_at;
 
 // The planes of a stack: as many as a product of two elements has coefficients before it is reduced.
-const PLANES: usize = 15;
+pub const PLANES: usize = 2 * Gf256::DEGREE - 1;
 
 // The bytes of a stack.
 pub const STACK: usize = PLANES * CHUNK;
 
-// The bytes of a plane of all repetitions for each plane of a stack.
-const ROWS: usize = PLANES * LANES;
+// A byte of each plane of a stack, for all repetitions.
+const GATHERED: usize = PLANES * LANES;
 
 // The sum of sixteen bytes from `at` on, in words: halves are added until one byte is left.
 pub fn sum_at(s: &[u8], at: usize) -> u8
@@ -36,8 +38,8 @@ pub fn sum_at(s: &[u8], at: usize) -> u8
 
 // out[e] = the sum of sixteen bytes from `at` on in stack e.
 fn gather_row(out: &mut [u8], stacks: &[u8], at: usize, tau: usize)
-    requires { ⌜ (tau ≤ length (now out)) × (tau * (planes * chunk) ≤ length (now stacks)) × (at + 16 ≤ planes * chunk) ⌝ }
-    ensures { λ _. ⌜ ((e : ℕ) → e < tau → byteAt (now (out .exit)) e ≡ xorSum 16 (λ f. byteAt (now (stacks .entry)) (e * (planes * chunk) + (at + f)))) ⌝ }
+    requires { ⌜ (tau ≤ length (now out)) × StacksFit tau (now stacks) × (at + 16 ≤ planes * chunk) ⌝ }
+    ensures { λ _. ⌜ ((e : ℕ) → e < tau → byteAt (now (out .exit)) e ≡ sixteenOf (now (stacks .entry)) e at) ⌝ }
 {
     let mut e = 0;
     while e < tau {
@@ -47,9 +49,9 @@ fn gather_row(out: &mut [u8], stacks: &[u8], at: usize, tau: usize)
 }
 
 fn gather_at(rows: &mut [u8], s: usize, stacks: &[u8], at: usize, tau: usize)
-    requires { ⌜ (s * lanes + lanes ≤ length (now rows)) × (tau ≤ lanes) × (tau * (planes * chunk) ≤ length (now stacks)) × (at + 16 ≤ planes * chunk) ⌝ }
-    ensures { λ _. ⌜ ((e : ℕ) → e < tau → laneAt (now (rows .exit)) s e ≡ xorSum 16 (λ f. byteAt (now (stacks .entry)) (e * (planes * chunk) + (at + f)))) ⌝ }
-    ensures { λ _. ⌜ ((q e : ℕ) → (q ≡ s → ⊥) → e < lanes → laneAt (now (rows .exit)) q e ≡ laneAt (now (rows .entry)) q e) ⌝ }
+    requires { ⌜ (s * lanes + lanes ≤ length (now rows)) × (tau ≤ lanes) × StacksFit tau (now stacks) × (at + 16 ≤ planes * chunk) ⌝ }
+    ensures { λ _. ⌜ ((e : ℕ) → e < tau → laneAt (now (rows .exit)) s e ≡ sixteenOf (now (stacks .entry)) e at) ⌝ }
+    ensures { λ _. ⌜ RowsKept lanes s (now (rows .entry)) (now (rows .exit)) ⌝ }
 {
     let from = s * LANES;
     gather_row(&mut rows[from..from + LANES], stacks, at, tau);
@@ -57,12 +59,12 @@ fn gather_at(rows: &mut [u8], s: usize, stacks: &[u8], at: usize, tau: usize)
 
 // The planes of all repetitions, each the sum of its sixteen bytes of half h.
 fn gather(rows: &mut [u8], stacks: &[u8], h: usize, tau: usize)
-    requires { ⌜ (length (now rows) ≡ planes * lanes) × (tau ≤ lanes) × (tau * (planes * chunk) ≤ length (now stacks)) × (h < 2) ⌝ }
-    ensures { λ _. ⌜ ((s e : ℕ) → s < planes → e < tau → laneAt (now (rows .exit)) s e ≡ xorSum 16 (λ f. byteAt (now (stacks .entry)) (e * (planes * chunk) + (s * chunk + h * 16 + f)))) ⌝ }
+    requires { ⌜ (length (now rows) ≡ planes * lanes) × (tau ≤ lanes) × StacksFit tau (now stacks) × (h < 2) ⌝ }
+    ensures { λ _. ⌜ ((s e : ℕ) → s < planes → e < tau → laneAt (now (rows .exit)) s e ≡ sixteenOf (now (stacks .entry)) e (s * chunk + h * 16)) ⌝ }
 {
     let mut s = 0;
     while s < PLANES {
-        gather_at(rows, s, stacks, s * CHUNK + h * 16, tau);
+        gather_at(rows, s, stacks, s * CHUNK + h * SIXTEEN, tau);
         s += 1;
     }
 }
@@ -70,7 +72,7 @@ fn gather(rows: &mut [u8], stacks: &[u8], h: usize, tau: usize)
 // u[e] ^= weight where bit z of row[e] is set: by a mask.
 fn add_weighted(u: &mut [u8], row: &[u8], z: usize, weight: u8)
     requires { ⌜ (length (now u) ≡ lanes) × (length (now row) ≡ lanes) × (z < 8) ⌝ }
-    ensures { λ _. ⌜ ((e : ℕ) → e < lanes → byteAt (now (u .exit)) e ≡ bitXor (byteAt (now (u .entry)) e) (bitOf (byteAt (now (row .entry)) e) z * weight)) ⌝ }
+    ensures { λ _. ⌜ LanesAdded lanes (λ e. bitOf (byteAt (now (row .entry)) e) z * weight) (now (u .entry)) (now (u .exit)) ⌝ }
 {
     let mut e = 0;
     while e < LANES {
@@ -82,7 +84,7 @@ fn add_weighted(u: &mut [u8], row: &[u8], z: usize, weight: u8)
 // u[e] = the value at bit z of the planes of repetition e.
 fn weigh(u: &mut [u8], rows: &[u8], z: usize)
     requires { ⌜ (length (now u) ≡ lanes) × (length (now rows) ≡ planes * lanes) × (z < 8) ⌝ }
-    ensures { λ _. ⌜ ((e : ℕ) → e < lanes → byteAt (now (u .exit)) e ≡ xorSum planes (λ s. bitOf (laneAt (now (rows .entry)) s e) z * alpha s)) ⌝ }
+    ensures { λ _. ⌜ ((e : ℕ) → e < lanes → byteAt (now (u .exit)) e ≡ valueOf (now (rows .entry)) z e) ⌝ }
 {
     strings::clear(u);
     let mut weight: u8 = 1;
@@ -97,7 +99,7 @@ fn weigh(u: &mut [u8], rows: &[u8], z: usize)
 // acc[e] ^= coordinate c of repetition e, times u[e]. Coordinates from n on are 0.
 fn add_product(acc: &mut [u8], c: usize, n: usize, table: &[u8], u: &[u8])
     requires { ⌜ (length (now acc) ≡ lanes) × (length (now table) ≡ n * lanes) × (length (now u) ≡ lanes) ⌝ }
-    ensures { λ _. ⌜ ((e : ℕ) → e < lanes → byteAt (now (acc .exit)) e ≡ bitXor (byteAt (now (acc .entry)) e) (product (laneAt (now (table .entry)) c e) (byteAt (now (u .entry)) e))) ⌝ }
+    ensures { λ _. ⌜ LanesAdded lanes (λ e. byteProduct (laneAt (now (table .entry)) c e) (byteAt (now (u .entry)) e)) (now (acc .entry)) (now (acc .exit)) ⌝ }
 {
     if c < n {
         lanes::accumulate(acc, strings::row_at(table, LANES, c), u);
@@ -107,7 +109,7 @@ fn add_product(acc: &mut [u8], c: usize, n: usize, table: &[u8], u: &[u8])
 // Adds u times bit c of xs to mid, where the polar form is asked for.
 fn add_polar(mid: &mut [u8], u: &[u8], c: usize, xs: &[u8], polar: bool)
     requires { ⌜ (length (now mid) ≡ lanes) × (length (now u) ≡ lanes) × (c < length (now xs)) × (byteAt (now xs) c < 2) ⌝ }
-    ensures { λ _. ⌜ (polar ≡ true → (e : ℕ) → e < lanes → byteAt (now (mid .exit)) e ≡ bitXor (byteAt (now (mid .entry)) e) (byteAt (now (xs .entry)) c * byteAt (now (u .entry)) e)) ⌝ }
+    ensures { λ _. ⌜ (polar ≡ true → LanesAdded lanes (λ e. byteAt (now (xs .entry)) c * byteAt (now (u .entry)) e) (now (mid .entry)) (now (mid .exit))) ⌝ }
     ensures { λ _. ⌜ (polar ≡ false → now (mid .exit) ≡ now (mid .entry)) ⌝ }
 {
     if polar {
@@ -115,8 +117,8 @@ fn add_polar(mid: &mut [u8], u: &[u8], c: usize, xs: &[u8], polar: bool)
     }
 }
 
-// Column c is bit z of the planes. Adds it, times coordinate c of the vectors, to quad; and, where the polar form is asked for, times bit c of xs,
-// to mid.
+// Column c is bit z of the planes. Adds it, times coordinate c of the vectors, to quad; and, where the polar form is
+// asked for, times bit c of xs, to mid.
 fn add_column(
     quad: &mut [u8],
     mid: &mut [u8],
@@ -128,9 +130,9 @@ fn add_column(
     xs: &[u8],
     polar: bool,
 )
-    requires { ⌜ (length (now quad) ≡ lanes) × (length (now mid) ≡ lanes) × (length (now rows) ≡ planes * lanes) × (z < 8) × (length (now table) ≡ n * lanes) × (c < length (now xs)) × (byteAt (now xs) c < 2) ⌝ }
-    ensures { λ _. ⌜ ((e : ℕ) → e < lanes → byteAt (now (quad .exit)) e ≡ bitXor (byteAt (now (quad .entry)) e) (product (laneAt (now (table .entry)) c e) (xorSum planes (λ s. bitOf (laneAt (now (rows .entry)) s e) z * alpha s)))) ⌝ }
-    ensures { λ _. ⌜ (polar ≡ true → (e : ℕ) → e < lanes → byteAt (now (mid .exit)) e ≡ bitXor (byteAt (now (mid .entry)) e) (byteAt (now (xs .entry)) c * xorSum planes (λ s. bitOf (laneAt (now (rows .entry)) s e) z * alpha s))) ⌝ }
+    requires { ⌜ ColumnFits (now quad) (now mid) (now rows) c z n (now table) (now xs) ⌝ }
+    ensures { λ _. ⌜ LanesAdded lanes (λ e. byteProduct (laneAt (now (table .entry)) c e) (valueOf (now (rows .entry)) z e)) (now (quad .entry)) (now (quad .exit)) ⌝ }
+    ensures { λ _. ⌜ (polar ≡ true → LanesAdded lanes (λ e. byteAt (now (xs .entry)) c * valueOf (now (rows .entry)) z e) (now (mid .entry)) (now (mid .exit))) ⌝ }
     ensures { λ _. ⌜ (polar ≡ false → now (mid .exit) ≡ now (mid .entry)) ⌝ }
 {
     let mut u = [0u8; LANES];
@@ -150,20 +152,20 @@ fn add_columns(
     xs: &[u8],
     polar: bool,
 )
-    requires { ⌜ (length (now quad) ≡ lanes) × (length (now mid) ≡ lanes) × (length (now rows) ≡ planes * lanes) × (length (now table) ≡ n * lanes) × (first + 8 ≤ length (now xs)) × ((c : ℕ) → byteAt (now xs) c < 2) ⌝ }
-    ensures { λ _. ⌜ ((e : ℕ) → e < lanes → byteAt (now (quad .exit)) e ≡ bitXor (byteAt (now (quad .entry)) e) (xorSum 8 (λ z. product (laneAt (now (table .entry)) (first + z) e) (xorSum planes (λ s. bitOf (laneAt (now (rows .entry)) s e) z * alpha s))))) ⌝ }
-    ensures { λ _. ⌜ (polar ≡ true → (e : ℕ) → e < lanes → byteAt (now (mid .exit)) e ≡ bitXor (byteAt (now (mid .entry)) e) (xorSum 8 (λ z. byteAt (now (xs .entry)) (first + z) * xorSum planes (λ s. bitOf (laneAt (now (rows .entry)) s e) z * alpha s)))) ⌝ }
+    requires { ⌜ ColumnsFit (now quad) (now mid) (now rows) first n (now table) (now xs) ⌝ }
+    ensures { λ _. ⌜ LanesAdded lanes (λ e. xorSum 8 (λ z. byteProduct (laneAt (now (table .entry)) (first + z) e) (valueOf (now (rows .entry)) z e))) (now (quad .entry)) (now (quad .exit)) ⌝ }
+    ensures { λ _. ⌜ (polar ≡ true → LanesAdded lanes (λ e. xorSum 8 (λ z. byteAt (now (xs .entry)) (first + z) * valueOf (now (rows .entry)) z e)) (now (mid .entry)) (now (mid .exit))) ⌝ }
     ensures { λ _. ⌜ (polar ≡ false → now (mid .exit) ≡ now (mid .entry)) ⌝ }
 {
     let mut z = 0;
-    while z < 8 {
+    while z < BITS {
         add_column(quad, mid, rows, first + z, z, n, table, xs, polar);
         z += 1;
     }
 }
 
-// The sixteen columns of a panel of the stacks: times the vectors of the n coordinates of the table to quad; and times the bits xs to mid, where the
-// polar form is asked for.
+// The sixteen columns of a panel of the stacks: times the vectors of the n coordinates of the table to quad; and times
+// the bits xs to mid, where the polar form is asked for.
 pub fn finish(
     quad: &mut [u8],
     mid: &mut [u8],
@@ -175,16 +177,25 @@ pub fn finish(
     xs: &[u8],
     polar: bool,
 )
-    requires { ⌜ (length (now quad) ≡ lanes) × (length (now mid) ≡ lanes) × (tau ≤ lanes) × (tau * (planes * chunk) ≤ length (now stacks)) × (length (now table) ≡ n * lanes) × (panel * 16 + 16 ≤ length (now xs)) × ((c : ℕ) → byteAt (now xs) c < 2) × (n ≤ 160) ⌝ }
-    ensures { λ _. ⌜ ((e : ℕ) → e < tau → byteAt (now (quad .exit)) e ≡ bitXor (byteAt (now (quad .entry)) e) (xorSum 16 (λ s. product (laneAt (now (table .entry)) (panel * 16 + s) e) (foldOf (now (stacks .entry)) e (s / 8) (s % 8))))) ⌝ }
-    ensures { λ _. ⌜ (polar ≡ true → (e : ℕ) → e < tau → byteAt (now (mid .exit)) e ≡ bitXor (byteAt (now (mid .entry)) e) (xorSum 16 (λ s. byteAt (now (xs .entry)) (panel * 16 + s) * foldOf (now (stacks .entry)) e (s / 8) (s % 8)))) ⌝ }
+    requires { ⌜ PanelFits (now quad) (now mid) (now stacks) panel tau n (now table) (now xs) ⌝ }
+    ensures { λ _. ⌜ LanesAdded tau (λ e. xorSum 16 (λ s. byteProduct (laneAt (now (table .entry)) (panel * 16 + s) e) (columnOf (now (stacks .entry)) e s))) (now (quad .entry)) (now (quad .exit)) ⌝ }
+    ensures { λ _. ⌜ (polar ≡ true → LanesAdded tau (λ e. xorSum 16 (λ s. byteAt (now (xs .entry)) (panel * 16 + s) * columnOf (now (stacks .entry)) e s)) (now (mid .entry)) (now (mid .exit))) ⌝ }
     ensures { λ _. ⌜ (polar ≡ false → now (mid .exit) ≡ now (mid .entry)) ⌝ }
 {
     let mut h = 0;
     while h < 2 {
-        let mut rows = [0u8; ROWS];
+        let mut rows = [0u8; GATHERED];
         gather(&mut rows, stacks, h, tau);
-        add_columns(quad, mid, &rows, panel * 16 + h * 8, n, table, xs, polar);
+        add_columns(
+            quad,
+            mid,
+            &rows,
+            panel * SIXTEEN + h * BITS,
+            n,
+            table,
+            xs,
+            polar,
+        );
         h += 1;
     }
 }

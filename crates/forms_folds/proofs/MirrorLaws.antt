@@ -14,7 +14,8 @@ use Rattle.protocol.proofs.TestLaws.{ltb-yes, ltb-no}
 use Rattle.strings.specs.Sums.{byteAt, bitOf}
 use Rattle.strings.proofs.Meaning.{bitOf-zero}
 use Rattle.forms_folds.specs.Folds.{entry}
-use Rattle.forms_folds.specs.Sets.{Mirrored, Reflected, RowsKept}
+use Rattle.strings.specs.Rows.{RowsKept}
+use Rattle.forms_folds.specs.Sets.{Mirrored, Reflected}
 
 -- ---- the rows that are turned
 
@@ -71,14 +72,14 @@ module _ (k C : ℕ) (t t′ : List ℕ) (few : C < 20)
           ap (λ x. bitOf (byteAt t′ x) z) at ∙ ap (λ x. bitOf x z) (zeros (r % 16) (omega arith)) ∙ bitOf-zero z
           ∙ sym (ap (λ b. cond b (entry w M (C * 8 + z) r) 0) (ltb-no (r / 16) (C / 2) (omega arith)))
 
-  pub reflected-kept : (t₀ : List ℕ) → RowsKept k t₀ t → RowsKept k t₀ t′
+  pub reflected-kept : (t₀ : List ℕ) → RowsKept 160 k t₀ t → RowsKept 160 k t₀ t′
   reflected-kept t₀ kept x r away hr = other x r (λ e. let same : x ≡ k = omega arith in away same) ∙ kept x r away hr
 
 -- ---- the rows of the other columns
 
 -- 128 bytes of row k were written
 pub part-kept : (k at : ℕ) (t t′ : List ℕ) → at ≤ 32 → ((x : ℕ) → x < k * 160 + at → byteAt t′ x ≡ byteAt t x)
-    → ((x : ℕ) → byteAt t′ (k * 160 + at + (128 + x)) ≡ byteAt t (k * 160 + at + (128 + x))) → RowsKept k t t′
+    → ((x : ℕ) → byteAt t′ (k * 160 + at + (128 + x)) ≡ byteAt t (k * 160 + at + (128 + x))) → RowsKept 160 k t t′
 part-kept k at t t′ fits low high x r away hr =
     ne-cases x k (byteAt t′ (x * 160 + r) ≡ byteAt t (x * 160 + r)) away (λ (h : x < k). low (x * 160 + r) (omega arith))
     (λ (h : k < x).
@@ -86,5 +87,5 @@ part-kept k at t t′ fits low high x r away hr =
     rw e (high (x * 160 + r - (k * 160 + at + 128))))
 
 -- another column stays reflected
-pub reflected-stays : (w : ℕ) (M : List ℕ) (C x k : ℕ) (t t′ : List ℕ) → RowsKept k t t′ → (x ≡ k → ⊥) → C < 20 → Reflected w M C t x → Reflected w M C t′ x
+pub reflected-stays : (w : ℕ) (M : List ℕ) (C x k : ℕ) (t t′ : List ℕ) → RowsKept 160 k t t′ → (x ≡ k → ⊥) → C < 20 → Reflected w M C t x → Reflected w M C t′ x
 reflected-stays w M C x k t t′ kept away few done r z hr hz = ap (λ b. bitOf b z) (kept x r away (omega arith)) ∙ done r z hr hz

@@ -8,7 +8,7 @@ use native.Mathlib.Decide.{decLt}
 use native.Mathlib.Omega.{arith}
 use lib.Arith.{digits-div, digits-mod}
 use Rattle.forms_folds.specs.Folds.{before}
-use Rattle.forms_folds.specs.Sets.{place, Beside}
+use Rattle.forms_folds.specs.Sets.{chunkPlace, Beside}
 
 pub before-is : (first p : ℕ) → p < 4 → p * (2 * first + p + 1) / 2 ≡ before first p
 unfolding before
@@ -51,11 +51,11 @@ module _ (m i : ℕ) (inside : i < m) where
   place-rows A B e = sym (digits-div A inside) ∙ ap (λ x. x / m) e ∙ digits-div B inside
 
   -- other sixteen rows of the same matrix
-  pub beside-rows : (first p x q : ℕ) → x < q → x ≤ first + p → Beside first q m i 4 (place first p x m i)
+  pub beside-rows : (first p x q : ℕ) → x < q → x ≤ first + p → Beside first q m i 4 (chunkPlace first p x m i)
   beside-rows first p x q lt hx r hr hq e = let same : x ≡ q = same-rows first p x r q hx hq (place-rows (before first p + x) (before first r + q) e) in omega arith
 
   -- the same sixteen rows of a later panel
-  pub beside-panel : (first p x q : ℕ) → x < p → q ≤ first + x → place first x q m i ≡ place first p q m i → ⊥
+  pub beside-panel : (first p x q : ℕ) → x < p → q ≤ first + x → chunkPlace first x q m i ≡ chunkPlace first p q m i → ⊥
   beside-panel first p x q lt hq e = let same : before first x + q ≡ before first p + q = place-rows (before first x + q) (before first p + q) e in omega (arith, before-next first x p lt)
 
   -- another matrix

@@ -22,7 +22,7 @@ use Rattle.strings.proofs.LeastLaws.{under-least}
 use Rattle.strings.proofs.Rows.{row-end}
 use Rattle.chunks.specs.Chunks.{chunk, cellAt}
 use Rattle.forms_folds.specs.Folds.{entry, foldedBit, before, Folded, FoldedSet}
-use Rattle.forms_folds.specs.Sets.{Mirrors, Parted, summed, place, Put, ChunksKept, Kept, ChunkFolded, SetFolded, MatrixFolded}
+use Rattle.forms_folds.specs.Sets.{Mirrors, Parted, summed, chunkPlace, Put, ChunksKept, OthersKept, ChunkFolded, SetFolded, MatrixFolded}
 use Rattle.forms_folds.proofs.ArrayLaws.{in-first, in-last}
 use Rattle.forms_folds.proofs.PlaceLaws.{beside-rows, beside-panel, beside-matrix}
 
@@ -58,12 +58,12 @@ parted w from first q src low rest high made half old kept taken taken′ part k
         ap (byteAt rows) row ∙ in-last low rest high half old kept ((f - 8) * 8 + k) (omega arith) ∙ taken′ (f - 8) k (omega arith) hk ∙ ap (byteAt src) byte
 
 module _ (first p end q m i : ℕ) (made t cells cells′ : List ℕ) (inside : i < m)
-    (row : q ≤ first + p → first + p < end → (e : ℕ) → e < chunk → cellAt cells′ (place first p q m i) e ≡ summed made t q p e)
-    (others : (at e : ℕ) → (q ≤ first + p → at ≡ place first p q m i → ⊥) → e < chunk → cellAt cells′ at e ≡ cellAt cells at e) where
+    (row : q ≤ first + p → first + p < end → (e : ℕ) → e < chunk → cellAt cells′ (chunkPlace first p q m i) e ≡ summed made t q p e)
+    (others : (at e : ℕ) → (q ≤ first + p → at ≡ chunkPlace first p q m i → ⊥) → e < chunk → cellAt cells′ at e ≡ cellAt cells at e) where
   pub put-more : Put first end q m i p made t cells → Put first end q m i (p + 1) made t cells′
   put-more done x e hx hq hend he =
-      below-next (λ x. q ≤ first + x → first + x < end → cellAt cells′ (place first x q m i) e ≡ summed made t q x e) p (λ k l. row k l e he)
-      (λ x lt k l. others (place first x q m i) e (λ _. beside-panel m i inside first p x q lt k) he ∙ done x e lt k l he)
+      below-next (λ x. q ≤ first + x → first + x < end → cellAt cells′ (chunkPlace first x q m i) e ≡ summed made t q x e) p (λ k l. row k l e he)
+      (λ x lt k l. others (chunkPlace first x q m i) e (λ _. beside-panel m i inside first p x q lt k) he ∙ done x e lt k l he)
       x hx hq hend
 
   pub chunks-more : (old : List ℕ) → ChunksKept first q m i p old cells → ChunksKept first q m i (p + 1) old cells′
@@ -82,7 +82,7 @@ folded-bit w C r z x y M hz own added =
 
 -- what was put, of what was made
 pub chunk-folded : (w first end q m i : ℕ) (M t made cells : List ℕ) → Mirrors w M first end t → Parted w M first q made → Put first end q m i 4 made t cells
-    → (p : ℕ) → p < 4 → q ≤ first + p → first + p < end → ChunkFolded w M (first + p) q cells (place first p q m i)
+    → (p : ℕ) → p < 4 → q ≤ first + p → first + p < end → ChunkFolded w M (first + p) q cells (chunkPlace first p q m i)
 chunk-folded w first end q m i M t made cells mirrors parts put p hp hq hend h f z hh hw hf hz =
     let k = 2 * p + h in
     let r = q * 16 + f in
@@ -96,15 +96,15 @@ chunk-folded w first end q m i M t made cells mirrors parts put p hp hq hend h f
 -- ---- the rows of a matrix
 
 module _ (w first end m i q : ℕ) (M cells cells′ : List ℕ) (inside : i < m) (kept : ChunksKept first q m i 4 cells cells′) where
-  pub set-more : ((p : ℕ) → p < 4 → q ≤ first + p → first + p < end → ChunkFolded w M (first + p) q cells′ (place first p q m i))
+  pub set-more : ((p : ℕ) → p < 4 → q ≤ first + p → first + p < end → ChunkFolded w M (first + p) q cells′ (chunkPlace first p q m i))
       → SetFolded w M first end m i q cells → SetFolded w M first end m i (q + 1) cells′
   set-more own done x p hx =
-      below-next (λ x. p < 4 → x ≤ first + p → first + p < end → ChunkFolded w M (first + p) x cells′ (place first p x m i)) q (own p)
+      below-next (λ x. p < 4 → x ≤ first + p → first + p < end → ChunkFolded w M (first + p) x cells′ (chunkPlace first p x m i)) q (own p)
       (λ x lt hp hq hend h f z hh hw hf hz.
-      ap (λ b. bitOf b z) (kept (place first p x m i) (h * 16 + f) (beside-rows m i inside first p x q lt hq) (omega arith)) ∙ done x p lt hp hq hend h f z hh hw hf hz)
+      ap (λ b. bitOf b z) (kept (chunkPlace first p x m i) (h * 16 + f) (beside-rows m i inside first p x q lt hq) (omega arith)) ∙ done x p lt hp hq hend h f z hh hw hf hz)
       x hx
 
-  pub kept-more : (old : List ℕ) → Kept m i old cells → Kept m i old cells′
+  pub kept-more : (old : List ℕ) → OthersKept m i old cells → OthersKept m i old cells′
   kept-more old done Q x e hx other he = kept (Q * m + x) e (beside-matrix m i inside first q 4 Q x hx other) he ∙ done Q x e hx other he
 
 -- ---- the matrices
@@ -142,7 +142,7 @@ matrix-folded n w first end m i S M cells wide same ends done p q h f z hp hq hh
     let byte : 2 * (first + p) + h < w = omega (arith, column-byte n w ((first + p) * 16 + (h * 8 + z)) wide hc) in
     done q p (omega arith) hp hq inside h f z hh byte hf hz ∙ folded-same n w (q * 16 + f) ((first + p) * 16 + (h * 8 + z)) S M wide same hr hc
 
-pub matrix-more : (n w first m k : ℕ) (a cells cells′ : List ℕ) → k < m → MatrixFolded n w (blockAt a (n * w) k) first m k cells′ → Kept m k cells cells′
+pub matrix-more : (n w first m k : ℕ) (a cells cells′ : List ℕ) → k < m → MatrixFolded n w (blockAt a (n * w) k) first m k cells′ → OthersKept m k cells cells′
     → ((i : ℕ) → i < k → MatrixFolded n w (blockAt a (n * w) i) first m i cells) → (i : ℕ) → i < k + 1 → MatrixFolded n w (blockAt a (n * w) i) first m i cells′
 matrix-more n w first m k a cells cells′ inside own kept done =
     below-next (λ i. MatrixFolded n w (blockAt a (n * w) i) first m i cells′) k own

@@ -2,15 +2,19 @@
 --   Mirrored w M C t k == in row k of t, of 160 bytes, bit z of byte r is entry (8C + z, r) of M, for the rows r of the sixteens before that of column C
 --   Reflected w M C t k == the same, and 0 in the column's own sixteen: what is added to the column's entries
 --   Mirrors w M first end t == the rows of t are the reflected columns of the panels first, .., end - 1, as far as a row of M has bytes
---   RowsKept k old new == the rows of 160 bytes other than the k-th are as they were
 --   Parted w M first q made == made has, for the sixteen rows q, the bytes of each of the eight byte columns, column after column
 --   summed made t q p e == byte e of the chunk of the sixteen rows q of the set's panel p: that of made, with that of t added
---   place first p q m i == the chunk of matrix i of m, for the sixteen rows q of panel first + p
+--   chunkPlace first p q m i == the chunk of matrix i of m, for the sixteen rows q of panel first + p
 --   Put first end q m i k made t cells == the chunks of the sixteen rows q are so summed, for the first k panels of the set that lie before `end` and reach down to q
 --   Beside first q m i k at == chunk `at` is none of these;  ChunksKept first q m i k old new == the cells beside them are as they were
---   Kept m i old new == the other matrices' cells are as they were
+--   OthersKept m i old new == the other matrices' cells are as they were
 --   ChunkFolded w M J q cells at == chunk `at` of the cells holds the folded entries of the sixteen rows q of panel J (Folds), as far as a row of M has bytes
 --   SetFolded w M first end m i count cells == so do the chunks of matrix i of m, for the panels before `end`, in the first `count` sixteens of rows
+--   TurnedFits turned == a byte for each row of a matrix, for each of eight byte columns
+--   CellsFit m cells == the cells have room for a set of panels of m matrices
+--   RowsFit first end m i cells made turned == the panels are of one set, matrix i is one of m, and the buffers have room for them
+--   FoldFits w src from first end m i cells turned == the same, and src has the rows, from `from` on up to a whole sixteen, and 32 bytes more
+--   MatrixFits n w first end m i A cells turned == the same, where A has m matrices of n rows of w bytes, and `end` is past the panels of n columns
 --   MatrixFolded n w M first m i cells == the same for all of these, at the rows and columns below n
 -- Assumes nothing.
 use mathlib.Core.Path.{_≡_}
@@ -19,44 +23,44 @@ use mathlib.Core.List.{List}
 use Prim.Native.Nat.{ℕ, _+_, _*_, _/_, _%_, _≤_, _<_}
 use lib.Bits.{bitXor}
 use lib.Dec.{ltb}
+use lib.ListN.{length}
+use Rattle.protocol.specs.Strings.{bytesFor}
+use Rattle.protocol.specs.Shape.{mostVariables, mostEquations}
 use Rattle.strings.specs.Sums.{byteAt, bitOf}
 use Rattle.chunks.specs.Chunks.{chunk, cellAt}
 use Rattle.forms_folds.specs.Folds.{entry, foldedBit, before}
 
 abbrev pub Mirrored : ℕ → List ℕ → ℕ → List ℕ → ℕ → Type 0
-Mirrored w M C t k = (r z : ℕ) → r < C / 2 * 16 → z < 8 → bitOf (byteAt t (k * 160 + r)) z ≡ entry w M (C * 8 + z) r
+Mirrored w M C t k = (r z : ℕ) → r < C / 2 * 16 → z < 8 → bitOf (byteAt t (k * mostVariables + r)) z ≡ entry w M (C * 8 + z) r
 
 abbrev pub Reflected : ℕ → List ℕ → ℕ → List ℕ → ℕ → Type 0
 Reflected w M C t k =
-    (r z : ℕ) → r < C / 2 * 16 + 16 → z < 8 → bitOf (byteAt t (k * 160 + r)) z ≡ cond (ltb (r / 16) (C / 2)) (entry w M (C * 8 + z) r) 0
+    (r z : ℕ) → r < C / 2 * 16 + 16 → z < 8 → bitOf (byteAt t (k * mostVariables + r)) z ≡ cond (ltb (r / 16) (C / 2)) (entry w M (C * 8 + z) r) 0
 
 abbrev pub Mirrors : ℕ → List ℕ → ℕ → ℕ → List ℕ → Type 0
 Mirrors w M first end t = (k : ℕ) → 2 * first + k < 2 * end → 2 * first + k < w → Reflected w M (2 * first + k) t k
-
-abbrev pub RowsKept : ℕ → List ℕ → List ℕ → Type 0
-RowsKept k old new = (x r : ℕ) → (x ≡ k → ⊥) → r < 160 → byteAt new (x * 160 + r) ≡ byteAt old (x * 160 + r)
 
 abbrev pub Parted : ℕ → List ℕ → ℕ → ℕ → List ℕ → Type 0
 Parted w M first q made = (k f : ℕ) → k < 8 → f < 16 → byteAt made (k * 16 + f) ≡ byteAt M ((q * 16 + f) * w + (2 * first + k))
 
 abbrev pub summed : List ℕ → List ℕ → ℕ → ℕ → ℕ → ℕ
-summed made t q p e = bitXor (byteAt made (p * chunk + e)) (byteAt t ((2 * p + e / 16) * 160 + (q * 16 + e % 16)))
+summed made t q p e = bitXor (byteAt made (p * chunk + e)) (byteAt t ((2 * p + e / 16) * mostVariables + (q * 16 + e % 16)))
 
-abbrev pub place : ℕ → ℕ → ℕ → ℕ → ℕ → ℕ
-place first p q m i = (before first p + q) * m + i
+abbrev pub chunkPlace : ℕ → ℕ → ℕ → ℕ → ℕ → ℕ
+chunkPlace first p q m i = (before first p + q) * m + i
 
 abbrev pub Put : ℕ → ℕ → ℕ → ℕ → ℕ → ℕ → List ℕ → List ℕ → List ℕ → Type 0
 Put first end q m i k made t cells =
-    (p e : ℕ) → p < k → q ≤ first + p → first + p < end → e < chunk → cellAt cells (place first p q m i) e ≡ summed made t q p e
+    (p e : ℕ) → p < k → q ≤ first + p → first + p < end → e < chunk → cellAt cells (chunkPlace first p q m i) e ≡ summed made t q p e
 
 abbrev pub Beside : ℕ → ℕ → ℕ → ℕ → ℕ → ℕ → Type 0
-Beside first q m i k at = (p : ℕ) → p < k → q ≤ first + p → at ≡ place first p q m i → ⊥
+Beside first q m i k at = (p : ℕ) → p < k → q ≤ first + p → at ≡ chunkPlace first p q m i → ⊥
 
 abbrev pub ChunksKept : ℕ → ℕ → ℕ → ℕ → ℕ → List ℕ → List ℕ → Type 0
 ChunksKept first q m i k old new = (at e : ℕ) → Beside first q m i k at → e < chunk → cellAt new at e ≡ cellAt old at e
 
-abbrev pub Kept : ℕ → ℕ → List ℕ → List ℕ → Type 0
-Kept m i old new = (q x e : ℕ) → x < m → (x ≡ i → ⊥) → e < chunk → cellAt new (q * m + x) e ≡ cellAt old (q * m + x) e
+abbrev pub OthersKept : ℕ → ℕ → List ℕ → List ℕ → Type 0
+OthersKept m i old new = (q x e : ℕ) → x < m → (x ≡ i → ⊥) → e < chunk → cellAt new (q * m + x) e ≡ cellAt old (q * m + x) e
 
 abbrev pub ChunkFolded : ℕ → List ℕ → ℕ → ℕ → List ℕ → ℕ → Type 0
 ChunkFolded w M J q cells at =
@@ -64,9 +68,28 @@ ChunkFolded w M J q cells at =
 
 abbrev pub SetFolded : ℕ → List ℕ → ℕ → ℕ → ℕ → ℕ → ℕ → List ℕ → Type 0
 SetFolded w M first end m i count cells =
-    (q p : ℕ) → q < count → p < 4 → q ≤ first + p → first + p < end → ChunkFolded w M (first + p) q cells (place first p q m i)
+    (q p : ℕ) → q < count → p < 4 → q ≤ first + p → first + p < end → ChunkFolded w M (first + p) q cells (chunkPlace first p q m i)
+
+abbrev pub TurnedFits : List ℕ → Type 0
+TurnedFits turned = length turned ≡ 8 * mostVariables
+
+abbrev pub CellsFit : ℕ → List ℕ → Type 0
+CellsFit m cells = 26 * (m * chunk) ≤ length cells
+
+abbrev pub RowsFit : ℕ → ℕ → ℕ → ℕ → List ℕ → List ℕ → List ℕ → Type 0
+RowsFit first end m i cells made turned =
+    (first % 4 ≡ 0) × (first < end) × (end ≤ 10) × (i < m) × (m ≤ mostEquations) × CellsFit m cells × (length made ≡ 128) × TurnedFits turned
+
+abbrev pub FoldFits : ℕ → List ℕ → ℕ → ℕ → ℕ → ℕ → ℕ → List ℕ → List ℕ → Type 0
+FoldFits w src from first end m i cells turned =
+    (first % 4 ≡ 0) × (first < end) × (end ≤ first + 4) × (end ≤ 10) × (i < m) × (m ≤ mostEquations) × CellsFit m cells × TurnedFits turned × (from + end * 16 * w + 32 ≤ length src)
+
+abbrev pub MatrixFits : ℕ → ℕ → ℕ → ℕ → ℕ → ℕ → List ℕ → List ℕ → List ℕ → Type 0
+MatrixFits n w first end m i A cells turned =
+    (w ≡ bytesFor n) × (n ≤ mostVariables) × (first % 4 ≡ 0) × (first < end) × (end ≤ first + 4) × (end ≤ 10) × ((p : ℕ) → p < 4 → (first + p) * 16 < n → first + p < end)
+    × (i < m) × (m ≤ mostEquations) × (length A ≡ m * (n * w)) × CellsFit m cells × TurnedFits turned
 
 abbrev pub MatrixFolded : ℕ → ℕ → List ℕ → ℕ → ℕ → ℕ → List ℕ → Type 0
 MatrixFolded n w M first m i cells =
     (p q h f z : ℕ) → p < 4 → q ≤ first + p → h < 2 → f < 16 → z < 8 → q * 16 + f < n → (first + p) * 16 + (h * 8 + z) < n
-    → bitOf (cellAt cells (place first p q m i) (h * 16 + f)) z ≡ foldedBit w M (q * 16 + f) ((first + p) * 16 + (h * 8 + z))
+    → bitOf (cellAt cells (chunkPlace first p q m i) (h * 16 + f)) z ≡ foldedBit w M (q * 16 + f) ((first + p) * 16 + (h * 8 + z))

@@ -3,26 +3,32 @@ ghost use mathlib.Core.Path.{_≡_};
 ghost use Prim.Native.Nat.{ℕ, _+_, _*_, _/_, _%_, _<_, _≤_};
 ghost use lib.ListN.{length, drop};
 ghost use lib.Bits.{bitXor};
+ghost use Rattle.protocol.specs.Shape.{mostVariables, mostEquations};
 ghost use Rattle.strings.specs.Sums.{byteAt};
 ghost use Rattle.chunks.specs.Chunks.{chunk, cellAt};
 ghost use Rattle.forms_folds.specs.Folds.{before};
-ghost use Rattle.forms_folds.specs.Sets.{Mirrors, Parted, summed, place, Put, ChunksKept, ChunkFolded};
-use super::mirrors::ROWS;
+ghost use Rattle.forms_folds.specs.Sets.{TurnedFits, Parted, summed, chunkPlace, Put, ChunksKept, CellsFit, RowsFit};
 use chunks::CHUNK;
 use chunks::cells::copy_apart;
 use chunks::cells::copy_front;
 use chunks::cells::copy_part;
 use chunks::turns::EIGHT_ROWS;
-use chunks::turns::SIXTEEN;
 use chunks::turns::part;
+use format::sizes::MOST_VARIABLES;
+use strings::BITS;
+use strings::SIXTEEN;
 
-// The byte columns of a set.
-pub const COLUMNS: usize = 8;
+// The panels of a set.
+pub const PANELS: usize = 4;
+
+// The byte columns of a set, two to a panel.
+pub const COLUMNS: usize = 2 * PANELS;
 
 // The bytes of eight rows of a set.
-const HALF: usize = 8 * COLUMNS;
+const SET_ROWS: usize = BITS * COLUMNS;
 
-// The sixteens of rows that stand before those of panel first + p of a set: each panel has one more than the panel before it.
+// The sixteens of rows that stand before those of panel first + p of a set: each panel has one more than the panel
+// before it.
 pub fn begin(first: usize, p: usize) -> usize
     requires { ⌜ (first ≤ 10) × (p < 4) ⌝ }
     ensures { λ r. ⌜ r ≡ before first p ⌝ }
@@ -30,22 +36,23 @@ pub fn begin(first: usize, p: usize) -> usize
     p * (2 * first + p + 1) / 2
 }
 
-// Adds to each of a chunk's two columns of bytes one of `turned`: the first column's stands from `at` on, the second's a row further. The count is a
-// constant, so that the chunk stays in registers.
+// Adds to each of a chunk's two columns of bytes one of `turned`: the first column's stands from `at` on, the second's
+// a row further. The count is a constant, so that the chunk stays in registers.
 fn add_turned(sum: &mut [u8; CHUNK], turned: &[u8], at: usize)
     requires { ⌜ (length (now sum) ≡ chunk) × (at + 176 ≤ length (now turned)) ⌝ }
     ensures { λ _. ⌜ length (now (sum .exit)) ≡ chunk ⌝ }
-    ensures { λ _. ⌜ ((e : ℕ) → e < chunk → byteAt (now (sum .exit)) e ≡ bitXor (byteAt (now (sum .entry)) e) (byteAt (now (turned .entry)) (at + (e / 16 * 160 + e % 16)))) ⌝ }
+    ensures { λ _. ⌜ ((e : ℕ) → e < chunk → byteAt (now (sum .exit)) e ≡ bitXor (byteAt (now (sum .entry)) e) (byteAt (now (turned .entry)) (at + (e / 16 * mostVariables + e % 16)))) ⌝ }
 {
     let mut f = 0;
     while f < SIXTEEN {
         sum[f] ^= turned[at + f];
-        sum[SIXTEEN + f] ^= turned[at + ROWS + f];
+        sum[SIXTEEN + f] ^= turned[at + MOST_VARIABLES + f];
         f += 1;
     }
 }
 
-// Below its own sixteen a panel has no rows. What is added to a chunk is added where it is put: eight columns of sums at once would not fit registers.
+// Below its own sixteen a panel has no rows. What is added to a chunk is added where it is put: eight columns of sums
+// at once would not fit registers.
 fn put_panel(
     cells: &mut [u8],
     made: &[u8],
@@ -57,21 +64,23 @@ fn put_panel(
     m: usize,
     i: usize,
 )
-    requires { ⌜ (first % 4 ≡ 0) × (p < 4) × (first < end) × (end ≤ 10) × (i < m) × (m ≤ 160) × (26 * (m * chunk) ≤ length (now cells)) × (length (now made) ≡ 128) × (length (now turned) ≡ 1280) ⌝ }
-    ensures { λ _. ⌜ (q ≤ first + p → first + p < end → (e : ℕ) → e < chunk → cellAt (now (cells .exit)) (place first p q m i) e ≡ summed (now (made .entry)) (now (turned .entry)) q p e) ⌝ }
-    ensures { λ _. ⌜ ((at e : ℕ) → (q ≤ first + p → at ≡ place first p q m i → ⊥) → e < chunk → cellAt (now (cells .exit)) at e ≡ cellAt (now (cells .entry)) at e) ⌝ }
+    requires { ⌜ (first % 4 ≡ 0) × (p < 4) × (first < end) × (end ≤ 10) × (i < m) × (m ≤ mostEquations) × CellsFit m (now cells)
+        × (length (now made) ≡ 128) × TurnedFits (now turned) ⌝ }
+    ensures { λ _. ⌜ (q ≤ first + p → first + p < end → (e : ℕ) → e < chunk → cellAt (now (cells .exit)) (chunkPlace first p q m i) e ≡ summed (now (made .entry)) (now (turned .entry)) q p e) ⌝ }
+    ensures { λ _. ⌜ ((at e : ℕ) → (q ≤ first + p → at ≡ chunkPlace first p q m i → ⊥) → e < chunk → cellAt (now (cells .exit)) at e ≡ cellAt (now (cells .entry)) at e) ⌝ }
 {
     if q <= first + p {
         if first + p < end {
             let mut sum = [0u8; CHUNK];
             copy_front(&mut sum, made, p * CHUNK, CHUNK);
-            add_turned(&mut sum, turned, 2 * p * ROWS + q * SIXTEEN);
+            add_turned(&mut sum, turned, 2 * p * MOST_VARIABLES + q * SIXTEEN);
             copy_part(cells, (begin(first, p) + q) * m + i, CHUNK, &sum, 0);
         }
     }
 }
 
-fn put_rows(
+// What was made of the sixteen rows q is put for each panel of the set.
+pub fn put_rows(
     cells: &mut [u8],
     made: &[u8],
     turned: &[u8],
@@ -81,54 +90,34 @@ fn put_rows(
     m: usize,
     i: usize,
 )
-    requires { ⌜ (first % 4 ≡ 0) × (first < end) × (end ≤ 10) × (i < m) × (m ≤ 160) × (26 * (m * chunk) ≤ length (now cells)) × (length (now made) ≡ 128) × (length (now turned) ≡ 1280) ⌝ }
+    requires { ⌜ RowsFit first end m i (now cells) (now made) (now turned) ⌝ }
     ensures { λ _. ⌜ Put first end q m i 4 (now (made .entry)) (now (turned .entry)) (now (cells .exit)) ⌝ }
     ensures { λ _. ⌜ ChunksKept first q m i 4 (now (cells .entry)) (now (cells .exit)) ⌝ }
 {
     let mut p = 0;
-    while p < 4 {
+    while p < PANELS {
         put_panel(cells, made, turned, first, p, end, q, m, i);
         p += 1;
     }
 }
 
-// The sixteen rows q of the matrix that stands in src from `from` on: eight bytes of each are taken, and parted into columns. They are taken in two
-// halves, so that the addresses of the rows fit registers, and all is made in local arrays of constant length, which stay there.
-fn part_rows(made: &mut [u8], src: &[u8], from: usize, width: usize, first: usize, q: usize)
+// The sixteen rows q of the matrix that stands in src from `from` on: eight bytes of each are taken, and parted into
+// columns. They are taken in two halves, so that the addresses of the rows fit registers, and all is made in local
+// arrays of constant length, which stay there.
+pub fn part_rows(made: &mut [u8], src: &[u8], from: usize, width: usize, first: usize, q: usize)
     requires { ⌜ (length (now made) ≡ 128) × (first ≤ 9) × (q < 10) × (from + (q * 16 + 16) * width + 32 ≤ length (now src)) ⌝ }
     ensures { λ _. ⌜ Parted width (drop from (now (src .entry))) first q (now (made .exit)) ⌝ }
 {
     let mut rows = [0u8; EIGHT_ROWS];
     let at = from + q * SIXTEEN * width + 2 * first;
-    copy_apart(&mut rows[..HALF], 8, COLUMNS, src, at, width);
+    copy_apart(&mut rows[..SET_ROWS], BITS, COLUMNS, src, at, width);
     copy_apart(
-        &mut rows[HALF..EIGHT_ROWS],
-        8,
+        &mut rows[SET_ROWS..EIGHT_ROWS],
+        BITS,
         COLUMNS,
         src,
-        at + 8 * width,
+        at + BITS * width,
         width,
     );
     part(made, &rows);
-}
-
-pub fn fold_rows(
-    cells: &mut [u8],
-    turned: &[u8],
-    src: &[u8],
-    from: usize,
-    width: usize,
-    first: usize,
-    end: usize,
-    q: usize,
-    m: usize,
-    i: usize,
-)
-    requires { ⌜ (first % 4 ≡ 0) × (first < end) × (end ≤ 10) × (q < end) × (i < m) × (m ≤ 160) × (26 * (m * chunk) ≤ length (now cells)) × (length (now turned) ≡ 1280) × (from + end * 16 * width + 32 ≤ length (now src)) × Mirrors width (drop from (now src)) first end (now turned) ⌝ }
-    ensures { λ _. ⌜ ((p : ℕ) → p < 4 → q ≤ first + p → first + p < end → ChunkFolded width (drop from (now (src .entry))) (first + p) q (now (cells .exit)) (place first p q m i)) ⌝ }
-    ensures { λ _. ⌜ ChunksKept first q m i 4 (now (cells .entry)) (now (cells .exit)) ⌝ }
-{
-    let mut made = [0u8; EIGHT_ROWS];
-    part_rows(&mut made, src, from, width, first, q);
-    put_rows(cells, &made, turned, first, end, q, m, i);
 }

@@ -14,7 +14,7 @@ use Rattle.strings.proofs.SumLaws.{sum-same, sum-both, sum-put, xor-scale}
 use Rattle.strings.proofs.Meaning.{bitOf-lt, bitOf-xor, times-bit}
 use Rattle.chunks.specs.Chunks.{cellAt}
 use Rattle.chunks.proofs.BitSumLaws.{bit-sum}
-use Rattle.forms_columns.specs.Stacks.{alpha, product, planes, stackAt}
+use Rattle.forms_columns.specs.Stacks.{alpha, byteProduct, planes, stackAt}
 use Rattle.forms_columns.proofs.ProductLaws.{alpha-add, byte-bits, product-bits}
 
 -- a byte in a plane
@@ -44,13 +44,13 @@ two-added a b c d e first second = second ∙ ap (λ x. bitXor x e) first ∙ xo
 abbrev pub term : ℕ → ℕ → ℕ → ℕ → ℕ → ℕ
 term p x y v i = bitXor (bitOf v i * (x * alpha (p + i))) (bitOf v i * (y * alpha (p + 1 + i)))
 
-one-plane : (p x v : ℕ) → x < 2 → v < 256 → xorSum 8 (λ i. bitOf v i * (x * alpha (p + i))) ≡ x * product (alpha p) v
+one-plane : (p x v : ℕ) → x < 2 → v < 256 → xorSum 8 (λ i. bitOf v i * (x * alpha (p + i))) ≡ x * byteProduct (alpha p) v
 one-plane p x v hx hv =
-    sum-same 8 _ (λ i. x * (bitOf v i * product (alpha p) (alpha i)))
+    sum-same 8 _ (λ i. x * (bitOf v i * byteProduct (alpha p) (alpha i)))
     (λ i l. sym (mul-assoc (bitOf v i) x (alpha (p + i))) ∙ ap (λ y. y * alpha (p + i)) (mul-comm (bitOf v i) x) ∙ mul-assoc x (bitOf v i) (alpha (p + i)) ∙ ap (λ y. x * (bitOf v i * y)) (alpha-add p i))
-    ∙ sym (bit-sum x 8 (λ i. bitOf v i * product (alpha p) (alpha i)) hx)
-    ∙ ap (λ y. x * y) (product-bits (alpha p) 8 (bitOf v) alpha (bitOf-lt v) ∙ ap (product (alpha p)) (byte-bits v hv))
+    ∙ sym (bit-sum x 8 (λ i. bitOf v i * byteProduct (alpha p) (alpha i)) hx)
+    ∙ ap (λ y. x * y) (product-bits (alpha p) 8 (bitOf v) alpha (bitOf-lt v) ∙ ap (byteProduct (alpha p)) (byte-bits v hv))
 
-pub two-planes : (p x y v : ℕ) → x < 2 → y < 2 → v < 256 → xorSum 8 (term p x y v) ≡ bitXor (x * product (alpha p) v) (y * product (alpha (p + 1)) v)
+pub two-planes : (p x y v : ℕ) → x < 2 → y < 2 → v < 256 → xorSum 8 (term p x y v) ≡ bitXor (x * byteProduct (alpha p) v) (y * byteProduct (alpha (p + 1)) v)
 two-planes p x y v hx hy hv =
     sum-both 8 (λ i. bitOf v i * (x * alpha (p + i))) (λ i. bitOf v i * (y * alpha (p + 1 + i))) ∙ ap₂ bitXor (one-plane p x v hx hv) (one-plane (p + 1) y v hy hv)

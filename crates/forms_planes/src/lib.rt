@@ -1,14 +1,15 @@
-// Two planes of bits, added to a stack times a vector: two at a time, because a plane of the stack is then read and written once for both. The
-// vectors and what is computed from them are secret: no branch and no index goes by it.
+// Two planes of bits, added to a stack times a vector: two at a time, because a plane of the stack is then read and
+// written once for both. The vectors and what is computed from them are secret: no branch and no index goes by it.
 ghost use mathlib.Core.Path.{_≡_};
 ghost use mathlib.Core.List.{List};
 ghost use Prim.Native.Nat.{ℕ, _+_, _*_, _<_, _≤_};
 ghost use lib.ListN.{length};
 ghost use lib.Bits.{bitXor, bitAnd};
-ghost use Rattle.strings.specs.Sums.{byteAt, bitOf};
+ghost use Rattle.strings.specs.Sums.{byteAt};
 ghost use Rattle.chunks.specs.Chunks.{chunk, pair, cellAt, Masks};
-ghost use Rattle.forms_columns.specs.Stacks.{alpha, product, planes, stackAt};
+ghost use Rattle.forms_columns.specs.Stacks.{planes, stackAt, twoPlanes, MasksAt};
 use chunks::CHUNK;
+use field::Gf256;
 
 // Adds x under a mask to byte f of plane s.
 fn add_byte(t: &mut [u8], s: usize, f: usize, x: u8, mask: u8)
@@ -19,14 +20,15 @@ fn add_byte(t: &mut [u8], s: usize, f: usize, x: u8, mask: u8)
     t[s * CHUNK + f] ^= x & mask;
 }
 
-// Adds at byte f two planes, x and y there, whose weights are α^p and α^(p+1), times v, whose masks are lent: mask b is that of α^b.
+// Adds at byte f two planes, x and y there, whose weights are α^p and α^(p+1), times v, whose masks are lent: mask b is
+// that of α^b.
 fn absorb_byte(t: &mut [u8], p: usize, f: usize, x: u8, y: u8, masks: &[u8])
     requires { ⌜ (length (now t) ≡ planes * chunk) × (p < 7) × (f < chunk) × (length (now masks) ≡ 8 * chunk) ⌝ }
-    ensures { λ _. ⌜ ((v z : ℕ) → ((b : ℕ) → b < 8 → byteAt (now (masks .entry)) (b * chunk + f) ≡ bitOf v b * 255) → v < 256 → stackAt (now (t .exit)) f z ≡ bitXor (stackAt (now (t .entry)) f z) (bitXor (bitOf x z * product (alpha p) v) (bitOf y z * product (alpha (p + 1)) v))) ⌝ }
+    ensures { λ _. ⌜ ((v z : ℕ) → MasksAt v f (now (masks .entry)) → v < 256 → stackAt (now (t .exit)) f z ≡ bitXor (stackAt (now (t .entry)) f z) (twoPlanes p x y z v)) ⌝ }
     ensures { λ _. ⌜ ((q g : ℕ) → (g ≡ f → ⊥) → g < chunk → cellAt (now (t .exit)) q g ≡ cellAt (now (t .entry)) q g) ⌝ }
 {
     let mut b = 0;
-    while b < 8 {
+    while b < Gf256::DEGREE {
         let mask = masks[b * CHUNK + f];
         add_byte(t, p + b, f, x, mask);
         add_byte(t, p + 1 + b, f, y, mask);
@@ -37,7 +39,8 @@ fn absorb_byte(t: &mut [u8], p: usize, f: usize, x: u8, y: u8, masks: &[u8])
 // The same at each byte of two planes that stand side by side.
 pub fn absorb_planes(t: &mut [u8], p: usize, both: &[u8], masks: &[u8])
     requires { ⌜ (length (now t) ≡ planes * chunk) × (p < 7) × (length (now both) ≡ pair) × (length (now masks) ≡ 8 * chunk) ⌝ }
-    ensures { λ _. ⌜ ((v : List ℕ) (f z : ℕ) → Masks v (now (masks .entry)) → byteAt v f < 256 → f < chunk → stackAt (now (t .exit)) f z ≡ bitXor (stackAt (now (t .entry)) f z) (bitXor (bitOf (cellAt (now (both .entry)) 0 f) z * product (alpha p) (byteAt v f)) (bitOf (cellAt (now (both .entry)) 1 f) z * product (alpha (p + 1)) (byteAt v f)))) ⌝ }
+    ensures { λ _. ⌜ ((v : List ℕ) (f z : ℕ) → Masks v (now (masks .entry)) → byteAt v f < 256 → f < chunk
+        → stackAt (now (t .exit)) f z ≡ bitXor (stackAt (now (t .entry)) f z) (twoPlanes p (cellAt (now (both .entry)) 0 f) (cellAt (now (both .entry)) 1 f) z (byteAt v f))) ⌝ }
 {
     let mut f = 0;
     while f < CHUNK {

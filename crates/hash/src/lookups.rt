@@ -1,25 +1,25 @@
-// The sums of each four coordinates of the vectors of all repetitions, in a table, and the product of a row of bits with those vectors by looking them up.
-// The table, and what is computed from it, is secret: no branch and no index goes by it. Rows of bits that are looked up are public.
+// The sums of each four coordinates of the vectors of all repetitions, in a table, and the product of a row of bits
+// with those vectors by looking them up. The table, and what is computed from it, is secret: no branch and no index
+// goes by it. Rows of bits that are looked up are public.
 ghost use mathlib.Core.Path.{_≡_};
-ghost use mathlib.Core.List.{List};
 ghost use Prim.Native.Nat.{ℕ, _+_, _*_, _/_, _%_, _<_, _≤_};
 ghost use lib.ListN.{length};
 ghost use lib.Bits.{bitXor};
-ghost use Rattle.strings.specs.Sums.{byteAt, selected};
+ghost use Rattle.strings.specs.Sums.{byteAt};
+ghost use Rattle.strings.specs.Rows.{RowsKept};
 ghost use Rattle.lanes.specs.Lanes.{lanes, laneAt};
-ghost use Rattle.hash.specs.Entries.{entryByte, Tabled};
+ghost use Rattle.hash.specs.Entries.{entryLane, LanesTabled, byteLookedUp, RowSelected};
 use lanes::LANES;
+use strings::BITS;
+use strings::wide;
 
-// The entries of the table of sums for four coordinates, one for each value of half a byte of a row; and for the eight of a byte.
-const HALF: usize = 16;
+// The coordinates of a group, which half a byte of a row chooses from.
+const GROUP: usize = BITS / 2;
 
-const PER_BYTE: usize = 32;
+// The entries of the table of sums for a group, one for each value of half a byte; and for the two groups of a byte.
+const PER_GROUP: usize = 16;
 
-fn wide(x: u8) -> usize
-    ensures { λ r. ⌜ r ≡ x ⌝ }
-{
-    x as usize
-}
+pub const PER_BYTE: usize = 2 * PER_GROUP;
 
 // dst[e] ^= T[c][e], for each lane. The count is a constant, so that a caller's local array stays in registers.
 pub fn add_lanes(dst: &mut [u8; LANES], table: &[u8], c: usize)
@@ -48,7 +48,7 @@ fn add_coordinate(dst: &mut [u8; LANES], c: usize, n: usize, table: &[u8])
 fn store(sums: &mut [u8], k: usize, src: &[u8; LANES])
     requires { ⌜ (k * lanes + lanes ≤ length (now sums)) × (length (now src) ≡ lanes) ⌝ }
     ensures { λ _. ⌜ ((e : ℕ) → e < lanes → laneAt (now (sums .exit)) k e ≡ byteAt (now (src .entry)) e) ⌝ }
-    ensures { λ _. ⌜ ((q e : ℕ) → (q ≡ k → ⊥) → e < lanes → laneAt (now (sums .exit)) q e ≡ laneAt (now (sums .entry)) q e) ⌝ }
+    ensures { λ _. ⌜ RowsKept lanes k (now (sums .entry)) (now (sums .exit)) ⌝ }
 {
     let at = k * LANES;
     strings::copies::copy_into(&mut sums[at..at + LANES], src);
@@ -58,7 +58,7 @@ fn store(sums: &mut [u8], k: usize, src: &[u8; LANES])
 fn fill_entry(sums: &mut [u8], from: usize, to: usize, coordinate: &[u8; LANES])
     requires { ⌜ (from * lanes + lanes ≤ length (now sums)) × (to * lanes + lanes ≤ length (now sums)) × (length (now coordinate) ≡ lanes) ⌝ }
     ensures { λ _. ⌜ ((e : ℕ) → e < lanes → laneAt (now (sums .exit)) to e ≡ bitXor (laneAt (now (sums .entry)) from e) (byteAt (now (coordinate .entry)) e)) ⌝ }
-    ensures { λ _. ⌜ ((q e : ℕ) → (q ≡ to → ⊥) → e < lanes → laneAt (now (sums .exit)) q e ≡ laneAt (now (sums .entry)) q e) ⌝ }
+    ensures { λ _. ⌜ RowsKept lanes to (now (sums .entry)) (now (sums .exit)) ⌝ }
 {
     let mut sum = [0u8; LANES];
     strings::xor_of(&mut sum, strings::row_at(sums, LANES, from), coordinate);
@@ -81,28 +81,29 @@ fn fill_next(sums: &mut [u8], base: usize, count: usize, coordinate: &[u8; LANES
 // The sixteen sums of four coordinates: with each coordinate the sums so far are doubled.
 fn fill_group(sums: &mut [u8], g: usize, n: usize, table: &[u8])
     requires { ⌜ ((g * 16 + 16) * lanes ≤ length (now sums)) × (length (now table) ≡ n * lanes) ⌝ }
-    ensures { λ _. ⌜ ((v e : ℕ) → v < 16 → e < lanes → laneAt (now (sums .exit)) (g * 16 + v) e ≡ entryByte (now (table .entry)) (g * 16 + v) e) ⌝ }
+    ensures { λ _. ⌜ ((v e : ℕ) → v < 16 → e < lanes → laneAt (now (sums .exit)) (g * 16 + v) e ≡ entryLane (now (table .entry)) (g * 16 + v) e) ⌝ }
     ensures { λ _. ⌜ ((q e : ℕ) → q < g * 16 → e < lanes → laneAt (now (sums .exit)) q e ≡ laneAt (now (sums .entry)) q e) ⌝ }
 {
     let zero = [0u8; LANES];
-    store(sums, g * HALF, &zero);
+    store(sums, g * PER_GROUP, &zero);
     let mut count = 1;
     let mut s = 0;
-    while s < 4 {
+    while s < GROUP {
         let mut coordinate = [0u8; LANES];
-        add_coordinate(&mut coordinate, g * 4 + s, n, table);
-        fill_next(sums, g * HALF, count, &coordinate);
+        add_coordinate(&mut coordinate, g * GROUP + s, n, table);
+        fill_next(sums, g * PER_GROUP, count, &coordinate);
         count *= 2;
         s += 1;
     }
 }
 
-// The first entries of the table of sums: sixteen for each four of the n coordinates. Made once, they serve every row of every matrix.
+// The first entries of the table of sums: sixteen for each four of the n coordinates. Made once, they serve every row
+// of every matrix.
 pub fn fill_sums(sums: &mut [u8], count: usize, n: usize, table: &[u8])
     requires { ⌜ (count * lanes ≤ length (now sums)) × (length (now table) ≡ n * lanes) × (count % 16 ≡ 0) ⌝ }
-    ensures { λ _. ⌜ Tabled (now (table .entry)) (now (sums .exit)) count ⌝ }
+    ensures { λ _. ⌜ LanesTabled (now (table .entry)) (now (sums .exit)) count ⌝ }
 {
-    let groups = count / HALF;
+    let groups = count / PER_GROUP;
     let mut g = 0;
     while g < groups {
         fill_group(sums, g, n, table);
@@ -114,17 +115,17 @@ pub fn fill_sums(sums: &mut [u8], count: usize, n: usize, table: &[u8])
 fn add_chosen(dst: &mut [u8; LANES], b: usize, x: u8, sums: &[u8])
     requires { ⌜ ((b * 32 + 32) * lanes ≤ length (now sums)) × (length (now dst) ≡ lanes) ⌝ }
     ensures { λ _. ⌜ length (now (dst .exit)) ≡ lanes ⌝ }
-    ensures { λ _. ⌜ ((e : ℕ) → e < lanes → byteAt (now (dst .exit)) e ≡ bitXor (byteAt (now (dst .entry)) e) (bitXor (laneAt (now (sums .entry)) (b * 32 + x % 16) e) (laneAt (now (sums .entry)) (b * 32 + 16 + x / 16) e))) ⌝ }
+    ensures { λ _. ⌜ ((e : ℕ) → e < lanes → byteAt (now (dst .exit)) e ≡ bitXor (byteAt (now (dst .entry)) e) (byteLookedUp b x (now (sums .entry)) e)) ⌝ }
 {
     let first = b * PER_BYTE;
     add_lanes(dst, sums, first + wide(x % 16));
-    add_lanes(dst, sums, first + HALF + wide(x / 16));
+    add_lanes(dst, sums, first + PER_GROUP + wide(x / 16));
 }
 
 // out[e] = Σ row(c)·T[c][e] over the n coordinates of the table T that was summed: two additions for eight coordinates.
 pub fn look_up_row(out: &mut [u8], row: &[u8], sums: &[u8])
     requires { ⌜ (length (now out) ≡ lanes) × (length (now row) * 32 * lanes ≤ length (now sums)) ⌝ }
-    ensures { λ _. ⌜ ((table : List ℕ) (n e : ℕ) → Tabled table (now (sums .entry)) (length (now (row .entry)) * 32) → length table ≡ n * lanes → n ≤ length (now (row .entry)) * 8 → e < lanes → byteAt (now (out .exit)) e ≡ selected n (now (row .entry)) table lanes e) ⌝ }
+    ensures { λ _. ⌜ RowSelected (now (row .entry)) (now (sums .entry)) (now (out .exit)) ⌝ }
 {
     let mut sum = [0u8; LANES];
     let mut b = 0;

@@ -2,26 +2,26 @@
 ghost use mathlib.Core.Path.{_≡_};
 ghost use mathlib.Core.Bool.{true};
 ghost use Prim.Native.Nat.{ℕ, _+_, _*_, _<_, _≤_};
-ghost use lib.ListN.{length, take};
-ghost use lib.Bits.{bitXor};
+ghost use lib.ListN.{length};
 ghost use Rattle.protocol.specs.Strings.{bytesFor};
 ghost use Rattle.protocol.specs.Binary.{bits256};
 ghost use Rattle.protocol.specs.Shape.{limits, kOf, wOf};
-ghost use Rattle.strings.specs.Sums.{byteAt, selected};
-ghost use Rattle.lanes.specs.Lanes.{lanes, laneAt};
-ghost use Rattle.hash.specs.Entries.{Tabled};
+ghost use Rattle.strings.specs.Sums.{byteAt};
+ghost use Rattle.lanes.specs.Lanes.{lanes};
 ghost use Rattle.format.specs.Sizes.{shapeFor};
-ghost use Rattle.hash.specs.Hashed.{hashLane};
+ghost use Rattle.hash.specs.Hashed.{rowHashed, RowFits, FrontTabled, HashFits, Hashed};
 ghost use Rattle.questions.specs.Facts.{HashForm};
+use super::lookups::PER_BYTE;
 use format::Sizes;
 use format::sizes::MOST_ROW;
 use lanes::LANES;
+use strings::BITS;
 
 // What a row of H′ selects, and one coordinate more, for each lane.
 fn hash_row(out: &mut [u8], row: &[u8], identity: usize, table: &[u8], sums: &[u8])
-    requires { ⌜ (length (now out) ≡ lanes) × (length (now row) * 32 * lanes ≤ length (now sums)) × (identity * lanes + lanes ≤ length (now table)) × (length (now row) * 8 * lanes ≤ length (now table)) ⌝ }
-    requires { ⌜ Tabled (take (length (now row) * 8 * lanes) (now table)) (now sums) (length (now row) * 32) ⌝ }
-    ensures { λ _. ⌜ ((e : ℕ) → e < lanes → byteAt (now (out .exit)) e ≡ bitXor (selected (length (now (row .entry)) * 8) (now (row .entry)) (now (table .entry)) lanes e) (laneAt (now (table .entry)) identity e)) ⌝ }
+    requires { ⌜ RowFits (now out) (length (now row)) identity (now table) (now sums) ⌝ }
+    requires { ⌜ FrontTabled (length (now row)) (now table) (now sums) ⌝ }
+    ensures { λ _. ⌜ ((e : ℕ) → e < lanes → byteAt (now (out .exit)) e ≡ rowHashed (now (row .entry)) identity (now (table .entry)) e) ⌝ }
 {
     let mut sum = [0u8; LANES];
     super::lookups::look_up_row(&mut sum, row, sums);
@@ -53,9 +53,9 @@ fn hash_lanes(
     table: &[u8],
     sums: &[u8],
 )
-    requires { ⌜ (length (now out) ≡ tau * t) × (length (now matrix) ≡ t * width) × (tau ≤ lanes) × (width * 32 * lanes ≤ length (now sums)) × ((k + t) * lanes ≤ length (now table)) × (width * 8 * lanes ≤ length (now table)) ⌝ }
-    requires { ⌜ Tabled (take (width * 8 * lanes) (now table)) (now sums) (width * 32) ⌝ }
-    ensures { λ _. ⌜ ((e r : ℕ) → e < tau → r < t → byteAt (now (out .exit)) (e * t + r) ≡ hashLane (now (matrix .entry)) width k (now (table .entry)) r e) ⌝ }
+    requires { ⌜ HashFits (now out) (now matrix) width k t tau (now table) (now sums) ⌝ }
+    requires { ⌜ FrontTabled width (now table) (now sums) ⌝ }
+    ensures { λ _. ⌜ Hashed (now (matrix .entry)) width k t tau (now (table .entry)) (now (out .exit)) ⌝ }
 {
     let mut rho = 0;
     while rho < t {
@@ -75,23 +75,24 @@ fn hash_lanes(
 // The sums of each four coordinates that a row of H′ can select.
 fn fill_entries(entries: &mut [u8], table: &[u8], s: Sizes)
     requires { ⌜ (limits (shapeFor s) ≡ true) × (length (now table) ≡ 8 * wOf bits256 (shapeFor s) * lanes) × (bytesFor (kOf bits256 (shapeFor s)) * 32 * lanes ≤ length (now entries)) ⌝ }
-    ensures { λ _. ⌜ Tabled (take (bytesFor (kOf bits256 (shapeFor s)) * 8 * lanes) (now (table .entry))) (now (entries .exit)) (bytesFor (kOf bits256 (shapeFor s)) * 32) ⌝ }
+    ensures { λ _. ⌜ FrontTabled (bytesFor (kOf bits256 (shapeFor s))) (now (table .entry)) (now (entries .exit)) ⌝ }
 {
     let width = format::sizes::bytes_for(format::sizes::hashed_bits(s));
-    let rows = width * 8;
-    super::lookups::fill_sums(entries, width * 32, rows, &table[..rows * LANES]);
+    let rows = width * BITS;
+    super::lookups::fill_sums(entries, width * PER_BYTE, rows, &table[..rows * LANES]);
 }
 
-// Byte e·t + ρ is row ρ of H·v_e, for the vectors v_e of the table (the verifier's are W_e). The table of sums is needed here only, and so is off the stack when the batch step, the deepest, begins.
+// Byte e·t + ρ is row ρ of H·v_e, for the vectors v_e of the table (the verifier's are W_e). The table of sums is
+// needed here only, and so is off the stack when the batch step, the deepest, begins.
 pub fn hash_all(out: &mut [u8], matrix: &[u8], table: &[u8], s: Sizes)
     requires { ⌜ (limits (shapeFor s) ≡ true) × HashForm (shapeFor s) (now matrix) × (length (now table) ≡ 8 * wOf bits256 (shapeFor s) * lanes) × (length (now out) ≡ s .tau * s .t) ⌝ }
-    ensures { λ _. ⌜ ((e r : ℕ) → e < s .tau → r < s .t → byteAt (now (out .exit)) (e * s .t + r) ≡ hashLane (now (matrix .entry)) (bytesFor (kOf bits256 (shapeFor s))) (kOf bits256 (shapeFor s)) (now (table .entry)) r e) ⌝ }
+    ensures { λ _. ⌜ Hashed (now (matrix .entry)) (bytesFor (kOf bits256 (shapeFor s))) (kOf bits256 (shapeFor s)) (s .t) (s .tau) (now (table .entry)) (now (out .exit)) ⌝ }
 {
     let k = format::sizes::hashed_bits(s);
     let width = format::sizes::bytes_for(k);
     let t = s.t;
     let tau = s.tau;
-    let mut entries = [0u8; MOST_ROW * 32 * LANES];
+    let mut entries = [0u8; MOST_ROW * PER_BYTE * LANES];
     fill_entries(&mut entries, table, s);
     hash_lanes(out, matrix, width, k, t, tau, table, &entries);
 }

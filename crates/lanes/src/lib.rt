@@ -1,5 +1,5 @@
-// The vectors of all repetitions side by side: byte c·LANES + e of a table is coordinate c of the vector of repetition e.
-// A table, and what is computed from it, is secret: no branch and no index goes by it.
+// The vectors of all repetitions side by side: byte c·LANES + e of a table is coordinate c of the vector of
+// repetition e. A table, and what is computed from it, is secret: no branch and no index goes by it.
 ghost use mathlib.Core.Path.{_≡_};
 ghost use Prim.Native.Nat.{ℕ, _+_, _*_, _<_, _≤_};
 ghost use lib.ListN.{length};
@@ -10,10 +10,19 @@ ghost use Rattle.strings.specs.Sums.{byteAt};
 ghost use Rattle.lanes.specs.Lanes.{lanes, maskLane, maskBits};
 use field::Gf256;
 
-// As many as a key may have repetitions (01: 1..48). Lanes from a key's own number on hold anything.
+// As many as a key may have repetitions (01: 1..48). Lanes from a key's own number on hold anything. The stride is
+// fixed, so that loops over it have a constant length.
 pub const LANES: usize = 48;
 
-// acc[e] ^= f[e]·t[e] in GF(256), for each lane. Both factors vary with e, so that no mask is the same for a whole loop and could become a branch.
+// n variables, m equations, tau repetitions.
+pub struct Dimensions {
+    pub n: usize,
+    pub m: usize,
+    pub tau: usize,
+}
+
+// acc[e] ^= f[e]·t[e] in GF(256), for each lane. Both factors vary with e: no mask is the same for a whole loop, which
+// the compiler could make a branch.
 pub fn accumulate(acc: &mut [u8], f: &[u8], t: &[u8])
     requires { ⌜ (length (now acc) ≡ lanes) × (length (now f) ≡ lanes) × (length (now t) ≡ lanes) ⌝ }
     ensures { λ _. ⌜ ((e : ℕ) → e < lanes → byteAt (now (acc .exit)) e ≡ bitXor (byteAt (now (acc .entry)) e) (mulByte gf256 (byteAt (now (f .entry)) e) (byteAt (now (t .entry)) e))) ⌝ }
@@ -25,8 +34,8 @@ pub fn accumulate(acc: &mut [u8], f: &[u8], t: &[u8])
     }
 }
 
-// acc[e] ^= src[e] or 0, by a secret bit: through a mask. The caller reads the bit from memory, where the compiler cannot see
-// that it is a bit and make the mask a branch.
+// acc[e] ^= src[e] or 0, by a secret bit: through a mask. The caller reads the bit from memory, where the compiler
+// cannot see that it is a bit and make the mask a branch.
 pub fn add_masked(acc: &mut [u8], bit: u8, src: &[u8])
     requires { ⌜ (length (now acc) ≡ lanes) × (length (now src) ≡ lanes) × (bit < 2) ⌝ }
     ensures { λ _. ⌜ ((e : ℕ) → e < lanes → byteAt (now (acc .exit)) e ≡ bitXor (byteAt (now (acc .entry)) e) (bit * byteAt (now (src .entry)) e)) ⌝ }

@@ -25,7 +25,7 @@ use Rattle.protocol.proofs.HashLaws.{hash-split}
 use Rattle.protocol.proofs.TestLaws.{eqb-eq, all-at}
 use Rattle.format.proofs.FitLaws.{in-width}
 use Rattle.strings.specs.Sums.{byteAt, bitOf}
-use Rattle.strings.specs.Products.{product}
+use Rattle.strings.specs.Products.{bitProduct}
 use Rattle.strings.proofs.Rows.{row-end, row-byte, row-lt}
 use Rattle.strings.proofs.Meaning.{bitOf-xor, bit-is, byte-sum, byte-bit, byte-scale}
 use Rattle.strings.proofs.SumLaws.{sum-same, sum-short}
@@ -129,7 +129,7 @@ module _ (s : Shape) (leaves : List ℕ) where
         spare-at k (rowAt ρ) (all-at (s .t) (λ i. spareZero (rowAt i) k) zeros ρ l) c low (rw (length-block H′ (bytesFor k) ρ (omega (arith, long, row-end ρ (s .t) (bytesFor k) l))) high)
 
     -- the product with a row of H′ as the field has it
-    product-is : (ρ : ℕ) → ρ < s .t → product (bytesFor k * 8) (rowAt ρ) row ≡ byteOf (sum (bits256 .K .base .R) k (λ c. bits256 .K .base .R .mul (symbol bits256 (rowAt ρ) c) (u bits256 s leaves 0 c)))
+    product-is : (ρ : ℕ) → ρ < s .t → bitProduct (bytesFor k * 8) (rowAt ρ) row ≡ byteOf (sum (bits256 .K .base .R) k (λ c. bits256 .K .base .R .mul (symbol bits256 (rowAt ρ) c) (u bits256 s leaves 0 c)))
     unfolding symbol lOf bytesFor
     product-is ρ l =
         sum-short k (bytesFor k * 8) _ (omega arith) (λ c low high. ap (λ q. q * bit row c) (row-spare ρ c l low high) ∙ zero-mul (bit row c))

@@ -6,7 +6,7 @@ use Prim.Native.Nat.{ℕ, _+_, _*_}
 use lib.Bits.{bitXor}
 use Rattle.protocol.specs.Lists.{blockAt}
 use Rattle.protocol.specs.Strings.{bytesFor, bit}
-use Rattle.strings.specs.Products.{product}
+use Rattle.strings.specs.Products.{bitProduct}
 
 abbrev pub hashBit : List ℕ → List ℕ → ℕ → ℕ → ℕ
-hashBit H′ u k ρ = bitXor (product (bytesFor k * 8) (blockAt H′ (bytesFor k) ρ) u) (bit u (k + ρ))
+hashBit H′ u k ρ = bitXor (bitProduct (bytesFor k * 8) (blockAt H′ (bytesFor k) ρ) u) (bit u (k + ρ))

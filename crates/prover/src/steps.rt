@@ -8,6 +8,7 @@ use super::framed::write_v;
 use format::Sizes;
 use format::sizes::bytes_for;
 use format::sizes::leaf_bytes;
+use lanes::Dimensions;
 use lanes::LANES;
 use sections::COUNT;
 use sections::frames::put_two;
@@ -58,10 +59,8 @@ fn fill_forms(
         witness,
         batching,
         strings::row_at(sums, w, 0),
-        n,
-        m,
-        tau,
         table,
+        Dimensions { n, m, tau },
     );
 }
 

@@ -5,7 +5,8 @@ ghost use lib.ListN.{length};
 ghost use lib.Bits.{bitXor};
 ghost use Rattle.protocol.specs.Strings.{bytesFor, bit, pack};
 ghost use Rattle.strings.specs.Sums.{byteAt};
-ghost use Rattle.tables.specs.Sums.{lanes, CorrectionsAre};
+ghost use Rattle.lanes.specs.Lanes.{lanes};
+ghost use Rattle.tables.specs.Sums.{CorrectionsAre};
 ghost use Rattle.prover.specs.Hash.{hashBit};
 
 // C_(e+1) = u_(e+1) + u, as row e of the section.

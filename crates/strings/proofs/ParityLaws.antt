@@ -13,7 +13,7 @@ use lib.Dec.{lit<}
 use lib.ListN.{length}
 use Rattle.protocol.specs.Strings.{bit}
 use Rattle.strings.specs.Sums.{byteAt, bitOf, xorSum}
-use Rattle.strings.specs.Products.{product}
+use Rattle.strings.specs.Products.{bitProduct}
 use Rattle.strings.proofs.SumLaws.{sum-same, sum-parts, four}
 use Rattle.strings.proofs.Meaning.{bit-place}
 use Rattle.strings.proofs.ProductLaws.{bit-first, bit-next}
@@ -76,7 +76,7 @@ ones-product (suc k) a b h =
     ∙ sum-same k _ (λ i. bitOf a (suc i) * bitOf b (suc i)) (λ i l. ap₂ (λ x y. x * y) (sym (bit-next a i)) (sym (bit-next b i))))
     ∙ sym (sum-front k (λ i. bitOf a i * bitOf b i))
 
-pub shared-parity : (n : ℕ) (row x : List ℕ) → ((i : ℕ) → i < n → byteAt row i < 256) → shared n row x % 2 ≡ product (n * 8) row x
+pub shared-parity : (n : ℕ) (row x : List ℕ) → ((i : ℕ) → i < n → byteAt row i < 256) → shared n row x % 2 ≡ bitProduct (n * 8) row x
 unfolding shared xorSum
 shared-parity zero row x h = refl
 shared-parity (suc n) row x h =
@@ -85,7 +85,7 @@ shared-parity (suc n) row x h =
     ∙ ap₂ bitXor (shared-parity n row x (λ i l. h i (omega arith)))
     (ones-product 8 (byteAt row n) (byteAt x n) (h n (omega arith))
     ∙ sum-same 8 _ (λ i. bit row (n * 8 + i) * bit x (n * 8 + i)) (λ i l. ap₂ (λ a b. a * b) (sym (bit-place row n i l)) (sym (bit-place x n i l))))
-    ∙ sym (sum-parts (n * 8) 8 (λ c. bit row c * bit x c)) ∙ ap (λ k. product k row x) (sym e)
+    ∙ sym (sum-parts (n * 8) 8 (λ c. bit row c * bit x c)) ∙ ap (λ k. bitProduct k row x) (sym e)
 
 pub row-product : RowProduct
 row-product row x h l = shared-parity (length row) row x h

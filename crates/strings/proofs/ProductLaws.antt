@@ -12,7 +12,7 @@ use Rattle.algebra.specs.Sum.{sum}
 use Rattle.protocol.specs.Strings.{bit}
 use Rattle.protocol.proofs.StringLaws.{bit-lt}
 use Rattle.strings.specs.Sums.{bitOf}
-use Rattle.strings.specs.Products.{product}
+use Rattle.strings.specs.Products.{bitProduct}
 use Rattle.strings.proofs.SumLaws.{sum-same, sum-lt}
 use Rattle.strings.proofs.Meaning.{byte-sum, byte-bit, byte-scale}
 
@@ -25,7 +25,7 @@ unfolding bitOf
 bit-first a = ap (λ x. x % 2) (div-one a)
 
 -- the product of two rows of bits, as any field of characteristic 2 has it
-pub product-sum : (C : Coded) (n : ℕ) (row x : List ℕ) → C .byte (sum (C .base .R) n (λ c. C .base .R .mul (C .elem (bit row c)) (C .elem (bit x c)))) ≡ product n row x
+pub product-sum : (C : Coded) (n : ℕ) (row x : List ℕ) → C .byte (sum (C .base .R) n (λ c. C .base .R .mul (C .elem (bit row c)) (C .elem (bit x c)))) ≡ bitProduct n row x
 product-sum C n row x =
     byte-sum C n _
     ∙ sum-same n _ _ (λ c l. byte-scale C (bit row c) (C .elem (bit x c)) (bit-lt row c) ∙ ap (λ y. bit row c * y) (byte-bit C (bit x c) (bit-lt x c)))
@@ -35,5 +35,5 @@ bit-times-lt zero q h k = omega arith
 bit-times-lt (suc zero) q h k = omega arith
 bit-times-lt (suc (suc p)) q h k = absurd (omega arith)
 
-pub product-lt : (n : ℕ) (row x : List ℕ) → product n row x < 2
+pub product-lt : (n : ℕ) (row x : List ℕ) → bitProduct n row x < 2
 product-lt n row x = sum-lt 1 n _ (lit< tt) (λ c l. bit-times-lt _ _ (bit-lt row c) (bit-lt x c))

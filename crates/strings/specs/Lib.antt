@@ -1,4 +1,5 @@
 pub mod Sums
+pub mod Rows
 pub mod Products
 pub mod Words
 pub mod Shared

@@ -10,11 +10,11 @@ use lib.Count.{ones}
 use lib.ListN.{length}
 use Rattle.protocol.specs.Strings.{bytes}
 use Rattle.strings.specs.Sums.{byteAt}
-use Rattle.strings.specs.Products.{product}
+use Rattle.strings.specs.Products.{bitProduct}
 
 unfoldable pub shared : ℕ → List ℕ → List ℕ → ℕ
 shared zero row x = 0
 shared (suc n) row x = shared n row x + ones (bitAnd (byteAt row n) (byteAt x n))
 
 abbrev pub RowProduct : Type 0
-RowProduct = (row x : List ℕ) → bytes row → length x ≡ length row → shared (length row) row x % 2 ≡ product (length row * 8) row x
+RowProduct = (row x : List ℕ) → bytes row → length x ≡ length row → shared (length row) row x % 2 ≡ bitProduct (length row * 8) row x

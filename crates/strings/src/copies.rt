@@ -3,6 +3,7 @@ ghost use mathlib.Core.Path.{_≡_};
 ghost use Prim.Native.Nat.{ℕ, _*_, _<_, _≤_};
 ghost use lib.ListN.{length};
 ghost use Rattle.protocol.specs.Strings.{bytesFor, bit};
+use super::BITS;
 
 // dst becomes src.
 pub fn copy_into(dst: &mut [u8], src: &[u8])
@@ -22,7 +23,7 @@ pub fn clear_spare(s: &mut [u8], n: usize)
     ensures { λ _. ⌜ ((c : ℕ) → c < n → bit (now (s .exit)) c ≡ bit (now (s .entry)) c) ⌝ }
     ensures { λ _. ⌜ ((c : ℕ) → n ≤ c → c < length (now (s .entry)) * 8 → bit (now (s .exit)) c ≡ 0) ⌝ }
 {
-    if n % 8 != 0 {
-        s[n / 8] &= (1u8 << (n % 8)) - 1;
+    if n % BITS != 0 {
+        s[n / BITS] &= (1u8 << (n % BITS)) - 1;
     }
 }

@@ -9,7 +9,14 @@ ghost use lib.Bits.{bitXor};
 ghost use Rattle.protocol.specs.Lists.{blockAt};
 ghost use Rattle.protocol.specs.Strings.{bit};
 ghost use Rattle.strings.specs.Sums.{byteAt};
+ghost use Rattle.strings.specs.Rows.{RowAdded, RowsKept};
 ghost use Rattle.strings.specs.Words.{wordOf};
+
+// The bits of a byte.
+pub const BITS: usize = 8;
+
+// The bytes of a register of the machine. Loops of this length stay in registers.
+pub const SIXTEEN: usize = 16;
 
 // dst[i] ^= src[i], for each i.
 pub fn xor_into(dst: &mut [u8], src: &[u8])
@@ -58,8 +65,8 @@ pub fn row_at(table: &[u8], width: usize, i: usize) -> &[u8]
 // Adds src to row i of a table whose rows are as long as src, and leaves the other rows.
 pub fn xor_row(table: &mut [u8], i: usize, src: &[u8])
     requires { ⌜ i * length (now src) + length (now src) ≤ length (now table) ⌝ }
-    ensures { λ _. ⌜ ((b : ℕ) → b < length (now (src .entry)) → byteAt (now (table .exit)) (i * length (now (src .entry)) + b) ≡ bitXor (byteAt (now (table .entry)) (i * length (now (src .entry)) + b)) (byteAt (now (src .entry)) b)) ⌝ }
-    ensures { λ _. ⌜ ((q b : ℕ) → (q ≡ i → ⊥) → b < length (now (src .entry)) → byteAt (now (table .exit)) (q * length (now (src .entry)) + b) ≡ byteAt (now (table .entry)) (q * length (now (src .entry)) + b)) ⌝ }
+    ensures { λ _. ⌜ RowAdded (length (now (src .entry))) i (now (src .entry)) (now (table .entry)) (now (table .exit)) ⌝ }
+    ensures { λ _. ⌜ RowsKept (length (now (src .entry))) i (now (table .entry)) (now (table .exit)) ⌝ }
 {
     let w = src.len();
     let at = i * w;
@@ -71,7 +78,7 @@ pub fn bit_at(s: &[u8], c: usize) -> u8
     requires { ⌜ c < length (now s) * 8 ⌝ }
     ensures { λ r. ⌜ r ≡ bit (now (s .entry)) c ⌝ }
 {
-    (s[c / 8] >> (c % 8)) % 2
+    (s[c / BITS] >> (c % BITS)) % 2
 }
 
 // Adds a bit to coordinate c of a bit string.
@@ -80,11 +87,19 @@ pub fn xor_bit(s: &mut [u8], c: usize, q: u8)
     ensures { λ _. ⌜ bit (now (s .exit)) c ≡ bitXor (bit (now (s .entry)) c) q ⌝ }
     ensures { λ _. ⌜ ((d : ℕ) → (d ≡ c → ⊥) → bit (now (s .exit)) d ≡ bit (now (s .entry)) d) ⌝ }
 {
-    s[c / 8] ^= q << (c % 8);
+    s[c / BITS] ^= q << (c % BITS);
 }
 
-fn wide(x: u8) -> u64
+// A byte as an index.
+pub fn wide(x: u8) -> usize
     ensures { λ r. ⌜ r ≡ x ⌝ }
+{
+    x as usize
+}
+
+// A byte as a word.
+pub fn word(x: u8) -> u64
+    ensures { λ r. ⌜ (r ≡ x) × (r < 256) ⌝ }
 {
     x as u64
 }
@@ -94,14 +109,14 @@ pub fn word_at(s: &[u8], at: usize) -> u64
     requires { ⌜ at + 8 ≤ length (now s) ⌝ }
     ensures { λ r. ⌜ r ≡ wordOf (now (s .entry)) at 8 ⌝ }
 {
-    wide(s[at])
-        | wide(s[at + 1]) << 8
-        | wide(s[at + 2]) << 16
-        | wide(s[at + 3]) << 24
-        | wide(s[at + 4]) << 32
-        | wide(s[at + 5]) << 40
-        | wide(s[at + 6]) << 48
-        | wide(s[at + 7]) << 56
+    word(s[at])
+        | word(s[at + 1]) << 8
+        | word(s[at + 2]) << 16
+        | word(s[at + 3]) << 24
+        | word(s[at + 4]) << 32
+        | word(s[at + 5]) << 40
+        | word(s[at + 6]) << 48
+        | word(s[at + 7]) << 56
 }
 
 // The lesser of two numbers.

@@ -3,7 +3,7 @@ ghost use mathlib.Core.Path.{_≡_};
 ghost use Prim.Native.Nat.{_+_, _*_, _%_, _<_, _≤_};
 ghost use lib.ListN.{length};
 ghost use lib.Count.{ones};
-ghost use Rattle.strings.specs.Products.{product};
+ghost use Rattle.strings.specs.Products.{bitProduct};
 ghost use Rattle.strings.specs.Shared.{shared};
 use super::word_at;
 
@@ -45,11 +45,12 @@ fn shared_bytes(row: &[u8], x: &[u8]) -> u32
     count
 }
 
-// The product of two rows of bits over GF(2), as 01 has it: row AND x, the ones counted, their parity taken. Words of eight bytes are added before
-// they are counted; only a row shorter than a word is counted by bytes. The length is public; no branch and no index goes by the bits.
+// The product of two rows of bits over GF(2), as 01 has it: row AND x, the ones counted, their parity taken. Words of
+// eight bytes are added before they are counted; only a row shorter than a word is counted by bytes. The length is
+// public; no branch and no index goes by the bits.
 pub fn row_product(row: &[u8], x: &[u8]) -> u8
     requires { ⌜ (length (now x) ≡ length (now row)) × (length (now row) ≤ 100000) ⌝ }
-    ensures { λ r. ⌜ (r ≡ product (length (now (row .entry)) * 8) (now (row .entry)) (now (x .entry))) × (r < 2) ⌝ }
+    ensures { λ r. ⌜ (r ≡ bitProduct (length (now (row .entry)) * 8) (now (row .entry)) (now (x .entry))) × (r < 2) ⌝ }
 {
     if row.len() < 8 {
         return (shared_bytes(row, x) % 2) as u8;

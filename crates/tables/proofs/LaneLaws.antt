@@ -17,7 +17,7 @@ use Rattle.protocol.specs.Strings.{bit}
 use Rattle.strings.specs.Sums.{byteAt, bitOf}
 use Rattle.strings.proofs.Rows.{row-byte}
 use Rattle.strings.proofs.Meaning.{bit-place}
-use Rattle.tables.specs.Sums.{lanes}
+use Rattle.lanes.specs.Lanes.{lanes}
 
 abbrev pub Filled : (ℕ → ℕ) → List ℕ → ℕ → ℕ → ℕ → Type 0
 Filled g l e a n = (k : ℕ) → k < n → byteAt l ((a + k) * lanes + e) ≡ g k

@@ -19,7 +19,7 @@ use Rattle.protocol.proofs.StringLaws.{bit-lt}
 use Rattle.strings.specs.Sums.{byteAt, xorSum}
 use Rattle.strings.proofs.SumLaws.{sum-same}
 use Rattle.strings.proofs.Meaning.{byte-sum, byte-bit, byte-times}
-use Rattle.tables.specs.Sums.{lanes}
+use Rattle.lanes.specs.Lanes.{lanes}
 use Rattle.tables.specs.Opened.{correctionBit, wByte, OpenedTableIs}
 use Rattle.tables.proofs.SumsMeaning.{byteOf, per-tree}
 

@@ -24,7 +24,8 @@ use Rattle.strings.specs.Sums.{byteAt, bitOf, xorSum}
 use Rattle.strings.proofs.Rows.{row-byte}
 use Rattle.strings.proofs.SumLaws.{sum-same, sum-lt, sum-none}
 use Rattle.strings.proofs.Meaning.{bitOf-sum, bit-is, byte-sum, byte-bit, byte-times}
-use Rattle.tables.specs.Sums.{lanes, vByte, SumsAre, TableIs}
+use Rattle.lanes.specs.Lanes.{lanes}
+use Rattle.tables.specs.Sums.{vByte, SumsAre, TableIs}
 
 pub per-tree : perTree bits256 ≡ 256
 unfolding perTree

@@ -22,7 +22,8 @@ use Rattle.strings.specs.Sums.{byteAt, bitOf, xorSum}
 use Rattle.strings.proofs.Rows.{row-end, row-byte}
 use Rattle.strings.proofs.SumLaws.{sum-same, sum-lt}
 use Rattle.strings.proofs.Meaning.{bitOf-lt, bitOf-sum, bit-times, times-bit, bit-is}
-use Rattle.tables.specs.Sums.{lanes, planeByte, uByte, vByte}
+use Rattle.lanes.specs.Lanes.{lanes}
+use Rattle.tables.specs.Sums.{planeByte, uByte, vByte}
 use Rattle.trees.specs.Trees.{leafByte, TreeFits}
 
 pub times-lt : (j q : ℕ) → j < 256 → q < 2 → j * q < 256

@@ -2,19 +2,24 @@
 --   correctionBit C w e c == coordinate c of C_e: 0 at e = 0, since C_0 is all zero and not sent; the first row of the section C is C_1
 --   wByte opened C w e δ c == coordinate c of W_e = Σ over j≠δ of (j+δ)·ℓ(e,j), plus δ·C_e, as a byte, at δ = Δ_e
 --   correctionByte C w e b == byte b of C_e
+--   CorrectionAdded C e old new == u, a string of w bytes, is as it was, plus C_e
+--   OpenedFits table planes opened C w e δ == repetition e stands whole in each of these, and δ is a leaf's number
+--   OpenedInputs table opened Δ C τ w == these have the lengths of τ repetitions, with leaves of w bytes
 --   OpenedTableIs table opened Δ C τ w == a table has the lanes W_e, for each repetition e below τ
 -- Assumes nothing.
 use mathlib.Core.Path.{_≡_}
 use mathlib.Core.Bool.{cond}
 use mathlib.Core.List.{List}
-use Prim.Native.Nat.{ℕ, zero, suc, _+_, _*_, _<_}
+use Prim.Native.Nat.{ℕ, zero, suc, _+_, _*_, _-_, _<_, _≤_}
 use lib.Bits.{bitXor}
 use lib.Dec.{eqb}
+use lib.ListN.{length}
 use Rattle.protocol.specs.Lists.{blockAt}
 use Rattle.protocol.specs.Strings.{bit}
 use Rattle.protocol.specs.Leaves.{openedLeaf}
 use Rattle.strings.specs.Sums.{byteAt, xorSum}
-use Rattle.tables.specs.Sums.{lanes}
+use Rattle.lanes.specs.Lanes.{lanes}
+use Rattle.tables.specs.Sums.{mostWidth}
 
 abbrev pub correctionBit : List ℕ → ℕ → ℕ → ℕ → ℕ
 correctionBit C w zero c = 0
@@ -26,6 +31,17 @@ wByte opened C w e δ c = bitXor (xorSum 256 (λ j. cond (eqb j δ) 0 (bitXor j 
 abbrev pub correctionByte : List ℕ → ℕ → ℕ → ℕ → ℕ
 correctionByte C w zero b = 0
 correctionByte C w (suc e) b = byteAt C (e * w + b)
+
+abbrev pub CorrectionAdded : List ℕ → ℕ → List ℕ → List ℕ → Type 0
+CorrectionAdded C e old new = (b : ℕ) → b < length old → byteAt new b ≡ bitXor (byteAt old b) (correctionByte C (length old) e b)
+
+abbrev pub OpenedFits : List ℕ → List ℕ → List ℕ → List ℕ → ℕ → ℕ → ℕ → Type 0
+OpenedFits table planes opened C w e δ =
+    (length table ≡ 8 * w * lanes) × (length planes ≡ 8 * w) × (e < lanes) × (δ < 256) × (e * w ≤ length C) × (e * (255 * w) + 255 * w ≤ length opened)
+
+abbrev pub OpenedInputs : List ℕ → List ℕ → List ℕ → List ℕ → ℕ → ℕ → Type 0
+OpenedInputs table opened Δ C τ w =
+    (length table ≡ 8 * w * lanes) × (length opened ≡ τ * 255 * w) × (length Δ ≡ τ) × (length C ≡ (τ - 1) * w) × (τ ≤ lanes) × (w ≤ mostWidth)
 
 abbrev pub OpenedTableIs : List ℕ → List ℕ → List ℕ → List ℕ → ℕ → ℕ → Type 0
 OpenedTableIs table opened Δ C τ w = (e c : ℕ) → e < τ → c < 8 * w → byteAt table (c * lanes + e) ≡ wByte opened C w e (byteAt Δ e) c

@@ -1,6 +1,6 @@
 -- Sums of leaves on bytes, and the table that holds v of every repetition, coordinate by coordinate.
---   lanes == the entries of a coordinate in the table, one for each repetition; those past the last repetition are not read
 --   mostWidth == the widest leaf that is served, in bytes
+--   planesByte planes w c == the byte whose bit p is coordinate c of plane p, planes being eight rows of w bytes
 --   planeByte leaves count w p b == byte b of plane p: the sum of the leaves j below count with bit p of j set
 --   uByte leaves w e b == byte b of u_e;  vByte leaves w e c == coordinate c of v_e = Σ j·ℓ(e, j), as a byte
 --   SumsAre, TableIs == a string has the rows u_e, and a table the lanes v_e, for each repetition e below τ
@@ -11,14 +11,15 @@ use mathlib.Core.List.{List}
 use Prim.Native.Nat.{ℕ, _+_, _*_, _<_}
 use lib.Bits.{bitXor}
 use Rattle.protocol.specs.Lists.{blockAt}
-use Rattle.protocol.specs.Strings.{bit}
+use Rattle.protocol.specs.Strings.{bit, fromBits}
 use Rattle.strings.specs.Sums.{byteAt, bitOf, xorSum}
-
-abbrev pub lanes : ℕ
-lanes = 48
+use Rattle.lanes.specs.Lanes.{lanes}
 
 abbrev pub mostWidth : ℕ
 mostWidth = 128
+
+abbrev pub planesByte : List ℕ → ℕ → ℕ → ℕ
+planesByte planes w c = fromBits 8 (λ p. bit (blockAt planes w p) c)
 
 abbrev pub planeByte : List ℕ → ℕ → ℕ → ℕ → ℕ → ℕ
 planeByte leaves count w p b = xorSum count (λ j. bitOf j p * byteAt leaves (j * w + b))

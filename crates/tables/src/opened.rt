@@ -1,28 +1,21 @@
-// The verifier's W_e = Σ over j≠Δ_e of (j+Δ_e)·ℓ(e,j), plus Δ_e·C_e, from the opened leaves. With 0 put for the leaf that is left out,
-// W_e = v + Δ_e·(u + C_e), where u and v are the sums of the leaves as the prover has them. Nothing that the verifier is lent is secret.
+// The verifier's W_e = Σ over j≠Δ_e of (j+Δ_e)·ℓ(e,j), plus Δ_e·C_e, from the opened leaves. With 0 put for the leaf
+// that is left out, W_e = v + Δ_e·(u + C_e), where u and v are the sums of the leaves as the prover has them. Nothing
+// that the verifier is lent is secret.
 ghost use mathlib.Core.Path.{_≡_};
 ghost use Prim.Native.Nat.{ℕ, _+_, _*_, _-_, _<_, _≤_};
-ghost use lib.Bits.{bitXor};
 ghost use lib.ListN.{length};
-ghost use Rattle.strings.specs.Sums.{byteAt};
-ghost use Rattle.tables.specs.Sums.{lanes, mostWidth};
-ghost use Rattle.tables.specs.Opened.{correctionByte, wByte, OpenedTableIs};
+ghost use Rattle.lanes.specs.Lanes.{lanes, LaneIs, LanesKept};
+ghost use Rattle.tables.specs.Opened.{wByte, CorrectionAdded, OpenedFits, OpenedInputs, OpenedTableIs};
 use super::MOST_WIDTH;
 use super::spread;
 use field::Gf256;
 use trees::absorb;
 use trees::tree_sums;
 
-fn wide(x: u8) -> usize
-    ensures { λ r. ⌜ r ≡ x ⌝ }
-{
-    x as usize
-}
-
 // Adds C_e to u. C_0 is all zero and not sent, so that C_e is row e - 1 of the section.
 fn add_correction(u: &mut [u8], corrections: &[u8], e: usize)
     requires { ⌜ (e * length (now u) ≤ length (now corrections)) × (e < lanes) ⌝ }
-    ensures { λ _. ⌜ ((b : ℕ) → b < length (now (u .entry)) → byteAt (now (u .exit)) b ≡ bitXor (byteAt (now (u .entry)) b) (correctionByte (now (corrections .entry)) (length (now (u .entry))) e b)) ⌝ }
+    ensures { λ _. ⌜ CorrectionAdded (now (corrections .entry)) e (now (u .entry)) (now (u .exit)) ⌝ }
 {
     let w = u.len();
     if e != 0 {
@@ -40,9 +33,9 @@ fn load_lane(
     corrections: &[u8],
     e: usize,
 )
-    requires { ⌜ (length (now table) ≡ 8 * length (now u) * lanes) × (length (now planes) ≡ 8 * length (now u)) × (e < lanes) × (delta < 256) × (e * length (now u) ≤ length (now corrections)) × (e * (255 * length (now u)) + 255 * length (now u) ≤ length (now opened)) ⌝ }
-    ensures { λ _. ⌜ ((c : ℕ) → c < 8 * length (now (u .entry)) → byteAt (now (table .exit)) (c * lanes + e) ≡ wByte (now (opened .entry)) (now (corrections .entry)) (length (now (u .entry))) e delta c) ⌝ }
-    ensures { λ _. ⌜ ((c q : ℕ) → q < lanes → (q ≡ e → ⊥) → byteAt (now (table .exit)) (c * lanes + q) ≡ byteAt (now (table .entry)) (c * lanes + q)) ⌝ }
+    requires { ⌜ OpenedFits (now table) (now planes) (now opened) (now corrections) (length (now u)) e delta ⌝ }
+    ensures { λ _. ⌜ LaneIs e (8 * length (now (u .entry))) (wByte (now (opened .entry)) (now (corrections .entry)) (length (now (u .entry))) e delta) (now (table .exit)) ⌝ }
+    ensures { λ _. ⌜ LanesKept e (now (table .entry)) (now (table .exit)) ⌝ }
 {
     let w = u.len();
     let tree = strings::row_at(opened, (Gf256::SIZE - 1) * w, e);
@@ -61,19 +54,19 @@ pub fn load_opened(
     tau: usize,
     w: usize,
 )
-    requires { ⌜ (length (now table) ≡ 8 * w * lanes) × (length (now opened) ≡ tau * 255 * w) × (length (now delta) ≡ tau) × (length (now corrections) ≡ (tau - 1) * w) × (tau ≤ lanes) × (w ≤ mostWidth) ⌝ }
+    requires { ⌜ OpenedInputs (now table) (now opened) (now delta) (now corrections) tau w ⌝ }
     ensures { λ _. ⌜ OpenedTableIs (now (table .exit)) (now (opened .entry)) (now (delta .entry)) (now (corrections .entry)) tau w ⌝ }
 {
     let mut u = [0u8; MOST_WIDTH];
-    let mut planes = [0u8; 8 * MOST_WIDTH];
+    let mut planes = [0u8; Gf256::DEGREE * MOST_WIDTH];
     let mut e = 0;
     while e < tau {
         load_lane(
             table,
             &mut u[..w],
-            &mut planes[..8 * w],
+            &mut planes[..Gf256::DEGREE * w],
             opened,
-            wide(delta[e]),
+            strings::wide(delta[e]),
             corrections,
             e,
         );

@@ -6,11 +6,13 @@ ghost use lib.ListN.{length};
 ghost use Rattle.protocol.specs.Lists.{blockAt};
 ghost use Rattle.protocol.specs.Strings.{bit, fromBits};
 ghost use Rattle.strings.specs.Sums.{byteAt, bitOf};
-ghost use Rattle.tables.specs.Sums.{lanes};
-use super::LANES;
+ghost use Rattle.lanes.specs.Lanes.{lanes, LaneIs, LanesKept};
+ghost use Rattle.tables.specs.Sums.{planesByte};
 use chunks::turns::EIGHT_ROWS;
-use chunks::turns::SIXTEEN;
 use chunks::turns::turn_rows;
+use lanes::LANES;
+use strings::BITS;
+use strings::SIXTEEN;
 
 // Writes lane e of 128 coordinates, from c on.
 fn put_lane(table: &mut [u8], e: usize, c: usize, columns: &[u8])
@@ -33,14 +35,14 @@ fn spread_part(table: &mut [u8], e: usize, planes: &[u8], w: usize, at: usize)
 {
     let mut columns = [0u8; EIGHT_ROWS];
     turn_rows(&mut columns, planes, at, w);
-    put_lane(table, e, at * 8, &columns);
+    put_lane(table, e, at * BITS, &columns);
 }
 
 // `spread` of planes of sixteen bytes or more. The last sixteen may have bytes in common with those before.
 pub fn spread_parts(table: &mut [u8], e: usize, planes: &[u8], w: usize)
     requires { ⌜ (length (now table) ≡ 8 * w * lanes) × (length (now planes) ≡ 8 * w) × (e < lanes) × (16 ≤ w) ⌝ }
-    ensures { λ _. ⌜ ((c : ℕ) → c < 8 * w → byteAt (now (table .exit)) (c * lanes + e) ≡ fromBits 8 (λ p. bit (blockAt (now (planes .entry)) w p) c)) ⌝ }
-    ensures { λ _. ⌜ ((c q : ℕ) → q < lanes → (q ≡ e → ⊥) → byteAt (now (table .exit)) (c * lanes + q) ≡ byteAt (now (table .entry)) (c * lanes + q)) ⌝ }
+    ensures { λ _. ⌜ LaneIs e (8 * w) (planesByte (now (planes .entry)) w) (now (table .exit)) ⌝ }
+    ensures { λ _. ⌜ LanesKept e (now (table .entry)) (now (table .exit)) ⌝ }
 {
     let last = w - SIXTEEN;
     let mut at = 0;

@@ -22,7 +22,7 @@ use Rattle.strings.proofs.XorLaws.{xor-assoc}
 use Rattle.trees.specs.Trees.{leafByte, TreeFits}
 use Rattle.trees.specs.Partial.{Running, withLow}
 use Rattle.trees.proofs.PartialLaws.{running-more}
-use Rattle.trees.proofs.ChunkLaws.{differing, first-differs, even-rest, odd-rest}
+use Rattle.trees.proofs.SixteenLaws.{differing, first-differs, even-rest, odd-rest}
 
 -- ---- bits that change, by the number's remainder
 

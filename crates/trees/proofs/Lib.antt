@@ -1,4 +1,4 @@
 pub mod PlaneLaws
 pub mod PartialLaws
-pub mod ChunkLaws
+pub mod SixteenLaws
 pub mod FourLaws

@@ -1,6 +1,7 @@
-// The sums u and v of one tree of leaves, full or opened. Leaf delta is left out, and counts as 0; a full tree has delta at its count.
-mod chunks;
+// The sums u and v of one tree of leaves, full or opened. Leaf delta is left out, and counts as 0; a full tree has
+// delta at its count.
 mod fours;
+mod sixteens;
 
 ghost use mathlib.Core.Path.{_≡_};
 ghost use Prim.Native.Nat.{ℕ, _+_, _*_, _<_, _≤_};
@@ -8,14 +9,15 @@ ghost use lib.Bits.{bitXor};
 ghost use lib.ListN.{length};
 ghost use Rattle.protocol.specs.Leaves.{place, openedLeaf};
 ghost use Rattle.strings.specs.Sums.{byteAt, bitOf};
-ghost use Rattle.trees.specs.Trees.{leafByte, TreeFits, Summed};
-use chunks::CHUNK;
-use chunks::sum_chunks;
+ghost use Rattle.trees.specs.Trees.{leafByte, TreeFits, Absorbed, TreeSummed};
+use sixteens::sum_sixteens;
+use strings::SIXTEEN;
 
-// A step of 01's v_e = Σ j·ℓ(e,j), bit by bit of the weight: adds a row to the planes p below r whose bit is set in j. The weight is public.
+// A step of 01's v_e = Σ j·ℓ(e,j), bit by bit of the weight: adds a row to the planes p below r whose bit is set in j.
+// The weight is public.
 pub fn absorb(planes: &mut [u8], r: usize, j: usize, row: &[u8])
     requires { ⌜ (length (now planes) ≡ r * length (now row)) × (r ≤ 8) ⌝ }
-    ensures { λ _. ⌜ ((p b : ℕ) → p < r → b < length (now (row .entry)) → byteAt (now (planes .exit)) (p * length (now (row .entry)) + b) ≡ bitXor (byteAt (now (planes .entry)) (p * length (now (row .entry)) + b)) (bitOf j p * byteAt (now (row .entry)) b)) ⌝ }
+    ensures { λ _. ⌜ Absorbed (length (now (row .entry))) r j (now (row .entry)) (now (planes .entry)) (now (planes .exit)) ⌝ }
 {
     let mut p = 0;
     while p < r {
@@ -53,8 +55,8 @@ fn add_leaf(u: &mut [u8], tree: &[u8], delta: usize, j: usize)
     }
 }
 
-// `tree_sums` row by row. Plane p takes the running sum of the leaves where bit p of the leaf's number changes, so that three rows are added
-// for each leaf, and not five.
+// `tree_sums` row by row. Plane p takes the running sum of the leaves where bit p of the leaf's number changes, so that
+// three rows are added for each leaf, and not five.
 fn sum_rows(
     u: &mut [u8],
     planes: &mut [u8],
@@ -66,7 +68,7 @@ fn sum_rows(
 )
     requires { ⌜ (length (now u) ≡ w) × (length (now planes) ≡ r * w) × (r ≤ 8) × (count < 65536) × TreeFits (now tree) w delta count ⌝ }
     requires { ⌜ ((p : ℕ) → p < r → bitOf count p ≡ 0) ⌝ }
-    ensures { λ _. ⌜ Summed (leafByte (now (tree .entry)) w delta) count r w (now (u .exit)) (now (planes .exit)) w ⌝ }
+    ensures { λ _. ⌜ TreeSummed (now (tree .entry)) w delta count r (now (u .exit)) (now (planes .exit)) w ⌝ }
 {
     strings::clear(u);
     strings::clear(planes);
@@ -78,8 +80,8 @@ fn sum_rows(
     }
 }
 
-// 01's sums of one tree with leaf delta left out: u is the sum of the leaves, and plane p the sum of the leaves j with bit p of j set. It needs a
-// count whose low r bits are 0.
+// 01's sums of one tree with leaf delta left out: u is the sum of the leaves, and plane p the sum of the leaves j with
+// bit p of j set. It needs a count whose low r bits are 0.
 pub fn tree_sums(
     u: &mut [u8],
     planes: &mut [u8],
@@ -91,11 +93,11 @@ pub fn tree_sums(
 )
     requires { ⌜ (length (now u) ≡ w) × (length (now planes) ≡ r * w) × (r ≤ 8) × (count < 65536) × TreeFits (now tree) w delta count ⌝ }
     requires { ⌜ ((p : ℕ) → p < r → bitOf count p ≡ 0) ⌝ }
-    ensures { λ _. ⌜ Summed (leafByte (now (tree .entry)) w delta) count r w (now (u .exit)) (now (planes .exit)) w ⌝ }
+    ensures { λ _. ⌜ TreeSummed (now (tree .entry)) w delta count r (now (u .exit)) (now (planes .exit)) w ⌝ }
 {
-    if w < CHUNK {
+    if w < SIXTEEN {
         sum_rows(u, planes, r, tree, count, delta, w);
     } else {
-        sum_chunks(u, planes, r, tree, count, delta, w);
+        sum_sixteens(u, planes, r, tree, count, delta, w);
     }
 }

@@ -15,9 +15,10 @@ ghost use Rattle.questions.specs.Facts.{KeyFacts, PlacesOf};
 ghost use Rattle.verifier.specs.Product.{KeyLanes, EquationsOf, valueByte, LeftSides};
 ghost use Rattle.verifier.specs.Repetitions.{firstDiffering};
 ghost use Rattle.verifier.specs.Proved.{FirstDiffers};
-use equations::VARIABLES;
 use field::Gf256;
+use format::sizes::MOST_VARIABLES;
 use format::sizes::Sizes;
+use lanes::Dimensions;
 use lanes::LANES;
 use questions::proof::D;
 use questions::proof::QS0;
@@ -96,7 +97,7 @@ fn product_lanes(
     let mut linear = [0u8; LANES];
     let mut values = [0u8; LANES];
     let mut square = [0u8; LANES];
-    let zeros = [0u8; VARIABLES];
+    let zeros = [0u8; MOST_VARIABLES];
     let front = &table[..n * LANES];
     strings::clear(left);
     forms::batch::batch_forms(
@@ -106,11 +107,9 @@ fn product_lanes(
         b,
         &zeros,
         chi,
-        n,
-        m,
-        tau,
         front,
         false,
+        Dimensions { n, m, tau },
     );
     batch_values(&mut values, y, chi, m, tau);
     lanes::accumulate(left, delta, &linear);

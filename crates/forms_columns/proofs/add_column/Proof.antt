@@ -7,7 +7,7 @@ use denote.Ref.{now}
 use lib.Bits.{bitXor}
 use Rattle.strings.specs.Sums.{byteAt}
 use Rattle.lanes.specs.Lanes.{laneAt}
-use Rattle.forms_columns.specs.Stacks.{product}
+use Rattle.forms_columns.specs.Stacks.{byteProduct}
 use Rattle.forms_columns.proofs.add_column.Statement.{statement}
 use Rattle.forms_columns.proofs.add_column.Tie as tie
 
@@ -40,7 +40,7 @@ returns c =
     let a = c .before .before .before .before .before .before .before .before .before .before .before .before .before .before .before .before .before .before .args in
     let u = c .before .before .before .before .before .before .before .before .before .before .before .weigh in
     let done = c .before .before .add-polar in (
-      (λ e h. c .before .before .before .before .before .before .before .add-product .ensures e h ∙ ap (λ (x : ℕ). bitXor (byteAt (now (a .quad)) e) (product (laneAt (now (a .table)) (a .c) e) x)) (u .ensures e h)),
+      (λ e h. c .before .before .before .before .before .before .before .add-product .ensures e h ∙ ap (λ (x : ℕ). bitXor (byteAt (now (a .quad)) e) (byteProduct (laneAt (now (a .table)) (a .c) e) x)) (u .ensures e h)),
       (
         (λ on e h. done .ensures .0 on e h ∙ ap (λ (x : ℕ). bitXor (byteAt (now (a .mid)) e) (byteAt (now (a .xs)) (a .c) * x)) (u .ensures e h)),
         done .ensures .1,

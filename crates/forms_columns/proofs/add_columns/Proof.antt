@@ -12,7 +12,7 @@ use lib.Bits.{bitXor, xor-zero-r}
 use Rattle.strings.specs.Sums.{byteAt, bitOf, xorSum}
 use Rattle.strings.proofs.SumLaws.{sum-step}
 use Rattle.lanes.specs.Lanes.{lanes, laneAt}
-use Rattle.forms_columns.specs.Stacks.{alpha, product, planes}
+use Rattle.forms_columns.specs.Stacks.{alpha, byteProduct, planes}
 use Rattle.forms_columns.proofs.add_columns.Statement.{statement}
 use Rattle.forms_columns.proofs.add_columns.Tie as tie
 
@@ -21,7 +21,7 @@ abbrev value : List ℕ → ℕ → ℕ → ℕ
 value rows e z = xorSum planes (λ s. bitOf (laneAt rows s e) z * alpha s)
 
 abbrev quadTerm : List ℕ → List ℕ → ℕ → ℕ → ℕ → ℕ
-quadTerm rows table first e z = product (laneAt table (first + z) e) (value rows e z)
+quadTerm rows table first e z = byteProduct (laneAt table (first + z) e) (value rows e z)
 
 abbrev midTerm : List ℕ → List ℕ → ℕ → ℕ → ℕ → ℕ
 midTerm rows xs first e z = byteAt xs (first + z) * value rows e z

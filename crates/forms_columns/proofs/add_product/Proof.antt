@@ -11,7 +11,7 @@ use lib.Bits.{bitXor, xor-zero-r}
 use Rattle.strings.specs.Sums.{byteAt}
 use Rattle.strings.proofs.Rows.{row-byte}
 use Rattle.lanes.specs.Lanes.{lanes}
-use Rattle.forms_columns.specs.Stacks.{product}
+use Rattle.forms_columns.specs.Stacks.{byteProduct}
 use Rattle.forms_columns.proofs.ProductLaws.{product-zero}
 use Rattle.forms_columns.proofs.add_product.Statement.{statement}
 use Rattle.forms_columns.proofs.add_product.Tie as tie
@@ -26,17 +26,17 @@ same-length : tie.Need-same-length
 same-length c = search needs
 
 returns : tie.Need-returns
-unfolding product
+unfolding byteProduct
 returns c e h =
     let a = c .before .before .before .before .before .before .before .before .before .args in
     c .before .before .accumulate .ensures e (omega arith)
-    ∙ ap (λ (x : ℕ). bitXor (byteAt (now (a .acc)) e) (product x (byteAt (now (a .u)) e))) (ap (λ (r : List ℕ). byteAt r e) (c .before .before .before .row-at .ensures .0) ∙ row-byte (now (a .table)) lanes (a .c) e h)
+    ∙ ap (λ (x : ℕ). bitXor (byteAt (now (a .acc)) e) (byteProduct x (byteAt (now (a .u)) e))) (ap (λ (r : List ℕ). byteAt r e) (c .before .before .before .row-at .ensures .0) ∙ row-byte (now (a .table)) lanes (a .c) e h)
 
 returns-2 : tie.Need-returns-2
 returns-2 c e h =
     let a = c .before .before .before .before .args in
     let past : length (now (a .table)) ≤ a .c * lanes + e = omega arith in
-    sym (ap (λ (x : ℕ). bitXor (byteAt (now (a .acc)) e) (product x (byteAt (now (a .u)) e))) (List·getD-eq-default (now (a .table)) 0 past)
+    sym (ap (λ (x : ℕ). bitXor (byteAt (now (a .acc)) e) (byteProduct x (byteAt (now (a .u)) e))) (List·getD-eq-default (now (a .table)) 0 past)
     ∙ ap (bitXor (byteAt (now (a .acc)) e)) (product-zero (byteAt (now (a .u)) e)) ∙ xor-zero-r (byteAt (now (a .acc)) e))
 
 pub add-product-spec : {M : Type 1} → statement M

@@ -14,7 +14,7 @@ use lib.Bits.{bitXor, xor-zero-r}
 use Rattle.strings.specs.Sums.{byteAt, bitOf, xorSum}
 use Rattle.lanes.specs.Lanes.{lanes, laneAt}
 use Rattle.chunks.specs.Chunks.{chunk}
-use Rattle.forms_columns.specs.Stacks.{alpha, product, planes, foldOf}
+use Rattle.forms_columns.specs.Stacks.{alpha, byteProduct, planes, foldOf}
 use Rattle.forms_columns.proofs.ColumnLaws.{fold-is, eight-more}
 use Rattle.forms_columns.proofs.finish.Statement.{statement}
 use Rattle.forms_columns.proofs.finish.Tie as tie
@@ -24,7 +24,7 @@ abbrev column : List ℕ → ℕ → ℕ → ℕ
 column T e s = foldOf T e (s / 8) (s % 8)
 
 abbrev quadTerm : List ℕ → ℕ → List ℕ → ℕ → ℕ → ℕ
-quadTerm stacks panel table e s = product (laneAt table (panel * 16 + s) e) (column stacks e s)
+quadTerm stacks panel table e s = byteProduct (laneAt table (panel * 16 + s) e) (column stacks e s)
 
 abbrev midTerm : List ℕ → ℕ → List ℕ → ℕ → ℕ → ℕ
 midTerm stacks panel xs e s = byteAt xs (panel * 16 + s) * column stacks e s
@@ -90,7 +90,7 @@ loop-again c =
       (λ e h.
           done .ensures .0 e (omega arith)
           ∙ eight-more (byteAt (now (a .quad)) e) (byteAt (l .quad) e) (l .h) (quadTerm (now (a .stacks)) (a .panel) (now (a .table)) e) _ (l .inv .3 e h)
-          (λ z k. ap₂ (λ (i x : ℕ). product (laneAt (now (a .table)) i e) x) (place z) (value e h z k))),
+          (λ z k. ap₂ (λ (i x : ℕ). byteProduct (laneAt (now (a .table)) i e) x) (place z) (value e h z k))),
       (λ on e h.
           done .ensures .1 .0 on e (omega arith)
           ∙ eight-more (byteAt (now (a .mid)) e) (byteAt (l .mid) e) (l .h) (midTerm (now (a .stacks)) (a .panel) (now (a .xs)) e) _ (l .inv .4 on e h)

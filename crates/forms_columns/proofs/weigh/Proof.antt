@@ -12,7 +12,7 @@ use Rattle.strings.specs.Sums.{byteAt, bitOf, xorSum}
 use Rattle.strings.proofs.Rows.{row-byte}
 use Rattle.strings.proofs.SumLaws.{sum-more}
 use Rattle.lanes.specs.Lanes.{lanes, laneAt}
-use Rattle.forms_columns.specs.Stacks.{alpha, product, planes}
+use Rattle.forms_columns.specs.Stacks.{alpha, byteProduct, planes}
 use Rattle.forms_columns.proofs.ProductLaws.{alpha-zero, alpha-more}
 use Rattle.forms_columns.proofs.weigh.Statement.{statement}
 use Rattle.forms_columns.proofs.weigh.Tie as tie
@@ -48,7 +48,7 @@ loop-less : tie.Need-loop-less Inv-loop μ-loop
 loop-less c = search needs
 
 loop-again : tie.Need-loop-again Inv-loop μ-loop
-unfolding product
+unfolding byteProduct
 loop-again c =
     let a = c .before .before .before .before .before .before .before .before .before .before .before .before .before .before .args in
     let l = c .before .before .before .before .before .before .before .loop in
@@ -56,7 +56,7 @@ loop-again c =
     let done = c .before .before .before .add-weighted in (
       omega arith,
       done .kept .0 ∙ l .inv .1,
-      c .multiply .ensures ∙ ap (product 2) (l .inv .2) ∙ alpha-more (l .s),
+      c .multiply .ensures ∙ ap (byteProduct 2) (l .inv .2) ∙ alpha-more (l .s),
       (λ e h.
           done .ensures e h
           ∙ ap₂ (λ (x y : ℕ). bitXor x y) (l .inv .3 e h)

@@ -1,18 +1,19 @@
 -- `forms_folds::fold_all` meets its contract. The invariant: the sixteens of rows below q are folded, and the other matrices' cells are as they were.
 -- Assumes nothing.
 use borrow.Author.Needs.{needs}
-use Prim.Native.Nat.{_-_, _≤_}
+use Prim.Native.Nat.{_+_, _*_, _-_, _≤_}
 use mathlib.Core.Path.{_≡_, refl, _∙_}
+use native.Mathlib.Nat.{mul-le-mul-right}
 use native.Mathlib.Omega.{arith}
 use denote.Ref.{now}
 use lib.ListN.{length, drop}
-use Rattle.forms_folds.specs.Sets.{SetFolded, Kept}
-use Rattle.forms_folds.proofs.SetLaws.{set-more, kept-more}
+use Rattle.forms_folds.specs.Sets.{SetFolded, OthersKept}
+use Rattle.forms_folds.proofs.SetLaws.{chunk-folded, set-more, kept-more}
 use Rattle.forms_folds.proofs.fold_all.Statement.{statement}
 use Rattle.forms_folds.proofs.fold_all.Tie as tie
 
 abbrev Inv-loop : tie.InvT-loop
-Inv-loop cells₀ turned src from width first end m i q₀ cells q = (q ≤ end) × (length cells ≡ length cells₀) × SetFolded width (drop from src) first end m i q cells × Kept m i cells₀ cells
+Inv-loop cells₀ turned src from width first end m i q₀ cells q = (q ≤ end) × (length cells ≡ length cells₀) × SetFolded width (drop from src) first end m i q cells × OthersKept m i cells₀ cells
 
 abbrev μ-loop : tie.MeasureT-loop
 μ-loop cells₀ turned src from width first end m i q₀ cells q = end - q
@@ -20,11 +21,24 @@ abbrev μ-loop : tie.MeasureT-loop
 loop-holds : tie.Need-loop-holds Inv-loop μ-loop
 loop-holds c = (search needs, refl, (λ x p hx. absurd (omega arith)), (λ x y e hy other he. refl))
 
-fold-rows-requires : tie.Need-fold-rows-requires Inv-loop μ-loop
-fold-rows-requires c κs =
-    let pre = c .before .before .before .before .before .before .pre in
+slice-aggregate-part-rows : tie.Need-slice-aggregate-part-rows Inv-loop μ-loop
+slice-aggregate-part-rows c = search needs
+
+part-rows-requires : tie.Need-part-rows-requires Inv-loop μ-loop
+part-rows-requires c κs =
+    let a = c .before .before .before .before .before .before .args in
     let l = c .before .before .loop in
-    (pre .0, pre .1, pre .2, c .before .loop-test .taken, pre .3, pre .4, omega (arith, pre .5, l .inv .1), pre .6, pre .7, pre .8)
+    let rows : l .q * 16 + 16 ≤ a .end * 16 = omega (arith, c .before .loop-test .taken) in
+    (search needs, omega (arith, c .before .before .before .before .before .before .pre .1, c .before .before .before .before .before .before .pre .2), omega (arith, c .before .loop-test .taken, c .before .before .before .before .before .before .pre .2), omega (arith, c .before .before .before .before .before .before .pre .7, mul-le-mul-right (a .width) rows))
+
+slice-aggregate-put-rows : tie.Need-slice-aggregate-put-rows Inv-loop μ-loop
+slice-aggregate-put-rows c = search needs
+
+put-rows-requires : tie.Need-put-rows-requires Inv-loop μ-loop
+put-rows-requires c κs =
+    let pre = c .before .before .before .before .before .before .before .before .before .before .pre in
+    let l = c .before .before .before .before .before .before .loop in
+    (pre .0, pre .1, pre .2, pre .3, pre .4, omega (arith, pre .5, l .inv .1), c .before .before .before .part-rows .kept .0, pre .6)
 
 add-q : tie.Need-add-q Inv-loop μ-loop
 add-q c = search needs
@@ -34,15 +48,17 @@ loop-less c = search needs
 
 loop-again : tie.Need-loop-again Inv-loop μ-loop
 loop-again c =
-    let a = c .before .before .before .before .before .before .before .before .before .args in
-    let l = c .before .before .before .before .before .loop in
+    let a = c .before .before .before .before .before .before .before .before .before .before .before .before .before .args in
+    let pre = c .before .before .before .before .before .before .before .before .before .before .before .before .before .pre in
+    let l = c .before .before .before .before .before .before .before .before .before .loop in
     let M = drop (a .from) (now (a .src)) in
-    let inside = c .before .before .before .before .before .before .before .before .before .pre .3 in
-    let done = c .before .before .fold-rows in (
-      omega arith,
-      done .kept .0 ∙ l .inv .1,
-      set-more (a .width) (a .first) (a .end) (a .m) (a .i) (l .q) M (l .cells) (done .last .0) inside (done .ensures .1) (done .ensures .0) (l .inv .2),
-      kept-more (a .width) (a .first) (a .end) (a .m) (a .i) (l .q) M (l .cells) (done .last .0) inside (done .ensures .1) (now (a .cells)) (l .inv .3),
+    let made = c .before .before .before .before .before .before .part-rows in
+    let put = c .before .before .put-rows in
+    let folded = chunk-folded (a .width) (a .first) (a .end) (l .q) (a .m) (a .i) M (now (a .turned)) (made .last .0) (put .last .0) (pre .8) (made .ensures) (put .ensures .0) in (
+      omega (arith, c .before .before .before .before .before .before .before .before .loop-test .taken),
+      put .kept .0 ∙ l .inv .1,
+      set-more (a .width) (a .first) (a .end) (a .m) (a .i) (l .q) M (l .cells) (put .last .0) (pre .3) (put .ensures .1) folded (l .inv .2),
+      kept-more (a .width) (a .first) (a .end) (a .m) (a .i) (l .q) M (l .cells) (put .last .0) (pre .3) (put .ensures .1) (now (a .cells)) (l .inv .3),
     )
 
 same-length : tie.Need-same-length Inv-loop μ-loop
@@ -61,7 +77,10 @@ fold-all-spec =
     Inv-loop
     μ-loop
     loop-holds
-    fold-rows-requires
+    slice-aggregate-part-rows
+    part-rows-requires
+    slice-aggregate-put-rows
+    put-rows-requires
     add-q
     loop-less
     loop-again

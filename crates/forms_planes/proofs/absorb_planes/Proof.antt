@@ -12,13 +12,13 @@ use lib.Bits.{bitXor}
 use Rattle.strings.specs.Sums.{byteAt, bitOf}
 use Rattle.strings.proofs.SumLaws.{sum-same}
 use Rattle.chunks.specs.Chunks.{chunk, cellAt, Masks}
-use Rattle.forms_columns.specs.Stacks.{alpha, product, planes, stackAt}
+use Rattle.forms_columns.specs.Stacks.{alpha, byteProduct, planes, stackAt}
 use Rattle.forms_planes.proofs.absorb_planes.Statement.{statement}
 use Rattle.forms_planes.proofs.absorb_planes.Tie as tie
 
 -- what is added at byte f
 abbrev term : List ℕ → ℕ → List ℕ → ℕ → ℕ → ℕ
-term both p v f z = bitXor (bitOf (cellAt both 0 f) z * product (alpha p) (byteAt v f)) (bitOf (cellAt both 1 f) z * product (alpha (p + 1)) (byteAt v f))
+term both p v f z = bitXor (bitOf (cellAt both 0 f) z * byteProduct (alpha p) (byteAt v f)) (bitOf (cellAt both 1 f) z * byteProduct (alpha (p + 1)) (byteAt v f))
 
 -- bytes at one place make the stack there
 stack-same : (t t′ : List ℕ) (f z : ℕ) → ((q : ℕ) → cellAt t′ q f ≡ cellAt t q f) → stackAt t′ f z ≡ stackAt t f z
@@ -76,8 +76,8 @@ loop-again c =
     let here : (v : List ℕ) (z : ℕ) → Masks v (now (a .masks)) → byteAt v f < 256 → stackAt t′ f z ≡ bitXor (stackAt t₀ f z) (term both (a .p) v f z) =
     λ v z masks hv.
     done .ensures .0 (byteAt v f) z (λ b k. masks b f k lt) hv
-    ∙ ap (λ (x : ℕ). bitXor x (bitXor (bitOf (byteAt both f) z * product (alpha (a .p)) (byteAt v f)) (bitOf (byteAt both (chunk + f)) z * product (alpha (a .p + 1)) (byteAt v f)))) (stack-same t₀ t f z (λ q. l .inv .3 q f (omega arith) lt))
-    ∙ ap₂ (λ (j k : ℕ). bitXor (stackAt t₀ f z) (bitXor (bitOf (byteAt both j) z * product (alpha (a .p)) (byteAt v f)) (bitOf (byteAt both k) z * product (alpha (a .p + 1)) (byteAt v f)))) front back in (
+    ∙ ap (λ (x : ℕ). bitXor x (bitXor (bitOf (byteAt both f) z * byteProduct (alpha (a .p)) (byteAt v f)) (bitOf (byteAt both (chunk + f)) z * byteProduct (alpha (a .p + 1)) (byteAt v f)))) (stack-same t₀ t f z (λ q. l .inv .3 q f (omega arith) lt))
+    ∙ ap₂ (λ (j k : ℕ). bitXor (stackAt t₀ f z) (bitXor (bitOf (byteAt both j) z * byteProduct (alpha (a .p)) (byteAt v f)) (bitOf (byteAt both k) z * byteProduct (alpha (a .p + 1)) (byteAt v f)))) front back in (
       omega (arith, lt),
       done .kept .0 ∙ l .inv .1,
       (λ v g z masks hv h. split g f (stackAt t′ g z ≡ bitXor (stackAt t₀ g z) (term both (a .p) v g z)) h (λ below. stack-same t t′ g z (λ q. done .ensures .1 q g (λ e. omega arith) (omega arith)) ∙ l .inv .2 v g z masks hv below) (λ e. rw e (here v z masks (rw e at hv)))),

@@ -12,74 +12,74 @@ use borrow.Author.Needs.{needs}
 use Rattle.strings.proofs.word_at.Statement.{statement}
 use Rattle.strings.proofs.word_at.Tie as tie
 
-shared-slice-read-wide : tie.Need-shared-slice-read-wide
-shared-slice-read-wide c = search needs
+shared-slice-read-word : tie.Need-shared-slice-read-word
+shared-slice-read-word c = search needs
 
-wide-requires : tie.Need-wide-requires
-wide-requires c κs = search needs
+word-requires : tie.Need-word-requires
+word-requires c κs = search needs
 
-add-wide : tie.Need-add-wide
-add-wide c = search needs
+add-word : tie.Need-add-word
+add-word c = search needs
 
-shared-slice-read-wide-2 : tie.Need-shared-slice-read-wide-2
-shared-slice-read-wide-2 c = search needs
+shared-slice-read-word-2 : tie.Need-shared-slice-read-word-2
+shared-slice-read-word-2 c = search needs
 
-wide-requires-2 : tie.Need-wide-requires-2
-wide-requires-2 c κs = search needs
+word-requires-2 : tie.Need-word-requires-2
+word-requires-2 c κs = search needs
 
-add-wide-2 : tie.Need-add-wide-2
-add-wide-2 c = search needs
+add-word-2 : tie.Need-add-word-2
+add-word-2 c = search needs
 
-shared-slice-read-wide-3 : tie.Need-shared-slice-read-wide-3
-shared-slice-read-wide-3 c = search needs
+shared-slice-read-word-3 : tie.Need-shared-slice-read-word-3
+shared-slice-read-word-3 c = search needs
 
-wide-requires-3 : tie.Need-wide-requires-3
-wide-requires-3 c κs = search needs
+word-requires-3 : tie.Need-word-requires-3
+word-requires-3 c κs = search needs
 
-add-wide-3 : tie.Need-add-wide-3
-add-wide-3 c = search needs
+add-word-3 : tie.Need-add-word-3
+add-word-3 c = search needs
 
-shared-slice-read-wide-4 : tie.Need-shared-slice-read-wide-4
-shared-slice-read-wide-4 c = search needs
+shared-slice-read-word-4 : tie.Need-shared-slice-read-word-4
+shared-slice-read-word-4 c = search needs
 
-wide-requires-4 : tie.Need-wide-requires-4
-wide-requires-4 c κs = search needs
+word-requires-4 : tie.Need-word-requires-4
+word-requires-4 c κs = search needs
 
-add-wide-4 : tie.Need-add-wide-4
-add-wide-4 c = search needs
+add-word-4 : tie.Need-add-word-4
+add-word-4 c = search needs
 
-shared-slice-read-wide-5 : tie.Need-shared-slice-read-wide-5
-shared-slice-read-wide-5 c = search needs
+shared-slice-read-word-5 : tie.Need-shared-slice-read-word-5
+shared-slice-read-word-5 c = search needs
 
-wide-requires-5 : tie.Need-wide-requires-5
-wide-requires-5 c κs = search needs
+word-requires-5 : tie.Need-word-requires-5
+word-requires-5 c κs = search needs
 
-add-wide-5 : tie.Need-add-wide-5
-add-wide-5 c = search needs
+add-word-5 : tie.Need-add-word-5
+add-word-5 c = search needs
 
-shared-slice-read-wide-6 : tie.Need-shared-slice-read-wide-6
-shared-slice-read-wide-6 c = search needs
+shared-slice-read-word-6 : tie.Need-shared-slice-read-word-6
+shared-slice-read-word-6 c = search needs
 
-wide-requires-6 : tie.Need-wide-requires-6
-wide-requires-6 c κs = search needs
+word-requires-6 : tie.Need-word-requires-6
+word-requires-6 c κs = search needs
 
-add-wide-6 : tie.Need-add-wide-6
-add-wide-6 c = search needs
+add-word-6 : tie.Need-add-word-6
+add-word-6 c = search needs
 
-shared-slice-read-wide-7 : tie.Need-shared-slice-read-wide-7
-shared-slice-read-wide-7 c = search needs
+shared-slice-read-word-7 : tie.Need-shared-slice-read-word-7
+shared-slice-read-word-7 c = search needs
 
-wide-requires-7 : tie.Need-wide-requires-7
-wide-requires-7 c κs = search needs
+word-requires-7 : tie.Need-word-requires-7
+word-requires-7 c κs = search needs
 
-add-wide-7 : tie.Need-add-wide-7
-add-wide-7 c = search needs
+add-word-7 : tie.Need-add-word-7
+add-word-7 c = search needs
 
-shared-slice-read-wide-8 : tie.Need-shared-slice-read-wide-8
-shared-slice-read-wide-8 c = search needs
+shared-slice-read-word-8 : tie.Need-shared-slice-read-word-8
+shared-slice-read-word-8 c = search needs
 
-wide-requires-8 : tie.Need-wide-requires-8
-wide-requires-8 c κs = search needs
+word-requires-8 : tie.Need-word-requires-8
+word-requires-8 c κs = search needs
 
 returns : tie.Need-returns
 returns c =
@@ -94,40 +94,40 @@ returns c =
     (more 4 _ _ (omega arith)
     (more 3 _ _ (omega arith)
     (more 2 _ _ (omega arith)
-    (more 1 _ _ (omega arith) (c .before .before .before .before .before .before .before .before .before .before .before .before .before .before .wide .ensures ∙ word-first s (a .at) bytes)
-    (c .before .before .before .before .before .before .before .before .before .before .before .before .wide2 .ensures))
-    (c .before .before .before .before .before .before .before .before .before .before .wide3 .ensures))
-    (c .before .before .before .before .before .before .before .before .wide4 .ensures))
-    (c .before .before .before .before .before .before .wide5 .ensures))
-    (c .before .before .before .before .wide6 .ensures))
-    (c .before .before .wide7 .ensures))
-    (c .wide8 .ensures)
+    (more 1 _ _ (omega arith) (c .before .before .before .before .before .before .before .before .before .before .before .before .before .before .word .ensures .0 ∙ word-first s (a .at) bytes)
+    (c .before .before .before .before .before .before .before .before .before .before .before .before .word2 .ensures .0))
+    (c .before .before .before .before .before .before .before .before .before .before .word3 .ensures .0))
+    (c .before .before .before .before .before .before .before .before .word4 .ensures .0))
+    (c .before .before .before .before .before .before .word5 .ensures .0))
+    (c .before .before .before .before .word6 .ensures .0))
+    (c .before .before .word7 .ensures .0))
+    (c .word8 .ensures .0)
 
 pub word-at-spec : {M : Type 1} → statement M
 word-at-spec =
     tie.close
     (tie.spec
-    shared-slice-read-wide
-    wide-requires
-    add-wide
-    shared-slice-read-wide-2
-    wide-requires-2
-    add-wide-2
-    shared-slice-read-wide-3
-    wide-requires-3
-    add-wide-3
-    shared-slice-read-wide-4
-    wide-requires-4
-    add-wide-4
-    shared-slice-read-wide-5
-    wide-requires-5
-    add-wide-5
-    shared-slice-read-wide-6
-    wide-requires-6
-    add-wide-6
-    shared-slice-read-wide-7
-    wide-requires-7
-    add-wide-7
-    shared-slice-read-wide-8
-    wide-requires-8
+    shared-slice-read-word
+    word-requires
+    add-word
+    shared-slice-read-word-2
+    word-requires-2
+    add-word-2
+    shared-slice-read-word-3
+    word-requires-3
+    add-word-3
+    shared-slice-read-word-4
+    word-requires-4
+    add-word-4
+    shared-slice-read-word-5
+    word-requires-5
+    add-word-5
+    shared-slice-read-word-6
+    word-requires-6
+    add-word-6
+    shared-slice-read-word-7
+    word-requires-7
+    add-word-7
+    shared-slice-read-word-8
+    word-requires-8
     returns)

@@ -12,7 +12,7 @@ use Rattle.protocol.proofs.StringLaws.{bits-congr}
 use Rattle.strings.specs.Sums.{byteAt, bitOf}
 use Rattle.strings.proofs.Rows.{row-byte}
 use Rattle.strings.proofs.Meaning.{bit-place}
-use Rattle.tables.specs.Sums.{lanes}
+use Rattle.lanes.specs.Lanes.{lanes}
 use Rattle.tables.proofs.LaneLaws.{Lane, lane-more}
 use Rattle.tables.proofs.spread_bytes.Statement.{statement}
 use Rattle.tables.proofs.spread_bytes.Tie as tie

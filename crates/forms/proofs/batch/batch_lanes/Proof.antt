@@ -40,7 +40,7 @@ mul-front c = search needs
 slice-aggregate-front : tie.Need-slice-aggregate-front
 slice-aggregate-front c =
     let a = c .before .before .before .before .before .before .before .before .before .args in
-    sym (length-take-le (a .n * lanes) (now (a .table)) (omega (arith, c .before .before .before .before .before .before .before .before .before .pre .8)))
+    sym (length-take-le (a .d .n * lanes) (now (a .table)) (omega (arith, c .before .before .before .before .before .before .before .before .before .pre .8)))
 
 slice-aggregate-unpack : tie.Need-slice-aggregate-unpack
 slice-aggregate-unpack c = search needs
@@ -48,7 +48,7 @@ slice-aggregate-unpack c = search needs
 unpack-requires : tie.Need-unpack-requires
 unpack-requires c κs =
     let pre = c .before .before .before .before .before .before .before .before .before .before .pre in
-    (omega (arith, pre .2), omega (arith, pre .6, bytes-enough (c .before .before .before .before .before .before .before .before .before .before .args .n)))
+    (omega (arith, pre .2), omega (arith, pre .6, bytes-enough (c .before .before .before .before .before .before .before .before .before .before .args .d .n)))
 
 clear-requires : tie.Need-clear-requires
 clear-requires c κs = search needs
@@ -64,8 +64,8 @@ batch-forms-requires c κs =
     let pre = c .before .before .before .before .before .before .before .before .before .before .before .before .before .before .before .before .before .before .before .before .before .before .before .pre in
     let a = c .before .before .before .before .before .before .before .before .before .before .before .before .before .before .before .before .before .before .before .before .before .before .before .args in
     let unpacked = c .before .before .before .before .before .before .before .before .before .before .before .before .unpack in
-    let past : (k : ℕ) → a .n ≤ k → byteAt (unpacked .last .0) k ≡ 0 = λ k h. unpacked .ensures .1 k h ∙ zeros 160 k in
-    (c .before .before .before .before .before .before .before .before .before .clear .kept .0 ∙ pre .0, c .before .before .before .before .before .clear2 .kept .0 ∙ pre .1, pre .2, pre .10, pre .3, pre .4, pre .5, pre .7, length-take-le (a .n * lanes) (now (a .table)) (omega (arith, pre .8)), unpacked .kept .0, bits-lt (a .n) (now (a .x)) (unpacked .last .0) (unpacked .ensures .0) past, past, pre .11, pre .12, (λ e. absurd (false≢true (sym e))))
+    let past : (k : ℕ) → a .d .n ≤ k → byteAt (unpacked .last .0) k ≡ 0 = λ k h. unpacked .ensures .1 k h ∙ zeros 160 k in
+    (c .before .before .before .before .before .before .before .before .before .clear .kept .0 ∙ pre .0, c .before .before .before .before .before .clear2 .kept .0 ∙ pre .1, pre .2, pre .10, pre .3, pre .4, pre .5, pre .7, length-take-le (a .d .n * lanes) (now (a .table)) (omega (arith, pre .8)), unpacked .kept .0, bits-lt (a .d .n) (now (a .x)) (unpacked .last .0) (unpacked .ensures .0) past, past, pre .11, pre .12, (λ e. absurd (false≢true (sym e))))
 
 add-masks-requires : tie.Need-add-masks-requires
 add-masks-requires c κs =
@@ -83,8 +83,8 @@ returns : tie.Need-returns
 returns c =
     let pre = c .before .before .before .before .before .before .before .before .before .before .before .before .before .before .before .before .before .before .before .before .before .before .before .before .before .before .before .before .before .before .before .before .before .before .before .pre in
     let a = c .before .before .before .before .before .before .before .before .before .before .before .before .before .before .before .before .before .before .before .before .before .before .before .before .before .before .before .before .before .before .before .before .before .before .before .args in
-    let n = a .n in
-    let m = a .m in
+    let n = a .d .n in
+    let m = a .d .m in
     let T = now (a .table) in
     let χ = now (a .chi) in
     let unpacked = c .before .before .before .before .before .before .before .before .before .before .before .before .before .before .before .before .before .before .before .before .before .before .before .before .unpack in
@@ -93,7 +93,7 @@ returns c =
     let first = c .before .before .before .before .before .before .before .before .before .before .before .before .before .before .before .before .before .before .before .before .before .clear in
     let second = c .before .before .before .before .before .before .before .before .before .before .before .before .before .before .before .before .before .clear2 in
     let past : (k : ℕ) → n ≤ k → byteAt (unpacked .last .0) k ≡ 0 = λ k h. unpacked .ensures .1 k h ∙ zeros 160 k in
-    let lane : (e : ℕ) → e < a .tau → e < lanes = λ e h. omega (arith, pre .3) in (
+    let lane : (e : ℕ) → e < a .d .tau → e < lanes = λ e h. omega (arith, pre .3) in (
       (λ e h.
           masked .ensures .0 e (lane e h)
           ∙ ap (λ (z : ℕ). bitXor z (maskLane T n e))

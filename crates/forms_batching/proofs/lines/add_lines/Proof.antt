@@ -13,8 +13,8 @@ use Rattle.strings.specs.Sums.{byteAt}
 use Rattle.strings.proofs.SumLaws.{sum-same}
 use Rattle.chunks.specs.Chunks.{chunk}
 use Rattle.forms_choices.specs.Entries.{Tabled}
-use Rattle.forms_columns.specs.Stacks.{product}
-use Rattle.forms_batching.specs.Batched.{most}
+use Rattle.forms_columns.specs.Stacks.{byteProduct}
+use Rattle.protocol.specs.Shape.{mostVariables}
 use Rattle.forms_batching.proofs.LineLaws.{weighed-rows, line-sum}
 use Rattle.forms_batching.proofs.lines.add_lines.Statement.{statement}
 use Rattle.forms_batching.proofs.lines.add_lines.Tie as tie
@@ -53,7 +53,7 @@ returns c =
     let few : a .groups ≤ 32 = pre .6 .0 .0 in
     λ χ e small chosen he.
     done .ensures S (λ q. byteAt (blockAt χ (a .m) q)) (a .m) e (weighed-rows S (filled .last .0) (now (a .words)) χ (a .m) (a .groups) (a .tau) tabled long (pre .6 .1) few small chosen) he
-    ∙ ap (bitXor (byteAt (now (a .mid)) e)) (sum-same most _ _ (λ j l. ap (product (byteAt (now (a .vectors)) (e * most + j))) (line-sum (now (a .lines)) χ (a .m) e j (omega arith))))
+    ∙ ap (bitXor (byteAt (now (a .mid)) e)) (sum-same mostVariables _ _ (λ j l. ap (byteProduct (byteAt (now (a .vectors)) (e * mostVariables + j))) (line-sum (now (a .lines)) χ (a .m) e j (omega arith))))
 
 pub add-lines-spec : {M : Type 1} → statement M
 add-lines-spec =

@@ -14,15 +14,15 @@ use lib.Bits.{bitXor}
 use Rattle.strings.specs.Sums.{byteAt, xorSum}
 use Rattle.lanes.specs.Lanes.{lanes}
 use Rattle.forms_choices.specs.Entries.{Weighed}
-use Rattle.forms_columns.specs.Stacks.{product}
-use Rattle.forms_batching.specs.Batched.{most}
+use Rattle.forms_columns.specs.Stacks.{byteProduct}
+use Rattle.protocol.specs.Shape.{mostVariables}
 use Rattle.forms_batching.specs.Lines.{lineBit}
 use Rattle.forms_batching.proofs.lines.add_products.Statement.{statement}
 use Rattle.forms_batching.proofs.lines.add_products.Tie as tie
 
 -- the batched line of repetition e times its vector
 abbrev term : List ℕ → (ℕ → ℕ → ℕ) → ℕ → List ℕ → ℕ → ℕ
-term S χ m vectors e = xorSum most (λ c. product (byteAt vectors (e * most + c)) (xorSum m (λ i. lineBit S i c * χ e i)))
+term S χ m vectors e = xorSum mostVariables (λ c. byteProduct (byteAt vectors (e * mostVariables + c)) (xorSum m (λ i. lineBit S i c * χ e i)))
 
 abbrev Inv-loop : tie.InvT-loop
 Inv-loop mid₀ tau words groups sums vectors e₀ mid e = (e ≤ tau) × (length mid ≡ lanes) × ((S : List ℕ) (χ : ℕ → ℕ → ℕ) (m d : ℕ) → ((q : ℕ) → q < tau → Weighed S (χ q) m sums words groups (q * 8)) → d < e → byteAt mid d ≡ bitXor (byteAt mid₀ d) (term S χ m vectors d)) × ((d : ℕ) → e ≤ d → byteAt mid d ≡ byteAt mid₀ d)

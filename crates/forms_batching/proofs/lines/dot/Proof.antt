@@ -9,19 +9,19 @@ use denote.Ref.{now}
 use lib.Bits.{bitXor}
 use Rattle.strings.specs.Sums.{byteAt, xorSum}
 use Rattle.strings.proofs.SumLaws.{sum-more}
-use Rattle.forms_columns.specs.Stacks.{product}
-use Rattle.forms_batching.specs.Batched.{most}
+use Rattle.forms_columns.specs.Stacks.{byteProduct}
+use Rattle.protocol.specs.Shape.{mostVariables}
 use Rattle.forms_batching.proofs.lines.dot.Statement.{statement}
 use Rattle.forms_batching.proofs.lines.dot.Tie as tie
 
 abbrev term : List ℕ → List ℕ → ℕ → ℕ
-term f t c = product (byteAt f c) (byteAt t c)
+term f t c = byteProduct (byteAt f c) (byteAt t c)
 
 abbrev Inv-loop : tie.InvT-loop
-Inv-loop f t sum₀ c₀ sum c = (c ≤ most) × (sum ≡ xorSum c (term f t))
+Inv-loop f t sum₀ c₀ sum c = (c ≤ mostVariables) × (sum ≡ xorSum c (term f t))
 
 abbrev μ-loop : tie.MeasureT-loop
-μ-loop f t sum₀ c₀ sum c = most - c
+μ-loop f t sum₀ c₀ sum c = mostVariables - c
 
 loop-holds : tie.Need-loop-holds Inv-loop μ-loop
 unfolding xorSum
@@ -43,7 +43,7 @@ loop-less : tie.Need-loop-less Inv-loop μ-loop
 loop-less c = search needs
 
 loop-again : tie.Need-loop-again Inv-loop μ-loop
-unfolding product
+unfolding byteProduct
 loop-again c =
     let a = c .before .before .before .before .before .before .before .args in
     let l = c .before .before .before .before .loop in
@@ -52,7 +52,7 @@ loop-again c =
 returns : tie.Need-returns Inv-loop μ-loop
 returns c =
     let l = c .before .loop in
-    let end : l .c ≡ most = omega arith in
+    let end : l .c ≡ mostVariables = omega arith in
     rw end at (l .inv .1)
 
 pub dot-spec : {M : Type 1} → statement M

@@ -11,8 +11,8 @@ use Rattle.strings.specs.Sums.{byteAt, bitOf}
 use Rattle.strings.proofs.Rows.{row-byte}
 use Rattle.strings.proofs.SumLaws.{sum-same}
 use Rattle.chunks.specs.Chunks.{cellAt}
-use Rattle.forms_columns.specs.Stacks.{product}
-use Rattle.forms_batching.specs.Batched.{most}
+use Rattle.forms_columns.specs.Stacks.{byteProduct}
+use Rattle.protocol.specs.Shape.{mostVariables}
 use Rattle.forms_batching.proofs.LineLaws.{element-is}
 use Rattle.forms_batching.proofs.lines.line_product.Statement.{statement}
 use Rattle.forms_batching.proofs.lines.line_product.Tie as tie
@@ -83,8 +83,8 @@ returns c =
     let elements = second .last .0 in
     λ S χ m weighed.
     c .dot .ensures
-    ∙ sum-same most _ _ (λ j l.
-    ap₂ product (ap (λ (s : List ℕ). byteAt s j) (row .ensures .0) ∙ row-byte (now (a .vectors)) most (a .e) j l)
+    ∙ sum-same mostVariables _ _ (λ j l.
+    ap₂ byteProduct (ap (λ (s : List ℕ). byteAt s j) (row .ensures .0) ∙ row-byte (now (a .vectors)) mostVariables (a .e) j l)
     (element-is S χ m (now (a .sums)) (now (a .words)) (a .groups) (a .e * 8) planes (byteAt elements j) j weighed (second .ensures .1 .1 j) (omega arith) (looked .ensures)
     (λ p hp. both-turned planes (first .last .0) elements (first .ensures .0) (second .ensures .0) (second .ensures .1 .0) j p (omega arith) hp)))
 

@@ -15,19 +15,19 @@ use Rattle.strings.proofs.Meaning.{bitOf-lt, bitOf-sum, bit-times}
 use Rattle.chunks.specs.Chunks.{chunk, cellAt, Masks}
 use Rattle.forms_choices.specs.Entries.{lookedUp, Weighed}
 use Rattle.forms_choices.proofs.ChoiceLaws.{chosen-sum}
-use Rattle.forms_columns.specs.Stacks.{alpha, product, planes, stackAt}
+use Rattle.forms_columns.specs.Stacks.{alpha, byteProduct, planes, stackAt}
 use Rattle.forms_batching.proofs.StackLaws.{planes-added}
 use Rattle.forms_batching.proofs.stacks.absorb.Statement.{statement}
 use Rattle.forms_batching.proofs.stacks.absorb.Tie as tie
 
 -- what plane p adds
 abbrev term : List ℕ → List ℕ → (ℕ → ℕ) → ℕ → ℕ → ℕ → ℕ → ℕ
-term S v χ m f z p = bitOf (xorSum m (λ i. bitOf (χ i) p * cellAt S i f)) z * product (alpha p) (byteAt v f)
+term S v χ m f z p = bitOf (xorSum m (λ i. bitOf (χ i) p * cellAt S i f)) z * byteProduct (alpha p) (byteAt v f)
 
-all-terms : (S v : List ℕ) (χ : ℕ → ℕ) (m f z : ℕ) → ((i : ℕ) → i < m → χ i < 256) → xorSum 8 (term S v χ m f z) ≡ product (byteAt v f) (xorSum m (λ i. bitOf (cellAt S i f) z * χ i))
+all-terms : (S v : List ℕ) (χ : ℕ → ℕ) (m f z : ℕ) → ((i : ℕ) → i < m → χ i < 256) → xorSum 8 (term S v χ m f z) ≡ byteProduct (byteAt v f) (xorSum m (λ i. bitOf (cellAt S i f) z * χ i))
 all-terms S v χ m f z small =
-    sum-same 8 _ (λ p. xorSum m (λ i. bitOf (χ i) p * bitOf (cellAt S i f) z) * product (alpha p) (byteAt v f))
-    (λ p l. ap (λ x. x * product (alpha p) (byteAt v f)) (bitOf-sum m (λ i. bitOf (χ i) p * cellAt S i f) z ∙ sum-same m _ _ (λ i k. bit-times (bitOf (χ i) p) (cellAt S i f) z (bitOf-lt (χ i) p))))
+    sum-same 8 _ (λ p. xorSum m (λ i. bitOf (χ i) p * bitOf (cellAt S i f) z) * byteProduct (alpha p) (byteAt v f))
+    (λ p l. ap (λ x. x * byteProduct (alpha p) (byteAt v f)) (bitOf-sum m (λ i. bitOf (χ i) p * cellAt S i f) z ∙ sum-same m _ _ (λ i k. bit-times (bitOf (χ i) p) (cellAt S i f) z (bitOf-lt (χ i) p))))
     ∙ planes-added m (byteAt v f) χ (λ i. bitOf (cellAt S i f) z) small (λ i. bitOf-lt (cellAt S i f) z)
 
 -- two more terms
@@ -94,7 +94,7 @@ loop-again c =
       done .kept .0 ∙ l .inv .1,
       (λ S v χ m f z weighed masks hv h.
           done .ensures v f z masks hv h
-          ∙ ap₂ (λ (x y : ℕ). bitXor (stackAt (l .t) f z) (bitXor (bitOf x z * product (alpha p) (byteAt v f)) (bitOf y z * product (alpha (p + 1)) (byteAt v f)))) (one S χ m f weighed h) (two S χ m f weighed h)
+          ∙ ap₂ (λ (x y : ℕ). bitXor (stackAt (l .t) f z) (bitXor (bitOf x z * byteProduct (alpha p) (byteAt v f)) (bitOf y z * byteProduct (alpha (p + 1)) (byteAt v f)))) (one S χ m f weighed h) (two S χ m f weighed h)
           ∙ step-two (stackAt (now (a .t)) f z) (stackAt (l .t) f z) (l .k) (term S v χ m f z) (l .inv .2 S v χ m f z weighed masks hv h)),
     )
 

@@ -15,23 +15,23 @@ use Rattle.strings.specs.Sums.{byteAt, bitOf, xorSum}
 use Rattle.strings.proofs.Rows.{row-byte, put-in, put-other}
 use Rattle.chunks.specs.Chunks.{chunk, cellAt, Masks}
 use Rattle.forms_choices.specs.Entries.{Weighed}
-use Rattle.forms_columns.specs.Stacks.{product, planes, stackAt}
-use Rattle.forms_batching.specs.Batched.{most}
+use Rattle.forms_columns.specs.Stacks.{byteProduct, planes, stackAt}
+use Rattle.protocol.specs.Shape.{mostVariables}
 use Rattle.forms_batching.proofs.StackLaws.{stack-is}
 use Rattle.forms_batching.proofs.stacks.absorb_lane.Statement.{statement}
 use Rattle.forms_batching.proofs.stacks.absorb_lane.Tie as tie
 
-slice-aggregate-spread : tie.Need-slice-aggregate-spread
-slice-aggregate-spread c = search needs
+slice-aggregate-fill-halves : tie.Need-slice-aggregate-fill-halves
+slice-aggregate-fill-halves c = search needs
 
-mul-spread : tie.Need-mul-spread
-mul-spread c = search needs
+mul-fill-halves : tie.Need-mul-fill-halves
+mul-fill-halves c = search needs
 
-add-spread : tie.Need-add-spread
-add-spread c = search needs
+add-fill-halves : tie.Need-add-fill-halves
+add-fill-halves c = search needs
 
-spread-requires : tie.Need-spread-requires
-spread-requires c κs = search needs
+fill-halves-requires : tie.Need-fill-halves-requires
+fill-halves-requires c κs = search needs
 
 slice-aggregate-fill-masks : tie.Need-slice-aggregate-fill-masks
 slice-aggregate-fill-masks c = search needs
@@ -79,7 +79,7 @@ returns c =
     let at = a .e * (planes * chunk) in
     let done = c .before .before .absorb in
     let r = done .last .0 in
-    let spreads = c .before .before .before .before .before .before .before .before .before .before .spread in
+    let spreads = c .before .before .before .before .before .before .before .before .before .before .fill-halves in
     let v = spreads .last .0 in
     let known = c .before .before .before .before .before .before .before .before .before .before .before .before .shared-slice-known3 .given in
     let e : at + planes * chunk - at ≡ planes * chunk = add-sub-cancel-left at (planes * chunk) in
@@ -87,16 +87,16 @@ returns c =
     let long : length (blockAt l (planes * chunk) (a .e)) ≡ planes * chunk = simp (length-take, length-drop) (omega arith) in
     let kept : length r ≡ planes * chunk = rw e at (done .kept .0) ∙ long in
     let filled = c .before .before .before .before .before .before .fill-masks in
-    let sums : ((S v : List ℕ) (χ : ℕ → ℕ) (m f z : ℕ) → Weighed S χ m (now (a .sums)) (now (a .words)) (a .groups) (a .e * 8) → Masks v (filled .last .0) → byteAt v f < 256 → f < chunk → stackAt r f z ≡ bitXor (stackAt (blockAt l (planes * chunk) (a .e)) f z) (product (byteAt v f) (xorSum m (λ i. bitOf (cellAt S i f) z * χ i)))) =
+    let sums : ((S v : List ℕ) (χ : ℕ → ℕ) (m f z : ℕ) → Weighed S χ m (now (a .sums)) (now (a .words)) (a .groups) (a .e * 8) → Masks v (filled .last .0) → byteAt v f < 256 → f < chunk → stackAt r f z ≡ bitXor (stackAt (blockAt l (planes * chunk) (a .e)) f z) (byteProduct (byteAt v f) (xorSum m (λ i. bitOf (cellAt S i f) z * χ i)))) =
     rw e at (done .ensures) in
     rw e (
       (λ S χ m h f z weighed hh hf.
           let inside : h * 16 + f < chunk = omega arith in
-          let lane : byteAt v (h * 16 + f) ≡ byteAt (now (a .vectors)) (a .e * most + (a .first + f)) = spreads .ensures h f hh hf ∙ ap (byteAt (now (a .vectors))) (add-assoc (a .e * most) (a .first) f) in
-          let small : byteAt v (h * 16 + f) < 256 = rw lane (known ((a .e * most) + (a .first + f)) .fits) in
+          let lane : byteAt v (h * 16 + f) ≡ byteAt (now (a .vectors)) (a .e * mostVariables + (a .first + f)) = spreads .ensures h f hh hf ∙ ap (byteAt (now (a .vectors))) (add-assoc (a .e * mostVariables) (a .first) f) in
+          let small : byteAt v (h * 16 + f) < 256 = rw lane (known ((a .e * mostVariables) + (a .first + f)) .fits) in
           stack-is (putMid at (planes * chunk) l r) r (a .e) (h * 16 + f) z inside (put-in at (planes * chunk) l r fits kept)
           ∙ sums S v χ m (h * 16 + f) z weighed (filled .ensures) small inside
-          ∙ ap₂ (λ (x y : ℕ). bitXor x (product y (xorSum m (λ i. bitOf (cellAt S i (h * 16 + f)) z * χ i))))
+          ∙ ap₂ (λ (x y : ℕ). bitXor x (byteProduct y (xorSum m (λ i. bitOf (cellAt S i (h * 16 + f)) z * χ i))))
           (sym (stack-is l (blockAt l (planes * chunk) (a .e)) (a .e) (h * 16 + f) z inside (λ b h. sym (row-byte l (planes * chunk) (a .e) b h)))) lane),
       put-other (a .e) (planes * chunk) l r fits kept,
     )
@@ -105,10 +105,10 @@ pub absorb-lane-spec : {M : Type 1} → statement M
 absorb-lane-spec =
     tie.close
     (tie.spec
-    slice-aggregate-spread
-    mul-spread
-    add-spread
-    spread-requires
+    slice-aggregate-fill-halves
+    mul-fill-halves
+    add-fill-halves
+    fill-halves-requires
     slice-aggregate-fill-masks
     slice-aggregate-fill-masks-2
     fill-masks-requires

@@ -17,8 +17,9 @@ use Rattle.strings.proofs.SumLaws.{sum-same, sum-none, sum-step}
 use Rattle.strings.proofs.Meaning.{bitOf-zero}
 use Rattle.chunks.specs.Chunks.{chunk, cellAt}
 use Rattle.forms_choices.specs.Entries.{Tabled, Chosen, Weighed}
-use Rattle.forms_columns.specs.Stacks.{product, planes, stackOf}
-use Rattle.forms_batching.specs.Batched.{most, cellSum}
+use Rattle.forms_columns.specs.Stacks.{byteProduct, planes, stackOf}
+use Rattle.protocol.specs.Shape.{mostVariables}
+use Rattle.forms_batching.specs.Batched.{cellSum}
 use Rattle.forms_batching.proofs.StackLaws.{stack-same}
 use Rattle.forms_batching.proofs.LineLaws.{weighed-rows}
 use Rattle.forms_batching.proofs.stacks.collect.Statement.{statement}
@@ -26,7 +27,7 @@ use Rattle.forms_batching.proofs.stacks.collect.Tie as tie
 
 -- what the sixteen rows q add to a byte of the stack of repetition e
 abbrev term : List ℕ → ℕ → List ℕ → List ℕ → ℕ → ℕ → ℕ → ℕ → ℕ → ℕ
-term cells m χ vectors e h f z q = product (byteAt vectors (e * most + (q * 16 + f))) (cellSum cells m χ e q (h * 16 + f) z)
+term cells m χ vectors e h f z q = byteProduct (byteAt vectors (e * mostVariables + (q * 16 + f))) (cellSum cells m χ e q (h * 16 + f) z)
 
 -- the first entry of a table of sums is 0
 first-zero : (S sums : List ℕ) (count f : ℕ) → 0 < count → Tabled S sums count → f < chunk → byteAt sums f ≡ 0
@@ -138,7 +139,7 @@ loop-again c =
       (λ χ e h f z small chosen he hh hf.
           let inside : h * 16 + f < chunk = omega arith in
           done .ensures S (λ q. byteAt (blockAt χ (a .m) q)) (a .m) e h f z (all χ small chosen) he hh hf
-          ∙ ap₂ (λ (y x : ℕ). bitXor y (product (byteAt (now (a .vectors)) (e * most + (l .q * 16 + f))) x))
+          ∙ ap₂ (λ (y x : ℕ). bitXor y (byteProduct (byteAt (now (a .vectors)) (e * mostVariables + (l .q * 16 + f))) x))
           (stack-same (settled .last .0) (l .stacks) e (h * 16 + f) z inside (λ b k. same (e * (planes * chunk) + b)))
           (sum-is cells χ (a .m) e (l .q) (h * 16 + f) z inside)
           ∙ sum-step (stackOf (now (a .stacks)) e (h * 16 + f) z) (stackOf (l .stacks) e (h * 16 + f) z) (l .q) (term cells (a .m) χ (now (a .vectors)) e h f z) (l .inv .3 χ e h f z small chosen he hh hf)),

@@ -8,12 +8,12 @@ use denote.Ref.{now}
 use lib.ListN.{length}
 use Rattle.strings.proofs.Rows.{RowsAre, rows-more, row-end}
 use Rattle.lanes.specs.Lanes.{laneAt}
-use Rattle.forms_batching.specs.Batched.{most}
+use Rattle.protocol.specs.Shape.{mostVariables}
 use Rattle.forms_batching.proofs.stacks.fill_vectors.Statement.{statement}
 use Rattle.forms_batching.proofs.stacks.fill_vectors.Tie as tie
 
 abbrev Inv-loop : tie.InvT-loop
-Inv-loop vectors₀ tau table n e₀ vectors e = (e ≤ tau) × (length vectors ≡ length vectors₀) × RowsAre (λ i f. laneAt table f i) vectors e most
+Inv-loop vectors₀ tau table n e₀ vectors e = (e ≤ tau) × (length vectors ≡ length vectors₀) × RowsAre (λ i f. laneAt table f i) vectors e mostVariables
 
 abbrev μ-loop : tie.MeasureT-loop
 μ-loop vectors₀ tau table n e₀ vectors e = tau - e
@@ -26,7 +26,7 @@ put-vector-requires c κs =
     let a = c .before .before .before .before .before .args in
     let pre = c .before .before .before .before .before .pre in
     let l = c .before .before .loop in
-    (pre .0, omega arith, omega (arith, l .inv .1, row-end (l .e) (a .tau) most (c .before .loop-test .taken)))
+    (pre .0, omega arith, omega (arith, l .inv .1, row-end (l .e) (a .tau) mostVariables (c .before .loop-test .taken)))
 
 add-e : tie.Need-add-e Inv-loop μ-loop
 add-e c = search needs
@@ -39,7 +39,7 @@ loop-again c =
     let a = c .before .before .before .before .before .before .before .before .args in
     let l = c .before .before .before .before .before .loop in
     let done = c .before .before .put-vector in
-    (omega arith, done .kept .0 ∙ l .inv .1, rows-more (λ i f. laneAt (now (a .table)) f i) (l .vectors) (done .last .0) (l .e) most (l .inv .2) (done .ensures .0) (done .ensures .1))
+    (omega arith, done .kept .0 ∙ l .inv .1, rows-more (λ i f. laneAt (now (a .table)) f i) (l .vectors) (done .last .0) (l .e) mostVariables (l .inv .2) (done .ensures .0) (done .ensures .1))
 
 same-length : tie.Need-same-length Inv-loop μ-loop
 same-length c = search needs

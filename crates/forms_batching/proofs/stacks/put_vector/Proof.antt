@@ -10,7 +10,7 @@ use lib.ListN.{length, take, drop, length-take, length-drop}
 use Rattle.strings.specs.Sums.{byteAt}
 use Rattle.strings.proofs.Rows.{put-in, put-other}
 use Rattle.lanes.specs.Lanes.{laneAt}
-use Rattle.forms_batching.specs.Batched.{most}
+use Rattle.protocol.specs.Shape.{mostVariables}
 use Rattle.forms_batching.proofs.stacks.put_vector.Statement.{statement}
 use Rattle.forms_batching.proofs.stacks.put_vector.Tie as tie
 
@@ -39,15 +39,15 @@ returns : tie.Need-returns
 returns c =
     let a = c .before .before .before .before .before .before .args in
     let l = now (a .vectors) in
-    let at = a .e * most in
+    let at = a .e * mostVariables in
     let done = c .before .before .fill-vector in
     let r = done .last .0 in
-    let e : at + most - at ≡ most = add-sub-cancel-left at most in
-    let fits : at + most ≤ length l = omega arith in
-    let long : length (take most (drop at l)) ≡ most = simp (length-take, length-drop) (omega arith) in
-    let kept : length r ≡ most = rw e at (done .kept .0) ∙ long in
-    let all : (i : ℕ) → i < length (take most (drop at l)) → byteAt r i ≡ laneAt (now (a .table)) i (a .e) = rw e at (done .ensures) in
-    rw e ((λ i h. put-in at most l r fits kept i h ∙ all i (omega (arith, long))), put-other (a .e) most l r fits kept)
+    let e : at + mostVariables - at ≡ mostVariables = add-sub-cancel-left at mostVariables in
+    let fits : at + mostVariables ≤ length l = omega arith in
+    let long : length (take mostVariables (drop at l)) ≡ mostVariables = simp (length-take, length-drop) (omega arith) in
+    let kept : length r ≡ mostVariables = rw e at (done .kept .0) ∙ long in
+    let all : (i : ℕ) → i < length (take mostVariables (drop at l)) → byteAt r i ≡ laneAt (now (a .table)) i (a .e) = rw e at (done .ensures) in
+    rw e ((λ i h. put-in at mostVariables l r fits kept i h ∙ all i (omega (arith, long))), put-other (a .e) mostVariables l r fits kept)
 
 pub put-vector-spec : {M : Type 1} → statement M
 put-vector-spec =

@@ -9,17 +9,17 @@ use denote.Ref.{now}
 use lib.ListN.{length, length-set}
 use Rattle.strings.specs.Sums.{byteAt}
 use Rattle.strings.proofs.Elementwise.{changed, changed-more, changed-all}
-use Rattle.forms_choices.specs.Entries.{wordOf}
+use Rattle.forms_choices.specs.Entries.{fivesWord}
 use Rattle.forms_choices.proofs.fives.put.Statement.{statement}
 use Rattle.forms_choices.proofs.fives.put.Tie as tie
 
 abbrev word : List ℕ → ℕ → ℕ → ℕ → ℕ
-word picks at k x = wordOf picks (at + k * 10)
+word picks at k x = fivesWord picks (at + k * 10)
 
 -- a word from its parts
 parts : (P : List ℕ) (at x y z : ℕ) → x ≡ byteAt P at + byteAt P (at + 1) * 32 + byteAt P (at + 2) * 1024 + byteAt P (at + 3) * 32768
     → y ≡ byteAt P (at + 4) + byteAt P (at + 4 + 1) * 32 + byteAt P (at + 4 + 2) * 1024 + byteAt P (at + 4 + 3) * 32768
-    → z ≡ byteAt P (at + 8) + byteAt P (at + 8 + 1) * 32 → x + y * 1048576 + z * 1099511627776 ≡ wordOf P at
+    → z ≡ byteAt P (at + 8) + byteAt P (at + 8 + 1) * 32 → x + y * 1048576 + z * 1099511627776 ≡ fivesWord P at
 parts P at x y z low high top =
     let one : at + 4 + 1 ≡ at + 5 = omega arith in
     let two : at + 4 + 2 ≡ at + 6 = omega arith in

@@ -9,7 +9,7 @@ use denote.Ref.{now}
 use lib.ListN.{length, take, drop, length-take, length-drop}
 use Rattle.strings.proofs.Rows.{put-in, put-other}
 use Rattle.strings.specs.Sums.{byteAt}
-use Rattle.forms_choices.specs.Entries.{wordOf}
+use Rattle.forms_choices.specs.Entries.{fivesWord}
 use Rattle.forms_choices.proofs.fives.put_row.Statement.{statement}
 use Rattle.forms_choices.proofs.fives.put_row.Tie as tie
 
@@ -51,7 +51,7 @@ returns c =
     let fits : at + 4 ≤ length l = omega arith in
     let long : length (take 4 (drop at l)) ≡ 4 = simp (length-take, length-drop) (omega arith) in
     let kept : length r ≡ 4 = rw e at (done .kept .0) ∙ long in
-    let filled : (k : ℕ) → k < 4 → byteAt r k ≡ wordOf (now (a .picks)) (a .p * 32 + k * 10) = done .ensures in
+    let filled : (k : ℕ) → k < 4 → byteAt r k ≡ fivesWord (now (a .picks)) (a .p * 32 + k * 10) = done .ensures in
     rw e ((λ g h. put-in at 4 l r fits kept g h ∙ filled g h), put-other (a .r) 4 l r fits kept)
 
 pub put-row-spec : {M : Type 1} → statement M

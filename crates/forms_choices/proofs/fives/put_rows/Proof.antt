@@ -9,13 +9,13 @@ use native.Mathlib.Numerals.{add-one}
 use native.Mathlib.Omega.{arith}
 use lib.ListN.{length}
 use Rattle.strings.specs.Sums.{byteAt}
-use Rattle.forms_choices.specs.Entries.{wordOf}
+use Rattle.forms_choices.specs.Entries.{fivesWord}
 use Rattle.forms_choices.proofs.fives.put_rows.Statement.{statement}
 use Rattle.forms_choices.proofs.fives.put_rows.Tie as tie
 
 abbrev Inv-loop : tie.InvT-loop
 Inv-loop words₀ e picks p₀ words p =
-    (p ≤ 8) × (length words ≡ length words₀) × ((q k : ℕ) → q < p → k < 4 → byteAt words ((e * 8 + q) * 4 + k) ≡ wordOf picks (q * 32 + k * 10))
+    (p ≤ 8) × (length words ≡ length words₀) × ((q k : ℕ) → q < p → k < 4 → byteAt words ((e * 8 + q) * 4 + k) ≡ fivesWord picks (q * 32 + k * 10))
     × ((q k : ℕ) → q < e * 8 → k < 4 → byteAt words (q * 4 + k) ≡ byteAt words₀ (q * 4 + k))
 
 abbrev μ-loop : tie.MeasureT-loop

@@ -11,7 +11,7 @@ use lib.ListN.{length, getD-replicate}
 use lib.Bits.{bitXor, xor-zero-l}
 use Rattle.strings.specs.Sums.{byteAt}
 use Rattle.lanes.specs.Lanes.{lanes, laneAt}
-use Rattle.hash.specs.Entries.{entryByte}
+use Rattle.hash.specs.Entries.{entryLane}
 use Rattle.hash.proofs.EntryLaws.{entry-top, entry-none}
 use Rattle.hash.proofs.lookups.fill_group.Statement.{statement}
 use Rattle.hash.proofs.lookups.fill_group.Tie as tie
@@ -25,13 +25,13 @@ doubled (suc (suc (suc (suc s)))) count h is = absurd (omega arith)
 
 -- the entries with one coordinate more
 module _ (T old new x : List ℕ) (g s count : ℕ) (hs : s < 4) (is : count ≡ 2 ^ s)
-    (done : (v e : ℕ) → v < count → e < lanes → laneAt old (g * 16 + v) e ≡ entryByte T (g * 16 + v) e) (coordinate : (e : ℕ) → e < lanes → byteAt x e ≡ laneAt T (g * 4 + s) e)
+    (done : (v e : ℕ) → v < count → e < lanes → laneAt old (g * 16 + v) e ≡ entryLane T (g * 16 + v) e) (coordinate : (e : ℕ) → e < lanes → byteAt x e ≡ laneAt T (g * 4 + s) e)
     (made : (v e : ℕ) → v < count → e < lanes → laneAt new (g * 16 + count + v) e ≡ bitXor (laneAt old (g * 16 + v) e) (byteAt x e))
     (kept : (q e : ℕ) → q < g * 16 + count → e < lanes → laneAt new q e ≡ laneAt old q e) where
-  more : (v e : ℕ) → v < count * 2 → e < lanes → laneAt new (g * 16 + v) e ≡ entryByte T (g * 16 + v) e
+  more : (v e : ℕ) → v < count * 2 → e < lanes → laneAt new (g * 16 + v) e ≡ entryLane T (g * 16 + v) e
   more v e h k = go (decLt v count)
     where
-      go : Dec (v < count) → laneAt new (g * 16 + v) e ≡ entryByte T (g * 16 + v) e
+      go : Dec (v < count) → laneAt new (g * 16 + v) e ≡ entryLane T (g * 16 + v) e
       go (yes l) = kept (g * 16 + v) e (omega arith) k ∙ done v e l k
       go (no l) =
           let u = v - count in
@@ -42,10 +42,10 @@ module _ (T old new x : List ℕ) (g s count : ℕ) (hs : s < 4) (is : count ≡
           let base : g * 16 + v - (g * 16 + v) % 16 + u ≡ g * 16 + u = omega (arith, half) in
           let four : (g * 16 + v) / 16 * 4 + s ≡ g * 4 + s = omega arith in
           ap (λ (q : ℕ). laneAt new q e) at ∙ made u e (omega (arith, is)) k ∙ ap₂ bitXor (done u e (omega (arith, is)) k) (coordinate e k)
-          ∙ sym (entry-top T (g * 16 + v) e s u hs low half ∙ ap₂ (λ (x y : ℕ). bitXor (entryByte T x e) (laneAt T y e)) base four)
+          ∙ sym (entry-top T (g * 16 + v) e s u hs low half ∙ ap₂ (λ (x y : ℕ). bitXor (entryLane T x e) (laneAt T y e)) base four)
 
 abbrev Inv-loop : tie.InvT-loop
-Inv-loop sums₀ g n table count₀ s₀ sums count s = (s ≤ 4) × (count ≡ 2 ^ s) × (length sums ≡ length sums₀) × ((v e : ℕ) → v < count → e < lanes → laneAt sums (g * 16 + v) e ≡ entryByte table (g * 16 + v) e) × ((q e : ℕ) → q < g * 16 → e < lanes → laneAt sums q e ≡ laneAt sums₀ q e)
+Inv-loop sums₀ g n table count₀ s₀ sums count s = (s ≤ 4) × (count ≡ 2 ^ s) × (length sums ≡ length sums₀) × ((v e : ℕ) → v < count → e < lanes → laneAt sums (g * 16 + v) e ≡ entryLane table (g * 16 + v) e) × ((q e : ℕ) → q < g * 16 → e < lanes → laneAt sums q e ≡ laneAt sums₀ q e)
 
 abbrev μ-loop : tie.MeasureT-loop
 μ-loop sums₀ g n table count₀ s₀ sums count s = 4 - s
@@ -67,7 +67,7 @@ loop-holds c =
           let none : v ≡ 0 = omega arith in
           let first : a .g * 16 + v ≡ a .g * 16 = omega arith in
           ap (λ (q : ℕ). laneAt (stored .last .0) q e) first ∙ stored .ensures .0 e k ∙ getD-replicate lanes e 0 0 k
-          ∙ sym (ap (λ (q : ℕ). entryByte (now (a .table)) q e) first ∙ entry-none (now (a .table)) (a .g * 16) e (omega arith))),
+          ∙ sym (ap (λ (q : ℕ). entryLane (now (a .table)) q e) first ∙ entry-none (now (a .table)) (a .g * 16) e (omega arith))),
       (λ q e h k. refl),
     )
 

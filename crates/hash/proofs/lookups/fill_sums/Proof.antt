@@ -9,21 +9,21 @@ use native.Mathlib.Omega.{arith}
 use denote.Ref.{now}
 use lib.ListN.{length}
 use Rattle.lanes.specs.Lanes.{lanes, laneAt}
-use Rattle.hash.specs.Entries.{entryByte, Tabled}
+use Rattle.hash.specs.Entries.{entryLane, LanesTabled}
 use Rattle.hash.proofs.lookups.fill_sums.Statement.{statement}
 use Rattle.hash.proofs.lookups.fill_sums.Tie as tie
 
 -- one group more
-tabled-more : (T old new : List ℕ) (g : ℕ) → Tabled T old (g * 16) → ((v e : ℕ) → v < 16 → e < lanes → laneAt new (g * 16 + v) e ≡ entryByte T (g * 16 + v) e)
-    → ((q e : ℕ) → q < g * 16 → e < lanes → laneAt new q e ≡ laneAt old q e) → Tabled T new ((g + 1) * 16)
+tabled-more : (T old new : List ℕ) (g : ℕ) → LanesTabled T old (g * 16) → ((v e : ℕ) → v < 16 → e < lanes → laneAt new (g * 16 + v) e ≡ entryLane T (g * 16 + v) e)
+    → ((q e : ℕ) → q < g * 16 → e < lanes → laneAt new q e ≡ laneAt old q e) → LanesTabled T new ((g + 1) * 16)
 tabled-more T old new g tabled made kept q e h k = go (decLt q (g * 16))
   where
-    go : Dec (q < g * 16) → laneAt new q e ≡ entryByte T q e
+    go : Dec (q < g * 16) → laneAt new q e ≡ entryLane T q e
     go (yes l) = kept q e l k ∙ tabled q e l k
     go (no l) = let at : q ≡ g * 16 + (q - g * 16) = omega arith in rw at (made (q - g * 16) e (omega arith) k)
 
 abbrev Inv-loop : tie.InvT-loop
-Inv-loop sums₀ count n table groups g₀ sums g = (g ≤ groups) × (length sums ≡ length sums₀) × Tabled table sums (g * 16)
+Inv-loop sums₀ count n table groups g₀ sums g = (g ≤ groups) × (length sums ≡ length sums₀) × LanesTabled table sums (g * 16)
 
 abbrev μ-loop : tie.MeasureT-loop
 μ-loop sums₀ count n table groups g₀ sums g = groups - g

@@ -11,13 +11,13 @@ use lib.Bits.{bitXor}
 use Rattle.strings.specs.Sums.{byteAt, xorSum}
 use Rattle.strings.proofs.SumLaws.{sum-more}
 use Rattle.lanes.specs.Lanes.{lanes, laneAt}
-use Rattle.hash.specs.Entries.{lookedUp}
+use Rattle.hash.specs.Entries.{rowLookedUp}
 use Rattle.hash.proofs.SelectLaws.{look-up-selects}
 use Rattle.hash.proofs.lookups.look_up_row.Statement.{statement}
 use Rattle.hash.proofs.lookups.look_up_row.Tie as tie
 
 abbrev Inv-loop : tie.InvT-loop
-Inv-loop out row sums sum₀ b₀ sum b = (b ≤ length row) × (length sum ≡ lanes) × ((e : ℕ) → e < lanes → byteAt sum e ≡ lookedUp b row sums e)
+Inv-loop out row sums sum₀ b₀ sum b = (b ≤ length row) × (length sum ≡ lanes) × ((e : ℕ) → e < lanes → byteAt sum e ≡ rowLookedUp b row sums e)
 
 abbrev μ-loop : tie.MeasureT-loop
 μ-loop out row sums sum₀ b₀ sum b = length row - b

@@ -14,7 +14,7 @@ use lib.Bits.{bitXor}
 use Rattle.protocol.proofs.ListLaws.{row-end}
 use Rattle.strings.specs.Sums.{byteAt, selected}
 use Rattle.lanes.specs.Lanes.{lanes, laneAt}
-use Rattle.hash.specs.Entries.{Tabled}
+use Rattle.hash.specs.Entries.{LanesTabled}
 use Rattle.hash.specs.Hashed.{hashLane}
 use Rattle.hash.proofs.vectors.hash_lanes.Statement.{statement}
 use Rattle.hash.proofs.vectors.hash_lanes.Tie as tie

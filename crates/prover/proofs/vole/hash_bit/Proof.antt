@@ -8,7 +8,7 @@ use lib.Bits.{bitXor}
 use lib.ListN.{take, length-take}
 use Rattle.protocol.specs.Lists.{blockAt}
 use Rattle.protocol.specs.Strings.{bytesFor, bit}
-use Rattle.strings.specs.Products.{product}
+use Rattle.strings.specs.Products.{bitProduct}
 use Rattle.strings.proofs.SumLaws.{sum-same}
 use Rattle.strings.proofs.BitLaws.{take-bit}
 use borrow.Author.Needs.{needs}
@@ -42,8 +42,8 @@ returns c =
     let width = bytesFor (a .k) in
     ap₂ bitXor
     (c .before .row-product .ensures .0
-    ∙ ap (λ n. product (n * 8) (now (row .result)) (take width (now (a .u)))) (row .ensures .1)
-    ∙ ap (λ s. product (width * 8) s (take width (now (a .u)))) (row .ensures .0)
+    ∙ ap (λ n. bitProduct (n * 8) (now (row .result)) (take width (now (a .u)))) (row .ensures .1)
+    ∙ ap (λ s. bitProduct (width * 8) s (take width (now (a .u)))) (row .ensures .0)
     ∙ sum-same (width * 8) _ (λ d. bit (blockAt (now (a .matrix)) width (a .rho)) d * bit (now (a .u)) d)
     (λ d h. ap (λ q. bit (blockAt (now (a .matrix)) width (a .rho)) d * q) (take-bit width (now (a .u)) d h)))
     (c .bit-at .ensures)

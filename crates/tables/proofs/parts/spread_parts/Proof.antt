@@ -10,7 +10,7 @@ use lib.ListN.{length}
 use Rattle.protocol.specs.Lists.{blockAt}
 use Rattle.protocol.specs.Strings.{bit, fromBits}
 use Rattle.strings.specs.Sums.{byteAt}
-use Rattle.tables.specs.Sums.{lanes}
+use Rattle.lanes.specs.Lanes.{lanes}
 use Rattle.tables.proofs.LaneLaws.{Lane, lane-part}
 use Rattle.tables.proofs.parts.spread_parts.Statement.{statement}
 use Rattle.tables.proofs.parts.spread_parts.Tie as tie

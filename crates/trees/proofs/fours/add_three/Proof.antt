@@ -11,33 +11,33 @@ use borrow.Author.Needs.{needs}
 use Rattle.trees.proofs.fours.add_three.Statement.{statement}
 use Rattle.trees.proofs.fours.add_three.Tie as tie
 
-add-chunk-requires : tie.Need-add-chunk-requires
-add-chunk-requires c κs = search needs
+add-sixteen-requires : tie.Need-add-sixteen-requires
+add-sixteen-requires c κs = search needs
 
-add-chunk-requires-2 : tie.Need-add-chunk-requires-2
-add-chunk-requires-2 c κs = search needs
+add-sixteen-requires-2 : tie.Need-add-sixteen-requires-2
+add-sixteen-requires-2 c κs = search needs
 
-add-chunk-requires-3 : tie.Need-add-chunk-requires-3
-add-chunk-requires-3 c κs = search needs
+add-sixteen-requires-3 : tie.Need-add-sixteen-requires-3
+add-sixteen-requires-3 c κs = search needs
 
-add-chunk-requires-4 : tie.Need-add-chunk-requires-4
-add-chunk-requires-4 c κs = search needs
+add-sixteen-requires-4 : tie.Need-add-sixteen-requires-4
+add-sixteen-requires-4 c κs = search needs
 
-add-chunk-requires-5 : tie.Need-add-chunk-requires-5
-add-chunk-requires-5 c κs = search needs
+add-sixteen-requires-5 : tie.Need-add-sixteen-requires-5
+add-sixteen-requires-5 c κs = search needs
 
-add-chunk-requires-6 : tie.Need-add-chunk-requires-6
-add-chunk-requires-6 c κs = search needs
+add-sixteen-requires-6 : tie.Need-add-sixteen-requires-6
+add-sixteen-requires-6 c κs = search needs
 
 returns : tie.Need-returns
 returns c =
     let a = c .before .before .before .before .before .before .before .before .before .before .before .before .before .before .before .before .before .before .before .before .before .args in
-    let one = c .before .before .before .before .before .before .before .before .before .before .before .before .before .before .before .before .add-chunk in
-    let first = c .before .before .before .before .before .before .before .before .before .before .before .before .add-chunk2 in
-    let two = c .before .before .before .before .before .before .before .before .before .before .add-chunk3 in
-    let second = c .before .before .before .before .before .before .add-chunk4 in
-    let three = c .before .before .before .before .add-chunk5 in
-    let again = c .add-chunk6 in (
+    let one = c .before .before .before .before .before .before .before .before .before .before .before .before .before .before .before .before .add-sixteen in
+    let first = c .before .before .before .before .before .before .before .before .before .before .before .before .add-sixteen2 in
+    let two = c .before .before .before .before .before .before .before .before .before .before .add-sixteen3 in
+    let second = c .before .before .before .before .before .before .add-sixteen4 in
+    let three = c .before .before .before .before .add-sixteen5 in
+    let again = c .add-sixteen6 in (
       (three .ensures .0, again .ensures .0, second .ensures .0),
       (λ f rows r j even leaf next third run.
           let run1 =
@@ -61,10 +61,10 @@ pub add-three-spec : {M : Type 1} → statement M
 add-three-spec =
     tie.close
     (tie.spec
-    add-chunk-requires
-    add-chunk-requires-2
-    add-chunk-requires-3
-    add-chunk-requires-4
-    add-chunk-requires-5
-    add-chunk-requires-6
+    add-sixteen-requires
+    add-sixteen-requires-2
+    add-sixteen-requires-3
+    add-sixteen-requires-4
+    add-sixteen-requires-5
+    add-sixteen-requires-6
     returns)

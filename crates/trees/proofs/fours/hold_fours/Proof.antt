@@ -9,20 +9,20 @@ use lib.Bits.{bitXor}
 use lib.ListN.{replicate, getD-replicate}
 use Rattle.strings.specs.Sums.{byteAt, bitOf}
 use Rattle.trees.specs.Partial.{Running, heldPlane, withLow}
-use Rattle.trees.proofs.ChunkLaws.{held-put}
+use Rattle.trees.proofs.SixteenLaws.{held-put}
 use Rattle.trees.proofs.FourLaws.{from-front, low-none, running-same}
 use borrow.Author.Needs.{needs}
 use Rattle.trees.proofs.fours.hold_fours.Statement.{statement}
 use Rattle.trees.proofs.fours.hold_fours.Tie as tie
 
-add-chunk-requires : tie.Need-add-chunk-requires
-add-chunk-requires c κs = search needs
+add-sixteen-requires : tie.Need-add-sixteen-requires
+add-sixteen-requires c κs = search needs
 
 add-fours-requires : tie.Need-add-fours-requires
 add-fours-requires c κs = search needs
 
-put-chunk-requires : tie.Need-put-chunk-requires
-put-chunk-requires c κs = search needs
+put-sixteen-requires : tie.Need-put-sixteen-requires
+put-sixteen-requires c κs = search needs
 
 held-row-requires : tie.Need-held-row-requires
 held-row-requires c κs = search needs
@@ -40,9 +40,9 @@ returns : tie.Need-returns
 returns c =
     let start = c .before .before .before .before .before .before .before .before .before .before .before .before .before .before .before .before .before .before .before .before .before in
     let a = start .args in
-    let copied = c .before .before .before .before .before .before .before .before .before .before .before .before .before .before .before .before .add-chunk in
+    let copied = c .before .before .before .before .before .before .before .before .before .before .before .before .before .before .before .before .add-sixteen in
     let fours = c .before .before .before .before .before .before .before .before .before .before .before .add-fours in
-    let put = c .before .before .before .before .before .before .before .before .put-chunk in
+    let put = c .before .before .before .before .before .before .before .before .put-sixteen in
     let row = c .before .before .before .before .before .before .held-row in
     let one = c .before .before .before .before .add-held in
     let row2 = c .before .before .held-row2 in
@@ -70,9 +70,9 @@ pub hold-fours-spec : {M : Type 1} → statement M
 hold-fours-spec =
     tie.close
     (tie.spec
-    add-chunk-requires
+    add-sixteen-requires
     add-fours-requires
-    put-chunk-requires
+    put-sixteen-requires
     held-row-requires
     add-held-requires
     held-row-requires-2
