@@ -10,7 +10,7 @@ order=tests/reading-order.txt
 # uses FILE...: what the files import from this repository. (`declared` is the code's own enums and structs.)
 uses() {
     grep -hE '^ *(ghost |pub )?use Rattle·' "$@" |
-        sed -E 's/.*use Rattle·([a-z]+)(·[a-z]+)?\.(specs|proofs)\.([A-Za-z0-9]+)\..*/\1\/\3\/\4/; /\/declared$/d' | sort -u
+        sed -E 's/.*use Rattle·([a-z_]+)(·[a-z]+)?\.(specs|proofs)\.([A-Za-z0-9]+)\..*/\1\/\3\/\4/; /\/declared$/d' | sort -u
 }
 
 # within LIST WHAT NAME...: fails, and shows them, where names are not in the list.
@@ -48,7 +48,7 @@ closed() {
         above="$above $1"
     done <"$1"
     within "$above" "a contract cites" \
-        $(uses crates/solfadrus/src/*.rt crates/checking/src/*.rt crates/reader/src/*.rt crates/sections/src/lib.rt) &&
+        $(uses crates/solfadrus/src/lib.rt crates/solfadrus/src/sizes.rt crates/checking/src/*.rt crates/sections/src/reader.rt crates/sections/src/lib.rt) &&
         within "$above" "there are statements in" \
             $(ls crates/solfadrus/specs/*.antt crates/checking/specs/*.antt | sed 's|crates/||; s|\.antt$||; /\/Lib$/d')
 }
