@@ -127,8 +127,9 @@ pub fn read_sections(proof: &[u8], lengths: &[usize]) -> Walk
             };
         };
         if read.length != lengths[i] {
+            let other = refuse(Reason::ProofLength, 0);
             return Walk {
-                answer: refuse(Reason::ProofLength, 0),
+                answer: other,
                 places: Places { at },
             };
         }
