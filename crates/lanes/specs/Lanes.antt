@@ -10,13 +10,14 @@ use mathlib.Core.List.{List}
 use Prim.Native.Nat.{ℕ, _+_, _*_, _<_}
 use lib.ListN.{length}
 use lib.Bits.{bitXor}
+use Rattle.protocol.specs.Shape.{mostRepetitions}
 use Rattle.algebra.specs.Coded.{mulByte}
 use Rattle.field.specs.Gf256.{gf256, maskElement}
 use Rattle.protocol.specs.Strings.{bit}
 use Rattle.strings.specs.Sums.{byteAt, xorSum}
 
 abbrev pub lanes : ℕ
-lanes = 48
+lanes = mostRepetitions
 
 abbrev pub laneAt : List ℕ → ℕ → ℕ → ℕ
 laneAt T c e = byteAt T (c * lanes + e)

@@ -9,10 +9,11 @@ ghost use Rattle.field.specs.Gf256.{gf256};
 ghost use Rattle.strings.specs.Sums.{byteAt};
 ghost use Rattle.lanes.specs.Lanes.{lanes, maskLane, maskBits};
 use field::Gf256;
+use format::sizes::MOST_REPETITIONS;
 
 // As many as a key may have repetitions (01: 1..48). Lanes from a key's own number on hold anything. The stride is
 // fixed, so that loops over it have a constant length.
-pub const LANES: usize = 48;
+pub const LANES: usize = MOST_REPETITIONS;
 
 // n variables, m equations, tau repetitions.
 pub struct Dimensions {

@@ -11,6 +11,7 @@ use hash::vectors::hash_all;
 use lanes::LANES;
 use sections::COUNT;
 use sections::frames::put_count;
+use strings::BITS;
 use strings::row_at;
 
 // C, from the u_e.
@@ -54,5 +55,5 @@ pub fn write_v(out: &mut [u8], matrix: &[u8], table: &[u8], s: Sizes)
 {
     let w = leaf_bytes(s);
     put_count(&mut out[..COUNT], s.tau * s.t);
-    hash_all(&mut out[COUNT..], matrix, &table[..8 * w * LANES], s);
+    hash_all(&mut out[COUNT..], matrix, &table[..BITS * w * LANES], s);
 }

@@ -17,11 +17,12 @@ use sections::outputs::hash_bytes;
 use steps::batch_into;
 use steps::commit_into;
 use steps::hash_into;
+use strings::BITS;
 
 // Room for the largest key: the table of the v_e, and the u_e.
-const TABLE: usize = 8 * MOST_LEAF * LANES;
+const TABLE_ROOM: usize = BITS * MOST_LEAF * LANES;
 
-const SUMS: usize = LANES * MOST_LEAF;
+const SUMS_ROOM: usize = LANES * MOST_LEAF;
 
 // The sums of all trees: u_e and v_e of every repetition.
 fn load(table: &mut [u8], sums: &mut [u8], leaves: &[u8], s: Sizes)
@@ -31,7 +32,7 @@ fn load(table: &mut [u8], sums: &mut [u8], leaves: &[u8], s: Sizes)
     let w = leaf_bytes(s);
     let tau = s.tau;
     tables::load_trees(
-        &mut table[..8 * w * LANES],
+        &mut table[..BITS * w * LANES],
         &mut sums[..tau * w],
         leaves,
         tau,
@@ -44,8 +45,8 @@ pub fn commit(out: &mut [u8], leaves: &[u8], witness: &[u8], s: Sizes)
     requires { ⌜ CommitFacts (shapeFor s) (now leaves) (now witness) (now out) ⌝ }
     ensures { λ _. ⌜ now (out .exit) ≡ commitFrame (shapeFor s) (now (leaves .entry)) (now (witness .entry)) ⌝ }
 {
-    let mut table = [0u8; TABLE];
-    let mut sums = [0u8; SUMS];
+    let mut table = [0u8; TABLE_ROOM];
+    let mut sums = [0u8; SUMS_ROOM];
     load(&mut table, &mut sums, leaves, s);
     commit_into(out, witness, &sums, s);
 }
@@ -55,8 +56,8 @@ pub fn hash(out: &mut [u8], leaves: &[u8], matrix: &[u8], s: Sizes)
     requires { ⌜ HashFacts (shapeFor s) (now leaves) (now matrix) (now out) ⌝ }
     ensures { λ _. ⌜ now (out .exit) ≡ hashFrame (shapeFor s) (now (leaves .entry)) (now (matrix .entry)) ⌝ }
 {
-    let mut table = [0u8; TABLE];
-    let mut sums = [0u8; SUMS];
+    let mut table = [0u8; TABLE_ROOM];
+    let mut sums = [0u8; SUMS_ROOM];
     load(&mut table, &mut sums, leaves, s);
     hash_into(out, matrix, &table, &sums, s);
 }
@@ -66,8 +67,8 @@ pub fn batch(out: &mut [u8], key: &[u8], leaves: &[u8], witness: &[u8], batching
     requires { ⌜ BatchFacts (shapeFor s) (now key) (now leaves) (now witness) (now batching) (now out) ⌝ }
     ensures { λ _. ⌜ now (out .exit) ≡ batchFrame (shapeFor s) (now (leaves .entry)) (now (key .entry)) (now (witness .entry)) (now (batching .entry)) ⌝ }
 {
-    let mut table = [0u8; TABLE];
-    let mut sums = [0u8; SUMS];
+    let mut table = [0u8; TABLE_ROOM];
+    let mut sums = [0u8; SUMS_ROOM];
     load(&mut table, &mut sums, leaves, s);
     batch_into(out, key, witness, batching, &table, &sums, s);
 }
@@ -104,8 +105,8 @@ pub fn prove(
     requires { ⌜ ProveFacts (shapeFor s) (now key) (now leaves) (now witness) (now matrix) (now batching) (now out) ⌝ }
     ensures { λ _. ⌜ now (out .exit) ≡ proofFrame (shapeFor s) (now (leaves .entry)) (now (key .entry)) (now (witness .entry)) (now (matrix .entry)) (now (batching .entry)) ⌝ }
 {
-    let mut table = [0u8; TABLE];
-    let mut sums = [0u8; SUMS];
+    let mut table = [0u8; TABLE_ROOM];
+    let mut sums = [0u8; SUMS_ROOM];
     load(&mut table, &mut sums, leaves, s);
     let split = commit_bytes(s);
     commit_into(&mut out[..split], witness, &sums, s);
