@@ -1,2 +1,3 @@
 pub mod Chunks
 pub mod Turns
+pub mod Subsets

@@ -51,8 +51,8 @@ fn load(cells: &mut [u8], a: &[u8], n: usize, width: usize, m: usize, panel: usi
     }
 }
 
-// How equations are batched: m of them, of n variables, with rows of `width` bytes, for tau repetitions. So many groups of
-// five are looked up.
+// How equations are batched: m of them, of n variables, with rows of `width` bytes, for tau repetitions. So many
+// groups of five are looked up.
 pub struct Batch {
     pub n: usize,
     pub width: usize,
@@ -61,8 +61,8 @@ pub struct Batch {
     pub groups: usize,
 }
 
-// The stacks of a panel: from zeros, the columns of the batched matrix, times the vectors from the left. `cells` holds the
-// panel; `sums` is space.
+// The stacks of a panel: from zeros, the columns of the batched matrix, times the vectors from the left. `cells` holds
+// the panel; `sums` is space.
 fn stack_panel(
     stacks: &mut [u8],
     sums: &mut [u8],
@@ -82,10 +82,10 @@ fn stack_panel(
     super::stacks::collect(stacks, sums, cells, panel, m, tau, words, groups, vectors);
 }
 
-// Adds to quad the form of the batched matrix at the vectors of the table; and to mid its polar form at them and the bits
-// xs, and the batched lines at the vectors. Half of the polar form, that which has the vectors on the right, is a linear
-// form of each equation, and is added to its line. Where `polar` is not asked for the bits are 0, and so is the polar
-// form.
+// Adds to quad the form of the batched matrix at the vectors of the table; and to mid its polar form at them and the
+// bits xs, and the batched lines at the vectors. Half of the polar form, that which has the vectors on the right, is a
+// linear form of each equation, and is added to its line. Where `polar` is not asked for the bits are 0, and so is the
+// polar form.
 pub fn add_forms(
     quad: &mut [u8],
     mid: &mut [u8],

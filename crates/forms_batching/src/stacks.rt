@@ -131,7 +131,8 @@ fn absorb_lanes(
     vectors: &[u8],
     first: usize,
 )
-    requires { ⌜ StacksFit tau (now stacks) × WordsFit tau (now words) × InWords groups × (mostSums ≤ length (now sums)) × VectorsFit tau (now vectors) × (first + 16 ≤ mostVariables) × (tau ≤ lanes) ⌝ }
+    requires { ⌜ StacksFit tau (now stacks) × WordsFit tau (now words) × InWords groups × (mostSums ≤ length (now sums))
+        × VectorsFit tau (now vectors) × (first + 16 ≤ mostVariables) × (tau ≤ lanes) ⌝ }
     ensures { λ _. ⌜ ((S : List ℕ) (χ : ℕ → ℕ → ℕ) (m e h f z : ℕ) → WeighedAll S χ m (now (sums .entry)) (now (words .entry)) groups tau → e < tau → h < 2 → f < 16
         → stackOf (now (stacks .exit)) e (h * 16 + f) z ≡ bitXor (stackOf (now (stacks .entry)) e (h * 16 + f) z) (rowTimes (now (vectors .entry)) e first S (χ e) m h f z)) ⌝ }
 {

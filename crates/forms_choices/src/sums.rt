@@ -7,9 +7,13 @@ ghost use lib.Bits.{bitXor};
 ghost use Rattle.strings.specs.Sums.{byteAt};
 ghost use Rattle.strings.specs.Rows.{RowsKept};
 ghost use Rattle.chunks.specs.Chunks.{chunk, pair, cellAt};
-ghost use Rattle.forms_choices.specs.Entries.{mostSums, entryByte, Tabled, five, wordByte, lookedUp, InWords};
+ghost use Rattle.forms_choices.specs.Entries.{mostSums, Tabled, five, wordByte, lookedUp, InWords};
 use super::fives::ROW_WORDS;
 use chunks::CHUNK;
+use chunks::subsets::fill_group;
+
+// The rows of a group.
+const FIVE: usize = 5;
 
 // The entries of the table of sums for five rows, one for each value of five bits.
 pub const ENTRIES: usize = 32;
@@ -27,17 +31,6 @@ fn add_at(dst: &mut [u8; CHUNK], s: &[u8], at: usize)
     }
 }
 
-// Adds row c of the table. Rows from n on are 0.
-fn add_row(dst: &mut [u8; CHUNK], c: usize, n: usize, table: &[u8])
-    requires { ⌜ (length (now dst) ≡ chunk) × (length (now table) ≡ n * chunk) ⌝ }
-    ensures { λ _. ⌜ length (now (dst .exit)) ≡ chunk ⌝ }
-    ensures { λ _. ⌜ ((f : ℕ) → f < chunk → byteAt (now (dst .exit)) f ≡ bitXor (byteAt (now (dst .entry)) f) (cellAt (now (table .entry)) c f)) ⌝ }
-{
-    if c < n {
-        add_at(dst, table, c * CHUNK);
-    }
-}
-
 fn store(sums: &mut [u8], k: usize, src: &[u8; CHUNK])
     requires { ⌜ (k * chunk + chunk ≤ length (now sums)) × (length (now src) ≡ chunk) ⌝ }
     ensures { λ _. ⌜ ((f : ℕ) → f < chunk → cellAt (now (sums .exit)) k f ≡ byteAt (now (src .entry)) f) ⌝ }
@@ -45,50 +38,6 @@ fn store(sums: &mut [u8], k: usize, src: &[u8; CHUNK])
 {
     let at = k * CHUNK;
     chunks::cells::copy_chunk(&mut sums[at..at + CHUNK], src);
-}
-
-// Entry `to` becomes entry `from` plus a row.
-fn fill_entry(sums: &mut [u8], from: usize, to: usize, row: &[u8; CHUNK])
-    requires { ⌜ (from * chunk + chunk ≤ length (now sums)) × (to * chunk + chunk ≤ length (now sums)) × (length (now row) ≡ chunk) ⌝ }
-    ensures { λ _. ⌜ ((f : ℕ) → f < chunk → cellAt (now (sums .exit)) to f ≡ bitXor (cellAt (now (sums .entry)) from f) (byteAt (now (row .entry)) f)) ⌝ }
-    ensures { λ _. ⌜ RowsKept chunk to (now (sums .entry)) (now (sums .exit)) ⌝ }
-{
-    let mut sum = [0u8; CHUNK];
-    add_at(&mut sum, sums, from * CHUNK);
-    add_at(&mut sum, row, 0);
-    store(sums, to, &sum);
-}
-
-// The `count` entries from base on, each plus a row, become the next as many.
-fn fill_next(sums: &mut [u8], base: usize, count: usize, row: &[u8; CHUNK])
-    requires { ⌜ ((base + count + count) * chunk ≤ length (now sums)) × (length (now row) ≡ chunk) ⌝ }
-    ensures { λ _. ⌜ ((v f : ℕ) → v < count → f < chunk → cellAt (now (sums .exit)) (base + count + v) f ≡ bitXor (cellAt (now (sums .entry)) (base + v) f) (byteAt (now (row .entry)) f)) ⌝ }
-    ensures { λ _. ⌜ ((q f : ℕ) → q < base + count → f < chunk → cellAt (now (sums .exit)) q f ≡ cellAt (now (sums .entry)) q f) ⌝ }
-{
-    let mut v = 0;
-    while v < count {
-        fill_entry(sums, base + v, base + count + v, row);
-        v += 1;
-    }
-}
-
-// The 32 sums of five rows: with each row the sums so far are doubled.
-fn fill_group(sums: &mut [u8], g: usize, n: usize, table: &[u8])
-    requires { ⌜ ((g * 32 + 32) * chunk ≤ length (now sums)) × (length (now table) ≡ n * chunk) ⌝ }
-    ensures { λ _. ⌜ ((v f : ℕ) → v < 32 → f < chunk → cellAt (now (sums .exit)) (g * 32 + v) f ≡ entryByte (now (table .entry)) (g * 32 + v) f) ⌝ }
-    ensures { λ _. ⌜ ((q f : ℕ) → q < g * 32 → f < chunk → cellAt (now (sums .exit)) q f ≡ cellAt (now (sums .entry)) q f) ⌝ }
-{
-    let zero = [0u8; CHUNK];
-    store(sums, g * ENTRIES, &zero);
-    let mut count = 1;
-    let mut s = 0;
-    while s < 5 {
-        let mut row = [0u8; CHUNK];
-        add_row(&mut row, g * 5 + s, n, table);
-        fill_next(sums, g * ENTRIES, count, &row);
-        count *= 2;
-        s += 1;
-    }
 }
 
 // The table of sums of the n rows, 32 entries for each five of them. Made once, it serves every plane of every
@@ -99,7 +48,7 @@ pub fn fill_sums(sums: &mut [u8], groups: usize, n: usize, table: &[u8])
 {
     let mut g = 0;
     while g < groups {
-        fill_group(sums, g, n, table);
+        fill_group(sums, CHUNK, FIVE, ENTRIES, g, n, table);
         g += 1;
     }
 }

@@ -6,9 +6,9 @@ ghost use Prim.Native.Nat.{ℕ, _+_, _*_, _/_, _%_, _<_, _≤_};
 ghost use lib.ListN.{length};
 ghost use lib.Bits.{bitXor};
 ghost use Rattle.strings.specs.Sums.{byteAt};
-ghost use Rattle.strings.specs.Rows.{RowsKept};
 ghost use Rattle.lanes.specs.Lanes.{lanes, laneAt};
-ghost use Rattle.hash.specs.Entries.{entryLane, LanesTabled, byteLookedUp, RowSelected};
+ghost use Rattle.hash.specs.Entries.{LanesTabled, byteLookedUp, RowSelected};
+use chunks::subsets::fill_group;
 use lanes::LANES;
 use strings::BITS;
 use strings::wide;
@@ -34,69 +34,6 @@ pub fn add_lanes(dst: &mut [u8; LANES], table: &[u8], c: usize)
     }
 }
 
-// The same, where coordinates from n on are 0.
-fn add_coordinate(dst: &mut [u8; LANES], c: usize, n: usize, table: &[u8])
-    requires { ⌜ (length (now dst) ≡ lanes) × (length (now table) ≡ n * lanes) ⌝ }
-    ensures { λ _. ⌜ length (now (dst .exit)) ≡ lanes ⌝ }
-    ensures { λ _. ⌜ ((e : ℕ) → e < lanes → byteAt (now (dst .exit)) e ≡ bitXor (byteAt (now (dst .entry)) e) (laneAt (now (table .entry)) c e)) ⌝ }
-{
-    if c < n {
-        add_lanes(dst, table, c);
-    }
-}
-
-fn store(sums: &mut [u8], k: usize, src: &[u8; LANES])
-    requires { ⌜ (k * lanes + lanes ≤ length (now sums)) × (length (now src) ≡ lanes) ⌝ }
-    ensures { λ _. ⌜ ((e : ℕ) → e < lanes → laneAt (now (sums .exit)) k e ≡ byteAt (now (src .entry)) e) ⌝ }
-    ensures { λ _. ⌜ RowsKept lanes k (now (sums .entry)) (now (sums .exit)) ⌝ }
-{
-    let at = k * LANES;
-    strings::copies::copy_into(&mut sums[at..at + LANES], src);
-}
-
-// Entry `to` becomes entry `from` plus a coordinate.
-fn fill_entry(sums: &mut [u8], from: usize, to: usize, coordinate: &[u8; LANES])
-    requires { ⌜ (from * lanes + lanes ≤ length (now sums)) × (to * lanes + lanes ≤ length (now sums)) × (length (now coordinate) ≡ lanes) ⌝ }
-    ensures { λ _. ⌜ ((e : ℕ) → e < lanes → laneAt (now (sums .exit)) to e ≡ bitXor (laneAt (now (sums .entry)) from e) (byteAt (now (coordinate .entry)) e)) ⌝ }
-    ensures { λ _. ⌜ RowsKept lanes to (now (sums .entry)) (now (sums .exit)) ⌝ }
-{
-    let mut sum = [0u8; LANES];
-    strings::xor_of(&mut sum, strings::row_at(sums, LANES, from), coordinate);
-    store(sums, to, &sum);
-}
-
-// The `count` entries from base on, each plus a coordinate, become the next as many.
-fn fill_next(sums: &mut [u8], base: usize, count: usize, coordinate: &[u8; LANES])
-    requires { ⌜ ((base + count + count) * lanes ≤ length (now sums)) × (length (now coordinate) ≡ lanes) ⌝ }
-    ensures { λ _. ⌜ ((v e : ℕ) → v < count → e < lanes → laneAt (now (sums .exit)) (base + count + v) e ≡ bitXor (laneAt (now (sums .entry)) (base + v) e) (byteAt (now (coordinate .entry)) e)) ⌝ }
-    ensures { λ _. ⌜ ((q e : ℕ) → q < base + count → e < lanes → laneAt (now (sums .exit)) q e ≡ laneAt (now (sums .entry)) q e) ⌝ }
-{
-    let mut v = 0;
-    while v < count {
-        fill_entry(sums, base + v, base + count + v, coordinate);
-        v += 1;
-    }
-}
-
-// The sixteen sums of four coordinates: with each coordinate the sums so far are doubled.
-fn fill_group(sums: &mut [u8], g: usize, n: usize, table: &[u8])
-    requires { ⌜ ((g * 16 + 16) * lanes ≤ length (now sums)) × (length (now table) ≡ n * lanes) ⌝ }
-    ensures { λ _. ⌜ ((v e : ℕ) → v < 16 → e < lanes → laneAt (now (sums .exit)) (g * 16 + v) e ≡ entryLane (now (table .entry)) (g * 16 + v) e) ⌝ }
-    ensures { λ _. ⌜ ((q e : ℕ) → q < g * 16 → e < lanes → laneAt (now (sums .exit)) q e ≡ laneAt (now (sums .entry)) q e) ⌝ }
-{
-    let zero = [0u8; LANES];
-    store(sums, g * PER_GROUP, &zero);
-    let mut count = 1;
-    let mut s = 0;
-    while s < GROUP {
-        let mut coordinate = [0u8; LANES];
-        add_coordinate(&mut coordinate, g * GROUP + s, n, table);
-        fill_next(sums, g * PER_GROUP, count, &coordinate);
-        count *= 2;
-        s += 1;
-    }
-}
-
 // The first entries of the table of sums: sixteen for each four of the n coordinates. Made once, they serve every row
 // of every matrix.
 pub fn fill_sums(sums: &mut [u8], count: usize, n: usize, table: &[u8])
@@ -106,7 +43,7 @@ pub fn fill_sums(sums: &mut [u8], count: usize, n: usize, table: &[u8])
     let groups = count / PER_GROUP;
     let mut g = 0;
     while g < groups {
-        fill_group(sums, g, n, table);
+        fill_group(sums, LANES, GROUP, PER_GROUP, g, n, table);
         g += 1;
     }
 }

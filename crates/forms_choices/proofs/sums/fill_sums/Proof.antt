@@ -10,6 +10,7 @@ use denote.Ref.{now}
 use lib.ListN.{length}
 use Rattle.chunks.specs.Chunks.{chunk, cellAt}
 use Rattle.forms_choices.specs.Entries.{entryByte, Tabled}
+use Rattle.forms_choices.proofs.EntryLaws.{entry-is}
 use Rattle.forms_choices.proofs.sums.fill_sums.Statement.{statement}
 use Rattle.forms_choices.proofs.sums.fill_sums.Tie as tie
 
@@ -32,7 +33,7 @@ loop-holds : tie.Need-loop-holds Inv-loop μ-loop
 loop-holds c = (search needs, refl, λ q f h. absurd (omega arith))
 
 fill-group-requires : tie.Need-fill-group-requires Inv-loop μ-loop
-fill-group-requires c κs = (omega (arith, c .before .before .loop .inv .1), c .before .before .before .before .before .pre .1)
+fill-group-requires c κs = (omega (arith, c .before .before .loop .inv .1), c .before .before .before .before .before .pre .1, refl, omega arith, omega arith, omega arith)
 
 add-g : tie.Need-add-g Inv-loop μ-loop
 add-g c = search needs
@@ -43,10 +44,11 @@ loop-less c = search needs
 loop-again : tie.Need-loop-again Inv-loop μ-loop
 loop-again c =
     let l = c .before .before .before .before .before .loop in
+    let T = now (c .before .before .before .before .before .before .before .before .args .table) in
     let done = c .before .before .fill-group in (
       omega arith,
       done .kept .0 ∙ l .inv .1,
-      tabled-more (now (c .before .before .before .before .before .before .before .before .args .table)) (l .sums) (done .last .0) (l .g) (l .inv .2) (done .ensures .0) (done .ensures .1),
+      tabled-more T (l .sums) (done .last .0) (l .g) (l .inv .2) (λ v e h k. done .ensures .0 v e h k ∙ entry-is T (l .g) v e h) (done .ensures .1),
     )
 
 same-length : tie.Need-same-length Inv-loop μ-loop
