@@ -1,4 +1,5 @@
--- Laws of one pass of the turn: bits of bytes under a mask and moved, the two bytes that it makes of two, and the halves side by side.
+-- Laws of one pass of the turn: bits of bytes under a mask and moved, the two bytes that it makes of two, and the
+-- halves side by side.
 -- Assumes nothing.
 use mathlib.Core.Path.{_≡_, refl, sym, ap, ap₂, _∙_}
 use mathlib.Core.List.{List}

@@ -1,6 +1,8 @@
 -- Rows of one length, the chunk, side by side in a table.
---   chunk == the bytes of a chunk: sixteen rows of two columns of bytes;  cellAt S i f == byte f of row i;  pair == the bytes of two chunks
---   Masks v masks == masks holds eight masks: byte f of mask b is 255 where bit b of byte f of v is set, and 0 elsewhere
+--   chunk == the bytes of a chunk: sixteen rows of two columns of bytes;  cellAt S i f == byte f of row i;  pair == the
+--     bytes of two chunks
+--   Masks v masks == masks holds eight masks: byte f of mask b is 255 where bit b of byte f of v is set, and 0
+--     elsewhere
 -- Assumes nothing.
 use mathlib.Core.Path.{_≡_}
 use mathlib.Core.List.{List}

@@ -1,6 +1,8 @@
 -- The sums of all choices from each group of rows of a table, in a table of their own.
---   chosenByte T w size g v f == byte f of the sum of those of the rows size·g + s, s < size, of w bytes, whose bit s is set in v
---   GroupFilled T w size entries g sums == sums holds, for each v below entries, the sum that v chooses from group g, group after group
+--   chosenByte T w size g v f == byte f of the sum of those of the rows size·g + s, s < size, of w bytes, whose bit s
+--     is set in v
+--   GroupFilled T w size entries g sums == sums holds, for each v below entries, the sum that v chooses from group g,
+--     group after group
 -- Assumes nothing.
 use mathlib.Core.Path.{_≡_}
 use mathlib.Core.List.{List}

@@ -1,11 +1,15 @@
--- Eight rows of bits, turned into columns of bytes, by three passes of one kind. A pass takes the rows' first half and last half side by side.
+-- Eight rows of bits, turned into columns of bytes, by three passes of one kind. A pass takes the rows' first half and
+-- last half side by side.
 --   Step s mask == the pass that moves bits by s places: mask has the bits x where ⌊x/s⌋ is even
 --   moved s mask a b == the bits under the mask that b and a, moved s places down, do not share
 --   Exchanged s rows n out == the first n bytes of each half of out are those of a pass over rows:
---     where ⌊x/s⌋ is even bit x is of a byte of the first half, else of the last; those of the last half of out are s places further up
---   Passed s half rows n out == the same, where the bytes of the two halves of out stand side by side, for the first n bytes of out
+--     where ⌊x/s⌋ is even bit x is of a byte of the first half, else of the last; those of the last half of out are s
+--       places further up
+--   Passed s half rows n out == the same, where the bytes of the two halves of out stand side by side, for the first n
+--     bytes of out
 --   Turned w rows out == byte r of out is column r of the eight rows of w bytes
---   TurnedAt w from src out == the same for sixteen bytes of each of eight rows of src, which stand w bytes apart, the first at from
+--   TurnedAt w from src out == the same for sixteen bytes of each of eight rows of src, which stand w bytes apart, the
+--     first at from
 -- Assumes nothing.
 use mathlib.Core.Path.{_≡_}
 use mathlib.Core.List.{List}

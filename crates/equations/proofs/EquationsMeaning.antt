@@ -1,4 +1,5 @@
--- What the errors are in 01's terms: those of the equations of the key at the witness; and what the first of them that is not 0 says.
+-- What the errors are in 01's terms: those of the equations of the key at the witness; and what the first of them that
+-- is not 0 says.
 -- Assumes nothing.
 use mathlib.Core.Path.{_≡_, refl, sym, ap, ap₂, _∙_}
 use mathlib.Core.Logic.{_≢_}

@@ -1,8 +1,10 @@
 -- The equations of a key at the bits of a witness, on bytes.
 --   rowProduct row x == the product over GF(2) of the whole of a row with x
 --   rowOf n A ρ == row ρ of a matrix of n variables;  matrixOf n A i == matrix i of a section
---   errorBit n A b y x == xᵀ·A·x + b·x + y;  errorOf n A b y x i == the error of equation i of the sections A, b, y at x
---   EquationsFit n m A b y x == the sections are those of m equations of n variables, and x that of a witness, by their lengths
+--   errorBit n A b y x == xᵀ·A·x + b·x + y;  errorOf n A b y x i == the error of equation i of the sections A, b, y at
+--     x
+--   EquationsFit n m A b y x == the sections are those of m equations of n variables, and x that of a witness, by their
+--     lengths
 --   FirstIn errors found == found is the first of the errors that is not 0, or that there is none
 -- Assumes nothing.
 use mathlib.Core.Path.{_≡_}

@@ -17,7 +17,8 @@ fn masked(bit: u8, x: u8) -> u8
     x & (bit * 255)
 }
 
-// X·x: one place up, and the modulus in place of the bit that falls out. Its own top bit is that bit, so its low byte is what is added.
+// X·x: one place up, and the modulus in place of the bit that falls out. Its own top bit is that bit, so its low byte
+// is what is added.
 fn double(x: u8) -> u8
     ensures { λ r. ⌜ r ≡ byte 8 (xtime 8 (elem 8 modulus) (elem 8 x)) ⌝ }
 {
@@ -53,7 +54,8 @@ impl Gf256 {
         Self::MODULUS
     }
 
-    // The product, on bytes throughout so that a loop over it takes sixteen to a register. As many turns as the degree, whatever the operands are,
+    // The product, on bytes throughout so that a loop over it takes sixteen to a register. As many turns as the degree,
+    // whatever the operands are,
     // with no branch and no table that goes by them.
     pub fn multiply(a: u8, b: u8) -> u8
         ensures { λ r. ⌜ r ≡ mulByte gf256 a b ⌝ }

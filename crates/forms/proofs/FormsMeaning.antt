@@ -1,4 +1,5 @@
--- What the forms, the batched sums and the masks are in 01's terms, where the table holds a vector f in the lane of repetition e; and so QS0 and QS1.
+-- What the forms, the batched sums and the masks are in 01's terms, where the table holds a vector f in the lane of
+-- repetition e; and so QS0 and QS1.
 -- Assumes nothing.
 use mathlib.Core.Path.{_≡_, sym, ap, ap₂, _∙_}
 use mathlib.Core.Bool.{cond}

@@ -1,8 +1,12 @@
--- The sums that the batching bytes make of the coefficients of all equations, on bytes, for all repetitions side by side in a table T.
+-- The sums that the batching bytes make of the coefficients of all equations, on bytes, for all repetitions side by
+-- side in a table T.
 --   batchByte m χ e f == Σ_i χ(e, i)·f(i)
---   qs0Byte, qs1Byte == QS0_e and QS1_e, of the sections A and b, the witness x, and the string u whose bits are the mask of QS1
---   formsByte n m A χ T e, middlesByte n m A b x χ T e == what they make of the forms of the equations at the vector of repetition e, and of 01's a₁
---   FormsInputs n m τ quad lin A b xs χ T polar == these are as long as m equations of n variables and τ repetitions need, the entries of xs are bits,
+--   qs0Byte, qs1Byte == QS0_e and QS1_e, of the sections A and b, the witness x, and the string u whose bits are the
+--     mask of QS1
+--   formsByte n m A χ T e, middlesByte n m A b x χ T e == what they make of the forms of the equations at the vector of
+--     repetition e, and of 01's a₁
+--   FormsInputs n m τ quad lin A b xs χ T polar == these are as long as m equations of n variables and τ repetitions
+--     need, the entries of xs are bits,
 --     0 from n on, and 0 where the polar form is not asked for
 --   BatchInputs n m τ qs0 qs1 A b x χ u T == the same for a witness x, where T and u go on for the mask
 -- Assumes nothing.

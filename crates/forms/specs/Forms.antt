@@ -1,4 +1,5 @@
--- The forms of one equation, on bytes: of the vectors of all repetitions side by side in a table T, and of the bits of a witness.
+-- The forms of one equation, on bytes: of the vectors of all repetitions side by side in a table T, and of the bits of
+-- a witness.
 --   formByte n A T e == Σ_ρ T[ρ][e] · Σ_c A(ρ, c)·T[c][e], the form of repetition e at its vector
 --   rowBit n row x == Σ_c row_c·x(c) over GF(2), for bits x
 --   middleByte n A b x T e == xᵀ·A·f + (A·x)ᵀ·f + b·f, where f is the vector of repetition e and x are bits: 01's a₁

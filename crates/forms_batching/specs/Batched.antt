@@ -1,20 +1,27 @@
 -- The batched matrix, folded, and its forms.
---   cellSum cells m χ e q f z == Σ_i χ(e, i)·b_i, where b_i is bit z of byte f of chunk i of the sixteen rows q of the cells
---   batchedByte w size m A χ e ρ c == Σ_i χ(e, i)·F_i(ρ, c), where F_i is string i of A, of size bytes, in rows of w bytes, folded
+--   cellSum cells m χ e q f z == Σ_i χ(e, i)·b_i, where b_i is bit z of byte f of chunk i of the sixteen rows q of the
+--     cells
+--   batchedByte w size m A χ e ρ c == Σ_i χ(e, i)·F_i(ρ, c), where F_i is string i of A, of size bytes, in rows of w
+--     bytes, folded
 --   leftSum w size m A χ e W J c == Σ_ρ W(ρ)·Σ_i χ(e, i)·F_i(ρ, c), over the rows up to the J-th sixteen
---   formSum n w m A χ e y W == Σ_i χ(e, i)·Σ_ρ W(ρ)·Σ_c A_i(ρ, c)·y(c), where A_i is matrix i of A, of n rows of w bytes
+--   formSum n w m A χ e y W == Σ_i χ(e, i)·Σ_ρ W(ρ)·Σ_c A_i(ρ, c)·y(c), where A_i is matrix i of A, of n rows of w
+--     bytes
 --   IsBytes χ == each entry is a byte
 --   weighedBit S χ m f z == Σ_i χ(i)·b_i, where b_i is bit z of byte f of row i of S
 --   WeighedAll S χ m sums W G τ == Weighed for each of τ repetitions
---   VectorsFit τ vs, VectorsAre τ T vs == vs has, one after the other, τ vectors of as many coordinates as a key may have variables: those of the table T
+--   VectorsFit τ vs, VectorsAre τ T vs == vs has, one after the other, τ vectors of as many coordinates as a key may
+--     have variables: those of the table T
 --   PanelCells m J cells == the cells have the sixteens of rows up to the J-th of m matrices
 --   CellsRoom cells == as long as the longest set of panels, that of 26 sixteens of rows
 --   SumsRoom sums == as long as the longest table of sums
 --   rowTimes vs e first S χ m h f z == weighedBit at byte f of half h, times coordinate first + f of vector e of vs
---   Collected τ J m W cells vs old new == to the values of each stack the cells of panel J are added, batched, each row times its coordinate
---   PanelStacked τ J m W cells vs stacks == the stacks have the columns of panel J of the batched matrix, folded, times the vectors from the left
+--   Collected τ J m W cells vs old new == to the values of each stack the cells of panel J are added, batched, each row
+--     times its coordinate
+--   PanelStacked τ J m W cells vs stacks == the stacks have the columns of panel J of the batched matrix, folded, times
+--     the vectors from the left
 --   vectorOf T e == the vector of repetition e;  polarSum n w m A χ e x y == formSum at x and y, and at y and x
---   BatchFits n w m τ G quad mid lines A W table xs polar == these have the lengths of a key's parts and of τ repetitions, the entries of xs are bits,
+--   BatchFits n w m τ G quad mid lines A W table xs polar == these have the lengths of a key's parts and of τ
+--     repetitions, the entries of xs are bits,
 --     0 from n on, and 0 where the polar form is not asked for
 -- Assumes nothing.
 use mathlib.Core.Path.{_≡_}

@@ -1,10 +1,15 @@
--- The lines of the equations, and their batch. A line is the coefficients of a linear form, a bit for each coordinate: those of line i stand in chunk i.
+-- The lines of the equations, and their batch. A line is the coefficients of a linear form, a bit for each coordinate:
+-- those of line i stand in chunk i.
 --   lineBit L i c == coefficient c of line i: bit c mod 8 of byte ⌊c/8⌋ of chunk i
---   leftByte cells m bits i J k == byte k of the sum of chunk i of each sixteen up to the J-th, each row under its mask, a byte of bits
---   leftBit cells m x i J h z == Σ_ρ x(ρ)·b_ρ over the rows ρ up to the J-th sixteen, b_ρ bit z of row ρ of byte column h of chunk i of its sixteen
+--   leftByte cells m bits i J k == byte k of the sum of chunk i of each sixteen up to the J-th, each row under its
+--     mask, a byte of bits
+--   leftBit cells m x i J h z == Σ_ρ x(ρ)·b_ρ over the rows ρ up to the J-th sixteen, b_ρ bit z of row ρ of byte column
+--     h of chunk i of its sixteen
 --   lineSum L m χ e c == Σ_i χ(e, i)·lineBit L i c
---   leftOf w size A x i c == Σ_ρ x(ρ)·F_i(ρ, c) over the rows ρ up to the sixteen of c, where F_i is string i of A, of size bytes, in rows of w bytes, folded
---   LeftAdded m J bits cells old new == where the bits are masks of x, leftBit is added to each line at the columns of panel J
+--   leftOf w size A x i c == Σ_ρ x(ρ)·F_i(ρ, c) over the rows ρ up to the sixteen of c, where F_i is string i of A, of
+--     size bytes, in rows of w bytes, folded
+--   LeftAdded m J bits cells old new == where the bits are masks of x, leftBit is added to each line at the columns of
+--     panel J
 --   LinesBeside J old new == the lines are as they were at the other columns
 --   weighedLine S χ m c == Σ_i χ(i)·lineBit S i c
 --   lineProduct vs e f == Σ_c f(c)·(coordinate c of vector e of vs)

@@ -1,4 +1,5 @@
--- The entries that the bits of the batching bytes choose in the table of sums, added, are the rows that these bits select.
+-- The entries that the bits of the batching bytes choose in the table of sums, added, are the rows that these bits
+-- select.
 -- Assumes nothing.
 use Prim.Native.Nat.{ℕ, zero, suc, _+_, _*_, _-_, _/_, _%_, _^_, _≤_, _<_}
 use mathlib.Core.Path.{_≡_, refl, sym, ap, ap₂, _∙_}

@@ -1,20 +1,26 @@
 -- The table of the sums of each five rows of a table of chunks, and the entries of it that the bits of bytes choose.
 --   mostSums == the bytes of the longest table of sums: of 32 entries for each five of the most equations
---   entryByte S k f == byte f of entry k of the table of sums: of the rows 5·⌊k/32⌋ + s, s < 5, those with bit s of k mod 32 set
+--   entryByte S k f == byte f of entry k of the table of sums: of the rows 5·⌊k/32⌋ + s, s < 5, those with bit s of k
+--     mod 32 set
 --   Tabled S sums count == sums holds the first count entries, one after the other
 --   choice χ p g == the number that bit p of each of the bytes χ(5·g), .., χ(5·g + 4) writes, the first lowest
 --   inRows R i == byte i of two sixteens of fives, which R holds in eight rows each: row z has byte z of each five
 --   five w j == five j of the word w: the number that its bits 5·j, .., 5·j + 4 write
 --   fivesWord P at == the word of the ten fives that P has from at on
---   rowFive W r g == five g of row r of W: a row is four words, of ten fives each, and has 32: the last eight of the fourth word are not its own
---   Chosen χ m W r == five g of row r of W, g < 32, is the number of the entry, among the 32 of the rows 5·g, .., 5·g + 4, which bit r mod 8 of the m bytes χ
+--   rowFive W r g == five g of row r of W: a row is four words, of ten fives each, and has 32: the last eight of the
+--     fourth word are not its own
+--   Chosen χ m W r == five g of row r of W, g < 32, is the number of the entry, among the 32 of the rows 5·g, .., 5·g +
+--     4, which bit r mod 8 of the m bytes χ
 --     of repetition ⌊r/8⌋ chooses
---   ChosenAll χ m τ W == Chosen for each of the eight rows of each of τ repetitions;  WordsFit τ W == W has room for these rows
---   wordByte sums k n w f == byte f of the sum of the entries that the first n fives of w choose, in the tables of the groups 10·k, .., 10·k + n - 1
+--   ChosenAll χ m τ W == Chosen for each of the eight rows of each of τ repetitions;  WordsFit τ W == W has room for
+--     these rows
+--   wordByte sums k n w f == byte f of the sum of the entries that the first n fives of w choose, in the tables of the
+--     groups 10·k, .., 10·k + n - 1
 --   lookedUp sums W r G f == byte f of the sum of the entries that the first G fives of row r of W choose
 --   InWords G == G fives are whole words of ten, three at most, or all 32
 --   GroupsFor m G == the same, and they are enough for m rows
---   Weighed S χ m sums W G r == the first 32·G entries of sums are those of the m rows S, m ≤ 5·G, χ is bytes below m, and the eight rows of W from r on hold,
+--   Weighed S χ m sums W G r == the first 32·G entries of sums are those of the m rows S, m ≤ 5·G, χ is bytes below m,
+--     and the eight rows of W from r on hold,
 --     for G fives, the entries which the bits of χ choose
 -- Assumes nothing.
 use mathlib.Core.Path.{_≡_}

@@ -1,15 +1,19 @@
--- Polynomials in α whose coefficients are bits, in planes: plane s of a stack holds the coefficients of α^s, one bit for each place.
+-- Polynomials in α whose coefficients are bits, in planes: plane s of a stack holds the coefficients of α^s, one bit
+-- for each place.
 --   alpha s == α^s as a byte, where α is the element 02;  byteProduct x y == the product of two bytes as elements
 --   planes == 2·8 - 1, the planes of a stack: as many coefficients as a product of two polynomials of eight has
 --   stackAt t f z == the value of a stack at bit z of byte f;  stackOf T e f z == that of stack e of a table of them
 --   foldOf T e h z == the sum of the values of stack e at bit z of the sixteen bytes of half h
 --   columnOf T e s == the same for column s of sixteen
 --   sixteenOf T e at == the sum of the sixteen bytes from `at` on of stack e
---   valueOf rows z e == the value at bit z of the planes of repetition e, where row s has byte e of plane s for every repetition
---   twoPlanes p x y z v == what bit z of two bytes of planes gives times v, where the weights of the planes are α^p and α^(p+1)
+--   valueOf rows z e == the value at bit z of the planes of repetition e, where row s has byte e of plane s for every
+--     repetition
+--   twoPlanes p x y z v == what bit z of two bytes of planes gives times v, where the weights of the planes are α^p and
+--     α^(p+1)
 --   IsBits xs == each byte is 0 or 1
 --   StacksFit tau T == T has a stack for each repetition below tau
---   ColumnFits, ColumnsFit, PanelFits == these have the lengths of lanes, of n coordinates and of bits, and the columns are among the bits
+--   ColumnFits, ColumnsFit, PanelFits == these have the lengths of lanes, of n coordinates and of bits, and the columns
+--     are among the bits
 --   MasksAt v f masks == the masks have at byte f those of the bits of v
 -- Assumes nothing.
 use mathlib.Core.Path.{_≡_}

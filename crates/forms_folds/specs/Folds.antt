@@ -1,8 +1,11 @@
--- Matrices over GF(2), folded: a quadratic form xᵀAx is the same when entry (c, ρ) is moved onto (ρ, c). Rows and columns are taken by sixteens.
+-- Matrices over GF(2), folded: a quadratic form xᵀAx is the same when entry (c, ρ) is moved onto (ρ, c). Rows and
+-- columns are taken by sixteens.
 --   entry w M ρ c == entry (ρ, c) of the matrix M, whose rows have w bytes: bit c mod 8 of byte ⌊c/8⌋ of row ρ
 --   foldedBit w M ρ c == entry (ρ, c), with entry (c, ρ) added where row ρ is in an earlier sixteen than column c
---   Folded n w m a J cells == cells holds the folded entries of panel J, the columns 16J, .., 16J + 15, of the m matrices of a, of n rows each:
---     for each sixteen rows q up to the J-th, and for each matrix i, a chunk, which has sixteen rows of bytes of the panel's first eight columns (h = 0),
+--   Folded n w m a J cells == cells holds the folded entries of panel J, the columns 16J, .., 16J + 15, of the m
+--     matrices of a, of n rows each:
+--     for each sixteen rows q up to the J-th, and for each matrix i, a chunk, which has sixteen rows of bytes of the
+--       panel's first eight columns (h = 0),
 --     then those of its last eight (h = 1). What stands at rows and columns from n on is not said.
 --   before first p == so many sixteens of rows do the panels first, .., first + p - 1 have: panel J has J + 1
 --   FoldedSet n w m a first cells == the same for each of four panels, from `first` on, one after the other

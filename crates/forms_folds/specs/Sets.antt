@@ -1,20 +1,32 @@
--- One matrix M, whose rows have w bytes, on its way into the cells of a set of four panels, that is of eight byte columns from 2·first on.
---   Mirrored w M C t k == in row k of t, of 160 bytes, bit z of byte r is entry (8C + z, r) of M, for the rows r of the sixteens before that of column C
+-- One matrix M, whose rows have w bytes, on its way into the cells of a set of four panels, that is of eight byte
+-- columns from 2·first on.
+--   Mirrored w M C t k == in row k of t, of 160 bytes, bit z of byte r is entry (8C + z, r) of M, for the rows r of the
+--     sixteens before that of column C
 --   Reflected w M C t k == the same, and 0 in the column's own sixteen: what is added to the column's entries
---   Mirrors w M first end t == the rows of t are the reflected columns of the panels first, .., end - 1, as far as a row of M has bytes
---   Parted w M first q made == made has, for the sixteen rows q, the bytes of each of the eight byte columns, column after column
---   summed made t q p e == byte e of the chunk of the sixteen rows q of the set's panel p: that of made, with that of t added
+--   Mirrors w M first end t == the rows of t are the reflected columns of the panels first, .., end - 1, as far as a
+--     row of M has bytes
+--   Parted w M first q made == made has, for the sixteen rows q, the bytes of each of the eight byte columns, column
+--     after column
+--   summed made t q p e == byte e of the chunk of the sixteen rows q of the set's panel p: that of made, with that of t
+--     added
 --   chunkPlace first p q m i == the chunk of matrix i of m, for the sixteen rows q of panel first + p
---   Put first end q m i k made t cells == the chunks of the sixteen rows q are so summed, for the first k panels of the set that lie before `end` and reach down to q
---   Beside first q m i k at == chunk `at` is none of these;  ChunksKept first q m i k old new == the cells beside them are as they were
+--   Put first end q m i k made t cells == the chunks of the sixteen rows q are so summed, for the first k panels of the
+--     set that lie before `end` and reach down to q
+--   Beside first q m i k at == chunk `at` is none of these;  ChunksKept first q m i k old new == the cells beside them
+--     are as they were
 --   OthersKept m i old new == the other matrices' cells are as they were
---   ChunkFolded w M J q cells at == chunk `at` of the cells holds the folded entries of the sixteen rows q of panel J (Folds), as far as a row of M has bytes
---   SetFolded w M first end m i count cells == so do the chunks of matrix i of m, for the panels before `end`, in the first `count` sixteens of rows
+--   ChunkFolded w M J q cells at == chunk `at` of the cells holds the folded entries of the sixteen rows q of panel J
+--     (Folds), as far as a row of M has bytes
+--   SetFolded w M first end m i count cells == so do the chunks of matrix i of m, for the panels before `end`, in the
+--     first `count` sixteens of rows
 --   TurnedFits turned == a byte for each row of a matrix, for each of eight byte columns
 --   CellsFit m cells == the cells have room for a set of panels of m matrices
---   RowsFit first end m i cells made turned == the panels are of one set, matrix i is one of m, and the buffers have room for them
---   FoldFits w src from first end m i cells turned == the same, and src has the rows, from `from` on up to a whole sixteen, and 32 bytes more
---   MatrixFits n w first end m i A cells turned == the same, where A has m matrices of n rows of w bytes, and `end` is past the panels of n columns
+--   RowsFit first end m i cells made turned == the panels are of one set, matrix i is one of m, and the buffers have
+--     room for them
+--   FoldFits w src from first end m i cells turned == the same, and src has the rows, from `from` on up to a whole
+--     sixteen, and 32 bytes more
+--   MatrixFits n w first end m i A cells turned == the same, where A has m matrices of n rows of w bytes, and `end` is
+--     past the panels of n columns
 --   MatrixFolded n w M first m i cells == the same for all of these, at the rows and columns below n
 -- Assumes nothing.
 use mathlib.Core.Path.{_≡_}

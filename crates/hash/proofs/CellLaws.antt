@@ -1,4 +1,5 @@
--- Cells of a table of rows: distinct cells stand at distinct places, and a row's sum reads only the rows that it selects from.
+-- Cells of a table of rows: distinct cells stand at distinct places, and a row's sum reads only the rows that it
+-- selects from.
 -- Assumes nothing.
 use mathlib.Core.Path.{_≡_, refl, sym, ap, _∙_}
 use mathlib.Core.Logic.{_≢_}

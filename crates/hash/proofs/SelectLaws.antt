@@ -1,4 +1,5 @@
--- The sum of the coordinates that a row of bits selects is the sum of the entries that its half-bytes choose in the table of sums.
+-- The sum of the coordinates that a row of bits selects is the sum of the entries that its half-bytes choose in the
+-- table of sums.
 -- Assumes nothing.
 use Prim.Native.Nat.{ℕ, zero, suc, _+_, _*_, _-_, _/_, _%_, _≤_, _<_}
 use mathlib.Core.Path.{_≡_, refl, sym, ap, ap₂, _∙_}

@@ -1,8 +1,10 @@
 -- The table of the sums of each four coordinates of the vectors of all repetitions.
---   entryLane T k e == byte e of entry k of the table of sums: of the coordinates 4·⌊k/16⌋ + s, s < 4, those with bit s of k mod 16 set
+--   entryLane T k e == byte e of entry k of the table of sums: of the coordinates 4·⌊k/16⌋ + s, s < 4, those with bit s
+--     of k mod 16 set
 --   LanesTabled T sums count == sums holds the first count entries, one after the other
 --   byteLookedUp b x sums e == the sum of the two entries that byte b of a row chooses, where it is x
---   rowLookedUp count row sums e == the sum of the entries that the first count bytes of a row choose, two for each byte
+--   rowLookedUp count row sums e == the sum of the entries that the first count bytes of a row choose, two for each
+--     byte
 --   RowSelected row sums out == out is what the row selects of the coordinates of any table that was so summed
 -- Assumes nothing.
 use mathlib.Core.Path.{_≡_}

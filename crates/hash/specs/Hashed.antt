@@ -1,7 +1,9 @@
 -- The hash of vectors side by side, on bytes.
 --   rowHashed row c T e == what a row of H′ selects of the vector of repetition e, and coordinate c
---   hashLane H′ width k T ρ e == row ρ of H·(vector of repetition e), H = [H′ | identity]: what row ρ of H′ selects, and coordinate k + ρ
---   Hashed H′ width k t τ T out == out has a row of t bytes for each repetition e below τ, and its byte ρ is row ρ of H·(vector of repetition e)
+--   hashLane H′ width k T ρ e == row ρ of H·(vector of repetition e), H = [H′ | identity]: what row ρ of H′ selects,
+--     and coordinate k + ρ
+--   Hashed H′ width k t τ T out == out has a row of t bytes for each repetition e below τ, and its byte ρ is row ρ of
+--     H·(vector of repetition e)
 --   FrontTabled width T sums == sums has the sums of the coordinates of T that a row of `width` bytes selects from
 --   RowFits out width c T sums, HashFits out H′ width k t τ T sums == these are as long as rows of `width` bytes need
 -- Assumes nothing.

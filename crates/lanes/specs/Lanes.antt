@@ -1,6 +1,8 @@
 -- Vectors of the repetitions side by side, on bytes, and their masks.
---   lanes == the stride of a table, as many as a key may have repetitions;  laneAt T c e == coordinate c of the vector of repetition e
---   IsLanes s == s has one byte for each lane;  LaneIs e n f T == coordinates f 0, .., f (n - 1) stand in lane e;  LanesKept e old new == the lanes other than e are as they were
+--   lanes == the stride of a table, as many as a key may have repetitions;  laneAt T c e == coordinate c of the vector
+--     of repetition e
+--   IsLanes s == s has one byte for each lane;  LaneIs e n f T == coordinates f 0, .., f (n - 1) stand in lane e;
+--     LanesKept e old new == the lanes other than e are as they were
 --   LanesAdded n f old new == to each of the first n lanes e, f e is added
 --   maskLane T n e == Σ α^s · coordinate n + s, s below the field's degree, in repetition e
 --   maskBits u n == the same of a string of bits

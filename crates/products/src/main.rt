@@ -1,4 +1,5 @@
-// Prints three products in GF(256), beside what is expected: the two worked in FIPS 197, section 4.2, and a pair of inverses.
+// Prints three products in GF(256), beside what is expected: the two worked in FIPS 197, section 4.2, and a pair of
+// inverses.
 use field::Gf256;
 ghost use Prim.Native.Nat.{_<_};
 

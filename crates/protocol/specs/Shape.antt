@@ -1,6 +1,7 @@
 -- The sizes: what a key's header says, the limits, and what is derived from them.
 --   n variables, m equations, τ repetitions, t hash rows;  shapeOf key == the sizes in the header of a key
---   mostVariables, mostEquations, mostRepetitions, mostHashRows == the largest n, m, τ, t;  limits s == the sizes are in range
+--   mostVariables, mostEquations, mostRepetitions, mostHashRows == the largest n, m, τ, t;  limits s == the sizes are
+--     in range
 --   within most x == 1 ≤ x ≤ most;  maskAt A s e == the first mask coordinate of repetition e
 --   kOf == 01's k = n + 8, the coordinates that H′ covers;  lOf == L = k + t, all coordinates
 --   wOf == w = ⌈L/8⌉, the bytes of a leaf

@@ -1,7 +1,8 @@
 -- The three steps: what each is given, and what it wrote for any leaves that were loaded.
 --   commitFrame s leaves x, hashFrame, batchFrame == the bytes of a step, for a key of the sizes s
 --   restFrame, proofFrame == those of the steps after the first, and of a whole proof
---   CommitReady, HashReady, BatchReady == the output has the step's exact length, and what is lent beside it has its form
+--   CommitReady, HashReady, BatchReady == the output has the step's exact length, and what is lent beside it has its
+--     form
 --   CommitWritten, HashWritten, BatchWritten == the output is the step's bytes
 --   RestReady, RestWritten == of the steps after the first, in a whole proof
 --   FormsReady, FormsWritten == of two rows of lanes: their first τ bytes are the sections QS0 and QS1

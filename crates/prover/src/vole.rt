@@ -43,7 +43,8 @@ pub fn write_difference(out: &mut [u8], witness: &[u8], u: &[u8], n: usize)
     strings::copies::clear_spare(out, n);
 }
 
-// Row rho of H = [H′ | identity] times u: the product with row rho of H′, plus bit k + rho, where the identity has its 1.
+// Row rho of H = [H′ | identity] times u: the product with row rho of H′, plus bit k + rho, where the identity has its
+// 1.
 fn hash_bit(matrix: &[u8], u: &[u8], k: usize, rho: usize) -> u8
     requires { ⌜ (rho * bytesFor k + bytesFor k ≤ length (now matrix)) × (k + rho < length (now u) * 8) × (length (now u) ≤ 100000) ⌝ }
     ensures { λ r. ⌜ r ≡ hashBit (now (matrix .entry)) (now (u .entry)) k rho ⌝ }

@@ -1,8 +1,12 @@
--- A reader that is made in a local, of plain parameters, and passed to `next_section`: what the walks of `section_from` and `read_on` share.
---   Part κ == the type of a lent part of the proof;  lent κ, erasedAt κ == its lifetime in a signature, and as a local of a body has it
---   made s n == the reader that is made;  machProof, mach == the machine values of the proof and of that reader;  Own == what the proof owns
+-- A reader that is made in a local, of plain parameters, and passed to `next_section`: what the walks of `section_from`
+-- and `read_on` share.
+--   Part κ == the type of a lent part of the proof;  lent κ, erasedAt κ == its lifetime in a signature, and as a local
+--     of a body has it
+--   made s n == the reader that is made;  machProof, mach == the machine values of the proof and of that reader;  Own
+--     == what the proof owns
 --   N, L, vt == the type of what comes back, its laws, and its fields' values
---   to == what the call is passed;  goes == what it asks is had on entry, and what the proof owns is kept;  said == what is known of its result
+--   to == what the call is passed;  goes == what it asks is had on entry, and what the proof owns is kept;  said ==
+--     what is known of its result
 --   long, far == the section's length and the reader's index fit a word
 -- Assumes nothing.
 use mathlib.Core.Path.{refl}

@@ -1,4 +1,5 @@
--- In a string of sections of given lengths, the reader finds each where the lengths say that it stands; and what reads back as sections, the
+-- In a string of sections of given lengths, the reader finds each where the lengths say that it stands; and what reads
+-- back as sections, the
 -- reader takes one after the other.
 -- Question 12 is asked one section at a time: the reader's answer, the section's length, and what is left.
 --   yes? a == the answer is accepted
@@ -103,7 +104,8 @@ asked-after s at b = go (sectionAt s at)
     go missing = refl
     go (between a z) = refl
 
--- a turn of the reader's: from index at on the lengths from i on have to follow, and `read_on` has told r of the section there
+-- a turn of the reader's: from index at on the lengths from i on have to follow, and `read_on` has told r of the
+-- section there
 module _ (ls s : List ℕ) (at i : ℕ) (h : i < length ls) (left : framed ls s ≡ framed (drop i ls) (drop at s)) (r : ReadOn) (said : ReadsOn s at r) where
   l : ℕ
   l = getD ls i 0

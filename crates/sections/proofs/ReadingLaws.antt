@@ -1,4 +1,5 @@
--- Reading section after section gives exactly the strings of sections of given lengths, and the sections are those that the definition names.
+-- Reading section after section gives exactly the strings of sections of given lengths, and the sections are those that
+-- the definition names.
 -- Assumes nothing.
 use mathlib.Core.Path.{_≡_, sym, ap, _∙_, subst}
 use mathlib.Core.Bool.{true}

@@ -1,4 +1,5 @@
--- Reading sections by the counts that stand there is reading a string of sections of given lengths, one after the other.
+-- Reading sections by the counts that stand there is reading a string of sections of given lengths, one after the
+-- other.
 -- Assumes nothing.
 use mathlib.Core.Path.{_≡_, refl, sym, ap, _∙_}
 use mathlib.Core.Bool.{Bool, true, false, _&&_, false≢true}

@@ -1,4 +1,5 @@
--- The spare bits of a row are the high bits of its last byte; and those of many rows are tested together, by one or of them all.
+-- The spare bits of a row are the high bits of its last byte; and those of many rows are tested together, by one or of
+-- them all.
 -- Assumes nothing.
 use mathlib.Core.Path.{_≡_, refl, sym, ap, ap₂, _∙_}
 use mathlib.Core.Bool.{Bool, true, false, _&&_}

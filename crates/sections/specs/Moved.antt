@@ -1,11 +1,13 @@
 -- What the reader's functions say: of one section, of where the reader stands then, and of all six.
 --   movedOn r == the reader r after one section: the same lent proof, and how far it has read then
---   Stepped s at step == what a step says of s at index at: the answer, how far has been read then, and that the section is the part of s between its
+--   Stepped s at step == what a step says of s at index at: the answer, how far has been read then, and that the
+--     section is the part of s between its
 --     start and its end
 --   Gives r t == t is what the reader r gives back: the section, the reader after it, and the answer
 --   ReadsOn s at r == r tells of the section at index at of s: the answer, its length, and how far has been read then
 --   PlacesIn s places == where the reader of s stands before each of six sections
---   Walked ls s walk == the answer to question 12, of the lengths ls; and where that is accepted, where the reader stood
+--   Walked ls s walk == the answer to question 12, of the lengths ls; and where that is accepted, where the reader
+--     stood
 -- Assumes nothing.
 use mathlib.Core.Path.{_≡_}
 use mathlib.Core.List.{List, [], _∷_}

@@ -1,5 +1,6 @@
 -- A string of sections read one after the other, each from where the one before ended, by the counts that stand there.
---   Reads s at ls ss == from index at on, sections of the lengths ls are found, they are the strings ss, and s ends with the last
+--   Reads s at ls ss == from index at on, sections of the lengths ls are found, they are the strings ss, and s ends
+--     with the last
 -- Assumes nothing.
 use mathlib.Core.Path.{_≡_}
 use mathlib.Core.List.{List, [], _∷_}

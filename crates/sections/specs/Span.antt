@@ -1,5 +1,6 @@
 -- What each case of a span stands for.
---   extentOf span == from its start up to its end, or missing;  Inside s span == a section that is there lies within the string s
+--   extentOf span == from its start up to its end, or missing;  Inside s span == a section that is there lies within
+--     the string s
 -- Assumes nothing.
 use mathlib.Core.List.{List}
 use Prim.Native.Nat.{ℕ, _≤_}

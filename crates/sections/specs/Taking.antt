@@ -1,6 +1,9 @@
--- What the reader of sections gives at an index of a proof (01: it takes one section at a time, and gives back the section itself).
---   answerAt s at == accepted where the section whose count stands at index at of s is there whole; else the refusal 12, place 0
---   nextAt s at == how far has been read after it: up to the section's end; where the section is missing, no further than at
+-- What the reader of sections gives at an index of a proof (01: it takes one section at a time, and gives back the
+-- section itself).
+--   answerAt s at == accepted where the section whose count stands at index at of s is there whole; else the refusal
+--     12, place 0
+--   nextAt s at == how far has been read after it: up to the section's end; where the section is missing, no further
+--     than at
 --   bytesAt s at == the section itself, as part of s; nothing where it is missing
 --   readTo s i == how far has been read after i sections, from the front on
 -- Assumes nothing.

@@ -1,4 +1,5 @@
--- Bits of numbers and of strings: a number is the sum of the powers of two that its bits weigh; a number cut to its low bits; a string with one byte changed.
+-- Bits of numbers and of strings: a number is the sum of the powers of two that its bits weigh; a number cut to its low
+-- bits; a string with one byte changed.
 -- Assumes nothing.
 use mathlib.Core.Path.{_≡_, refl, sym, ap, ap₂, _∙_}
 use mathlib.Core.List.{List}

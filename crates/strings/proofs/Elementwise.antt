@@ -1,4 +1,5 @@
--- Loops that change each element of a string once, in rising order: after n turns the first n are changed, and the others are as they were.
+-- Loops that change each element of a string once, in rising order: after n turns the first n are changed, and the
+-- others are as they were.
 -- Assumes nothing.
 use Prim.Native.Nat.{ℕ, zero, suc, _+_, _≤_, _<_}
 use mathlib.Core.Path.{_≡_, refl, sym, ap, _∙_}

@@ -1,4 +1,5 @@
--- From bytes to elements: an exclusive or of numbers is a sum of elements, a bit of such a sum is the sum of the bits, and a bit scales an element.
+-- From bytes to elements: an exclusive or of numbers is a sum of elements, a bit of such a sum is the sum of the bits,
+-- and a bit scales an element.
 -- Assumes nothing.
 use mathlib.Core.Path.{_≡_, refl, sym, ap, ap₂, _∙_}
 use mathlib.Core.List.{List}

@@ -1,4 +1,5 @@
--- Strings made of what they hold: a string whose bits are f, and 0 past the last, is `pack` of f; a table whose rows are f is those rows, one after the other.
+-- Strings made of what they hold: a string whose bits are f, and 0 past the last, is `pack` of f; a table whose rows
+-- are f is those rows, one after the other.
 -- Assumes nothing.
 use Prim.Native.Nat.{ℕ, zero, suc, _+_, _*_, _-_, _≤_, _<_}
 use mathlib.Core.Path.{_≡_, refl, sym, ap, ap₂, _∙_}

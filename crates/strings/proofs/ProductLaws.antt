@@ -1,4 +1,5 @@
--- The product of two rows of bits is that of any field of characteristic 2, and is a bit; and how a number's bits go apart into the first and the others.
+-- The product of two rows of bits is that of any field of characteristic 2, and is a bit; and how a number's bits go
+-- apart into the first and the others.
 -- Assumes nothing.
 use mathlib.Core.Path.{_≡_, sym, ap, _∙_}
 use mathlib.Core.List.{List}

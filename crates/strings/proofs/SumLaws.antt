@@ -1,4 +1,5 @@
--- Laws of sums: one term more, a part after a part, terms that agree, terms that are 0, the bound of a sum, terms that are sums, terms times a bit;
+-- Laws of sums: one term more, a part after a part, terms that agree, terms that are 0, the bound of a sum, terms that
+-- are sums, terms times a bit;
 -- and a term times a bit, which a loop adds under a test.
 -- Assumes nothing.
 use Prim.Native.Nat.{ℕ, zero, suc, _+_, _*_, _-_, _^_, _≤_, _<_}

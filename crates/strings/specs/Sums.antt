@@ -1,7 +1,8 @@
 -- Sums of bytes, as the contracts of the loops cite them.
 --   byteAt s i == byte i of the string s, 0 past its end;  bitOf x p == bit p of the number x
 --   xorSum n f == f 0 + … + f (n - 1), the sum being exclusive or
---   selected n row table width b == byte b of the sum of those of the n rows of a table whose bit is set in the bit string `row`
+--   selected n row table width b == byte b of the sum of those of the n rows of a table whose bit is set in the bit
+--     string `row`
 -- Assumes nothing.
 use mathlib.Core.List.{List}
 use Prim.Native.Nat.{ℕ, zero, suc, _+_, _*_, _/_, _%_, _^_}

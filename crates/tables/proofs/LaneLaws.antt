@@ -1,5 +1,6 @@
 -- A lane of the table written coordinate by coordinate, and byte by byte: what is done, and what is left as it was.
---   Filled g l e a n == lane e of the n coordinates from a on is g 0, .., g (n - 1);  Others l₀ l e a == the other lanes, and lane e below a, are as in l₀
+--   Filled g l e a n == lane e of the n coordinates from a on is g 0, .., g (n - 1);  Others l₀ l e a == the other
+--     lanes, and lane e below a, are as in l₀
 --   Lane g l e n == lane e of the first n coordinates is g
 -- Assumes nothing.
 use Prim.Native.Nat.{ℕ, _+_, _*_, _-_, _/_, _%_, _≤_, _<_}

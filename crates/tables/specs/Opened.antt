@@ -1,5 +1,6 @@
 -- The verifier's W_e on bytes, and the table that holds W of every repetition, coordinate by coordinate.
---   correctionBit C w e c == coordinate c of C_e: 0 at e = 0, since C_0 is all zero and not sent; the first row of the section C is C_1
+--   correctionBit C w e c == coordinate c of C_e: 0 at e = 0, since C_0 is all zero and not sent; the first row of the
+--     section C is C_1
 --   wByte opened C w e δ c == coordinate c of W_e = Σ over j≠δ of (j+δ)·ℓ(e,j), plus δ·C_e, as a byte, at δ = Δ_e
 --   correctionByte C w e b == byte b of C_e
 --   CorrectionAdded C e old new == u, a string of w bytes, is as it was, plus C_e

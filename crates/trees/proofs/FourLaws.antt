@@ -1,5 +1,7 @@
--- Leaves by four: which planes take the running sum after each of them, and where the leaves stand that come before and after the one left out.
---   Fits j to skip w n == four leaves from j on are below `to`, and all below `to` end within n bytes, where leaf i stands at place i - skip
+-- Leaves by four: which planes take the running sum after each of them, and where the leaves stand that come before and
+-- after the one left out.
+--   Fits j to skip w n == four leaves from j on are below `to`, and all below `to` end within n bytes, where leaf i
+--     stands at place i - skip
 -- Assumes nothing.
 use Prim.Native.Nat.{ℕ, zero, suc, _+_, _*_, _-_, _/_, _%_, _≤_, _<_}
 use mathlib.Core.Path.{_≡_, refl, sym, ap, ap₂, _∙_}

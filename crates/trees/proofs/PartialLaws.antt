@@ -1,4 +1,5 @@
--- Partial sums: after k leaves, plane p holds its sum, plus the sum of all k leaves where bit p of k is 1. The leaves are any rows of bytes.
+-- Partial sums: after k leaves, plane p holds its sum, plus the sum of all k leaves where bit p of k is 1. The leaves
+-- are any rows of bytes.
 -- Assumes nothing.
 use Prim.Native.Nat.{ℕ, zero, suc, _+_, _*_, _<_}
 use mathlib.Core.Path.{_≡_, refl, sym, ap, ap₂, _∙_}

@@ -1,4 +1,5 @@
--- A step of a loop over the planes: the planes below p are done, those from p on are as they were, and plane p is changed now.
+-- A step of a loop over the planes: the planes below p are done, those from p on are as they were, and plane p is
+-- changed now.
 -- Assumes nothing.
 use Prim.Native.Nat.{ℕ, suc, _+_, _*_, _≤_, _<_}
 use mathlib.Core.Path.{_≡_, ap, _∙_}

@@ -1,6 +1,8 @@
--- Sums of sixteen bytes at a time: which bits of a number change when it is counted up, and loops over a part of a string.
+-- Sums of sixteen bytes at a time: which bits of a number change when it is counted up, and loops over a part of a
+-- string.
 --   PlanesFrom g l r w at k == sixteen bytes of each of the last k of r planes, from `at` on, are g
---   Changed g l₀ l at n == the n bytes of l from `at` on are those of l₀, byte k of them changed by g k, and the others are as in l₀
+--   Changed g l₀ l at n == the n bytes of l from `at` on are those of l₀, byte k of them changed by g k, and the others
+--     are as in l₀
 -- Assumes nothing.
 use Prim.Native.Nat.{ℕ, zero, suc, _+_, _*_, _-_, _/_, _%_, _^_, _≤_, _<_}
 use mathlib.Core.Path.{_≡_, refl, sym, ap, _∙_}

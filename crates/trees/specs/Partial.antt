@@ -1,16 +1,21 @@
 -- Partial sums: after j leaves, plane p has its sum, plus the sum of all j leaves where bit p of j is 1.
---   Running f r w u planes j == u is the sum of the first j leaves, and the r planes are as said, where f i b is byte b of leaf i, u b of u,
+--   Running f r w u planes j == u is the sum of the first j leaves, and the r planes are as said, where f i b is byte b
+--     of leaf i, u b of u,
 --     and planes p b of plane p, for each b below w
 --   heldPlane held r p b == byte b of plane p, from rows of sixteen bytes: the sum of the rows 0, .., r - p
---   withLow a x y p b == byte b of plane p, which is a p b and two sums that are kept apart: x where bit p of 1 is set, and y where that of 3 is
+--   withLow a x y p b == byte b of plane p, which is a p b and two sums that are kept apart: x where bit p of 1 is set,
+--     and y where that of 3 is
 --   RunningHeld f r sum held j == `Running` of sixteen bytes of each leaf, where the planes are held in rows
 --   RunningLow f r a sum first second j == the same, where the planes are a and two sums that are kept apart
 --   RunningLeaves tree w δ at r sum held j == RunningHeld of the sixteen bytes from `at` on of the leaves of a tree
 --   Handed f j leaf at == the sixteen bytes from `at` on of this string are those of leaf j
---   Placed f j to skip tree w at == the row at place i - skip of the tree is so of leaf i, for each i from j on and below `to`
---   ThreeAdded at leaf next third sum first second sum′ first′ second′ == where three leaves are handed on, from a j that 4 divides, the sums that ran
+--   Placed f j to skip tree w at == the row at place i - skip of the tree is so of leaf i, for each i from j on and
+--     below `to`
+--   ThreeAdded at leaf next third sum first second sum′ first′ second′ == where three leaves are handed on, from a j
+--     that 4 divides, the sums that ran
 --     up to leaf j run up to leaf j + 3
---   FoursFit r w at skip from to tree == there are at most eight planes, and the leaves from `from` on and below `to` are whole fours, and stand whole in the tree
+--   FoursFit r w at skip from to tree == there are at most eight planes, and the leaves from `from` on and below `to`
+--     are whole fours, and stand whole in the tree
 -- Assumes nothing.
 use mathlib.Core.Path.{_≡_}
 use mathlib.Core.List.{List}

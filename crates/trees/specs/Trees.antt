@@ -1,8 +1,10 @@
 -- Sums of one tree of leaves on bytes, of which leaf δ is left out; none is where δ is not below the number of leaves.
 --   leafByte tree w δ j b == byte b of leaf j, at its place in the tree, and 0 for the leaf that is left out
 --   TreeFits tree w δ count == each of the count leaves that is not left out stands whole at its place
---   Absorbed w r j row old new == the planes p below r, rows of w bytes, are as they were, plus the row where bit p of j is set
---   Summed f count r w u planes n == of each of the first n bytes, u has the sum of f over the leaves j below count, and plane p below r the sum of
+--   Absorbed w r j row old new == the planes p below r, rows of w bytes, are as they were, plus the row where bit p of
+--     j is set
+--   Summed f count r w u planes n == of each of the first n bytes, u has the sum of f over the leaves j below count,
+--     and plane p below r the sum of
 --     those with bit p of j set; f j b is byte b of leaf j, and planes are rows of w bytes
 --   TreeSummed tree w δ count r u planes n == the same for the leaves of a tree
 -- Assumes nothing.

@@ -1,4 +1,5 @@
--- `equations::equation_error` meets its contract. The invariant: the sum is what the definition of the error has, over the rows below rho.
+-- `equations::equation_error` meets its contract. The invariant: the sum is what the definition of the error has, over
+-- the rows below rho.
 -- Assumes nothing.
 use borrow.Author.Needs.{needs}
 use Prim.Native.Nat.{ℕ, _*_, _-_, _≤_, _<_}

@@ -1,4 +1,5 @@
--- `equations::equation_errors` meets its contract. Each element is changed once (`Elementwise`), to the error of its equation.
+-- `equations::equation_errors` meets its contract. Each element is changed once (`Elementwise`), to the error of its
+-- equation.
 -- Assumes nothing.
 use borrow.Author.Needs.{needs}
 use Prim.Native.Nat.{ℕ, _*_, _-_, _≤_}

@@ -1,4 +1,5 @@
--- `forms_columns::add_weighted` meets its contract. Each element is changed once (`Elementwise`); a mask is a product with a bit.
+-- `forms_columns::add_weighted` meets its contract. Each element is changed once (`Elementwise`); a mask is a product
+-- with a bit.
 -- Assumes nothing.
 use borrow.Author.Needs.{needs}
 use Prim.Native.Nat.{ℕ, _*_, _≤_, _-_}

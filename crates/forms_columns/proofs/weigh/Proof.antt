@@ -1,4 +1,5 @@
--- `forms_columns::weigh` meets its contract. The invariant: the planes below s are added, each times its power of α, which the weight is.
+-- `forms_columns::weigh` meets its contract. The invariant: the planes below s are added, each times its power of α,
+-- which the weight is.
 -- Assumes nothing.
 use borrow.Author.Needs.{needs}
 use Prim.Native.Nat.{ℕ, _*_, _-_, _≤_, _<_}

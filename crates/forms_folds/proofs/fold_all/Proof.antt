@@ -1,4 +1,5 @@
--- `forms_folds::fold_all` meets its contract. The invariant: the sixteens of rows below q are folded, and the other matrices' cells are as they were.
+-- `forms_folds::fold_all` meets its contract. The invariant: the sixteens of rows below q are folded, and the other
+-- matrices' cells are as they were.
 -- Assumes nothing.
 use borrow.Author.Needs.{needs}
 use Prim.Native.Nat.{_+_, _*_, _-_, _≤_}

@@ -1,4 +1,5 @@
--- `forms_folds::load_set` meets its contract. The invariant: the matrices below i are loaded, and the lent buffers are as long as they were.
+-- `forms_folds::load_set` meets its contract. The invariant: the matrices below i are loaded, and the lent buffers are
+-- as long as they were.
 -- Assumes nothing.
 use borrow.Author.Needs.{needs}
 use Prim.Native.Nat.{ℕ, _*_, _-_, _≤_, _<_}

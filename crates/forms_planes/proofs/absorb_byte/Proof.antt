@@ -1,4 +1,5 @@
--- `forms_planes::absorb_byte` meets its contract. The invariant: what the bits below b add is added. What they all come to is `PlaneLaws`.
+-- `forms_planes::absorb_byte` meets its contract. The invariant: what the bits below b add is added. What they all come
+-- to is `PlaneLaws`.
 -- Assumes nothing.
 use borrow.Author.Needs.{needs}
 use Prim.Native.Nat.{ℕ, _+_, _*_, _-_, _≤_, _<_}

@@ -1,4 +1,5 @@
--- `forms_planes::absorb_planes` meets its contract. The invariant: the bytes below f are done, and the others are as they were.
+-- `forms_planes::absorb_planes` meets its contract. The invariant: the bytes below f are done, and the others are as
+-- they were.
 -- Assumes nothing.
 use borrow.Author.Needs.{needs}
 use Prim.Native.Nat.{ℕ, _+_, _*_, _-_, _≤_, _<_}

@@ -1,4 +1,5 @@
--- `lanes::add_masked` meets its contract. Each element is changed once (`Elementwise`); a mask of ones or zeros is a product with a bit.
+-- `lanes::add_masked` meets its contract. Each element is changed once (`Elementwise`); a mask of ones or zeros is a
+-- product with a bit.
 -- Assumes nothing.
 use borrow.Author.Needs.{needs}
 use Prim.Native.Nat.{ℕ, _*_, _≤_, _<_, _-_}

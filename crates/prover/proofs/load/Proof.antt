@@ -1,4 +1,5 @@
--- `prover::load` meets its contract: the first parts of the two buffers, of the length that the sizes ask for, are loaded.
+-- `prover::load` meets its contract: the first parts of the two buffers, of the length that the sizes ask for, are
+-- loaded.
 -- Assumes nothing.
 use mathlib.Core.Path.{_≡_, refl, sym, ap, ap₂, _∙_, subst}
 use mathlib.Core.List.{List, [], _∷_, _++_}

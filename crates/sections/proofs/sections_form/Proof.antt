@@ -1,4 +1,5 @@
--- `sections::sections_form` meets its contract. The loop's invariant: from where it stands, the lengths that are left have still to follow.
+-- `sections::sections_form` meets its contract. The loop's invariant: from where it stands, the lengths that are left
+-- have still to follow.
 -- Assumes nothing.
 use mathlib.Core.Path.{_≡_, refl, _∙_}
 use Prim.Native.Nat.{_-_, _≤_}

@@ -1,4 +1,5 @@
--- `tables::load_tree` meets its contract. The sums of one tree (`leaf_sums`) stand in row e, and its planes are spread over lane e.
+-- `tables::load_tree` meets its contract. The sums of one tree (`leaf_sums`) stand in row e, and its planes are spread
+-- over lane e.
 -- Assumes nothing.
 use Prim.Native.Nat.{ℕ, _+_, _*_, _-_, _≤_, _<_}
 use mathlib.Core.Path.{_≡_, ap, _∙_}

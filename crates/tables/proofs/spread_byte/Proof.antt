@@ -1,4 +1,5 @@
--- `tables::spread_byte` meets its contract. The invariant: the first i coordinates of the byte have their lane, the other lanes and the coordinates before are as they were.
+-- `tables::spread_byte` meets its contract. The invariant: the first i coordinates of the byte have their lane, the
+-- other lanes and the coordinates before are as they were.
 -- Assumes nothing.
 use borrow.Author.Needs.{needs}
 use Prim.Native.Nat.{_+_, _*_, _-_, _≤_}

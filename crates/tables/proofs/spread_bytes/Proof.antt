@@ -1,4 +1,5 @@
--- `tables::spread_bytes` meets its contract. The invariant: lane e of the coordinates of the first b bytes is done, the other lanes are as they were.
+-- `tables::spread_bytes` meets its contract. The invariant: lane e of the coordinates of the first b bytes is done, the
+-- other lanes are as they were.
 -- Assumes nothing.
 use borrow.Author.Needs.{needs}
 use Prim.Native.Nat.{ℕ, _+_, _*_, _-_, _≤_, _<_}

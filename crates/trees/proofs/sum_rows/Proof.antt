@@ -1,4 +1,5 @@
--- `trees::sum_rows` meets its contract. The invariant: plane p is its sum of the j leaves passed, plus their whole sum where bit p of j is 1.
+-- `trees::sum_rows` meets its contract. The invariant: plane p is its sum of the j leaves passed, plus their whole sum
+-- where bit p of j is 1.
 -- Assumes nothing.
 use borrow.Author.Needs.{needs}
 use Prim.Native.Nat.{ℕ, _+_, _*_, _-_, _≤_}

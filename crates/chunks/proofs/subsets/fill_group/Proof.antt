@@ -1,4 +1,5 @@
--- `chunks::subsets::fill_group` meets its contract. The invariant: the sums of the first s rows are made, 2^s in number.
+-- `chunks::subsets::fill_group` meets its contract. The invariant: the sums of the first s rows are made, 2^s in
+-- number.
 -- Assumes nothing.
 use borrow.Author.Needs.{needs}
 use Prim.Native.Nat.{ℕ, zero, suc, _+_, _*_, _-_, _^_, _≤_, _<_}

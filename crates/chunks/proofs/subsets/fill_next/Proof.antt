@@ -1,4 +1,5 @@
--- `chunks::subsets::fill_next` meets its contract. The invariant: the entries below v are made, and what they are made of is as it was.
+-- `chunks::subsets::fill_next` meets its contract. The invariant: the entries below v are made, and what they are made
+-- of is as it was.
 -- Assumes nothing.
 use borrow.Author.Needs.{needs}
 use Prim.Native.Nat.{ℕ, _+_, _*_, _-_, _≤_, _<_}

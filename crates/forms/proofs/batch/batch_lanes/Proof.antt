@@ -1,4 +1,5 @@
--- `forms::batch::batch_lanes` meets its contract: the batched forms, from zeros, and the masks. The forms of the first n coordinates of the table
+-- `forms::batch::batch_lanes` meets its contract: the batched forms, from zeros, and the masks. The forms of the first
+-- n coordinates of the table
 -- are those of the table (`PrefixLaws`).
 -- Assumes nothing.
 use borrow.Author.Needs.{needs}

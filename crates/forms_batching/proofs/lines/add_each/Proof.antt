@@ -1,4 +1,5 @@
--- `forms_batching::lines::add_each` meets its contract. The invariant: the lines below i are added to at the panel's columns, and all else is as it was.
+-- `forms_batching::lines::add_each` meets its contract. The invariant: the lines below i are added to at the panel's
+-- columns, and all else is as it was.
 -- Assumes nothing.
 use borrow.Author.Needs.{needs}
 use Prim.Native.Nat.{ℕ, _+_, _*_, _-_, _≤_}

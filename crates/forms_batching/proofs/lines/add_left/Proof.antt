@@ -1,4 +1,5 @@
--- `forms_batching::lines::add_left` meets its contract: where the polar form is not asked for, nothing is added. What is added is `LineLaws`.
+-- `forms_batching::lines::add_left` meets its contract: where the polar form is not asked for, nothing is added. What
+-- is added is `LineLaws`.
 -- Assumes nothing.
 use borrow.Author.Needs.{needs}
 use Prim.Native.Nat.{ℕ, _+_, _*_}

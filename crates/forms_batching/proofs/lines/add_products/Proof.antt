@@ -1,4 +1,5 @@
--- `forms_batching::lines::add_products` meets its contract. The invariant: the products of the repetitions below e are added, and the other places are as they were.
+-- `forms_batching::lines::add_products` meets its contract. The invariant: the products of the repetitions below e are
+-- added, and the other places are as they were.
 -- Assumes nothing.
 use borrow.Author.Needs.{needs}
 use Prim.Native.Nat.{ℕ, _+_, _*_, _-_, _≤_, _<_}

@@ -1,4 +1,5 @@
--- `forms_batching::lines::line_product` meets its contract. What an element is that has its bits from the planes is `LineLaws`.
+-- `forms_batching::lines::line_product` meets its contract. What an element is that has its bits from the planes is
+-- `LineLaws`.
 -- Assumes nothing.
 use borrow.Author.Needs.{needs}
 use Prim.Native.Nat.{ℕ, _+_, _*_, _-_, _/_, _%_, _<_}

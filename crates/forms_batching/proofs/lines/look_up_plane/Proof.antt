@@ -1,4 +1,5 @@
--- `forms_batching::lines::look_up_plane` meets its contract. The part that was lent is plane p, and the others stand outside it.
+-- `forms_batching::lines::look_up_plane` meets its contract. The part that was lent is plane p, and the others stand
+-- outside it.
 -- Assumes nothing.
 use borrow.Author.Needs.{needs}
 use Prim.Native.Nat.{_+_, _*_, _-_, _≤_}

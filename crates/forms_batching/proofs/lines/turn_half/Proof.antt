@@ -1,4 +1,5 @@
--- `forms_batching::lines::turn_half` meets its contract. The part that was lent is half h, and the other stands outside it.
+-- `forms_batching::lines::turn_half` meets its contract. The part that was lent is half h, and the other stands outside
+-- it.
 -- Assumes nothing.
 use borrow.Author.Needs.{needs}
 use Prim.Native.Nat.{ℕ, _+_, _*_, _-_, _/_, _%_, _≤_}

@@ -1,4 +1,5 @@
--- `forms_batching::panels::add_forms` meets its contract. The invariant: what the first panels give is added. What all of them come to is `FoldLaws`.
+-- `forms_batching::panels::add_forms` meets its contract. The invariant: what the first panels give is added. What all
+-- of them come to is `FoldLaws`.
 -- Assumes nothing.
 use borrow.Author.Needs.{needs}
 use Prim.Native.Nat.{ℕ, _+_, _*_, _-_, _/_, _%_, _≤_, _<_}

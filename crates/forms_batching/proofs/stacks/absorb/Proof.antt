@@ -1,4 +1,5 @@
--- `forms_batching::stacks::absorb` meets its contract. The invariant: the planes below 2·k are added, each times its power. What they come to is `StackLaws`.
+-- `forms_batching::stacks::absorb` meets its contract. The invariant: the planes below 2·k are added, each times its
+-- power. What they come to is `StackLaws`.
 -- Assumes nothing.
 use borrow.Author.Needs.{needs}
 use Prim.Native.Nat.{ℕ, _+_, _*_, _-_, _≤_, _<_}

@@ -1,4 +1,5 @@
--- `forms_batching::stacks::absorb_lane` meets its contract. The part that was lent is the stack of e, and the others stand outside it.
+-- `forms_batching::stacks::absorb_lane` meets its contract. The part that was lent is the stack of e, and the others
+-- stand outside it.
 -- Assumes nothing.
 use borrow.Author.Needs.{needs}
 use Prim.Native.Nat.{ℕ, _+_, _*_, _-_, _≤_, _<_}

@@ -1,4 +1,5 @@
--- `forms_batching::stacks::absorb_lanes` meets its contract. The invariant: the stacks below e are changed, and the others are as they were.
+-- `forms_batching::stacks::absorb_lanes` meets its contract. The invariant: the stacks below e are changed, and the
+-- others are as they were.
 -- Assumes nothing.
 use borrow.Author.Needs.{needs}
 use Prim.Native.Nat.{ℕ, _+_, _*_, _-_, _≤_, _<_}

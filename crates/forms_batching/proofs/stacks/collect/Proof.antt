@@ -1,4 +1,5 @@
--- `forms_batching::stacks::collect` meets its contract. The invariant: the rows of the first q sixteens are added, each times its coordinate.
+-- `forms_batching::stacks::collect` meets its contract. The invariant: the rows of the first q sixteens are added, each
+-- times its coordinate.
 -- Assumes nothing.
 use borrow.Author.Needs.{needs}
 use Prim.Native.Nat.{ℕ, _+_, _*_, _-_, _/_, _≤_, _<_}

@@ -1,4 +1,5 @@
--- `forms_batching::stacks::put_vector` meets its contract. The part that was lent is the vector of e, and the others stand outside it.
+-- `forms_batching::stacks::put_vector` meets its contract. The part that was lent is the vector of e, and the others
+-- stand outside it.
 -- Assumes nothing.
 use borrow.Author.Needs.{needs}
 use Prim.Native.Nat.{ℕ, _+_, _*_, _-_, _≤_, _<_}

@@ -1,4 +1,5 @@
--- `forms_choices::fives::fill_repetition` meets its contract. The bytes of the repetition are taken with zeros past them, as its block has them.
+-- `forms_choices::fives::fill_repetition` meets its contract. The bytes of the repetition are taken with zeros past
+-- them, as its block has them.
 -- Assumes nothing.
 use borrow.Author.Needs.{needs}
 use Prim.Native.Nat.{ℕ, _+_, _*_, _/_, _%_, _≤_, _<_}

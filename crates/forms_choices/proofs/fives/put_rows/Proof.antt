@@ -1,4 +1,5 @@
--- `forms_choices::fives::put_rows` meets its contract. The invariant: the rows of the bits below p are filled, and those of earlier repetitions are as they were.
+-- `forms_choices::fives::put_rows` meets its contract. The invariant: the rows of the bits below p are filled, and
+-- those of earlier repetitions are as they were.
 -- Assumes nothing.
 use borrow.Author.Needs.{needs}
 use Prim.Native.Nat.{ℕ, _+_, _*_, _-_, _≤_, _<_}

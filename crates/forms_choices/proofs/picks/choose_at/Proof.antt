@@ -1,4 +1,5 @@
--- `forms_choices::picks::choose_at` meets its contract. The part that was lent is for bit p, and the others stand outside it.
+-- `forms_choices::picks::choose_at` meets its contract. The part that was lent is for bit p, and the others stand
+-- outside it.
 -- Assumes nothing.
 use borrow.Author.Needs.{needs}
 use Prim.Native.Nat.{_+_, _*_, _-_, _≤_}

@@ -1,4 +1,5 @@
--- `forms_choices::picks::fill_rows` meets its contract. The part that was lent is for the sixteen fives h, and the other stands outside it.
+-- `forms_choices::picks::fill_rows` meets its contract. The part that was lent is for the sixteen fives h, and the
+-- other stands outside it.
 -- Assumes nothing.
 use borrow.Author.Needs.{needs}
 use Prim.Native.Nat.{_+_, _*_, _-_, _/_, _%_, _≤_}

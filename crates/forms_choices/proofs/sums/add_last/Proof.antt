@@ -1,4 +1,5 @@
--- `forms_choices::sums::add_last` meets its contract. Where there are at most 30 groups, no five of the last word is among them.
+-- `forms_choices::sums::add_last` meets its contract. Where there are at most 30 groups, no five of the last word is
+-- among them.
 -- Assumes nothing.
 use borrow.Author.Needs.{needs}
 use Prim.Native.Nat.{_-_}

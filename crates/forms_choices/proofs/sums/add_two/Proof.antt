@@ -1,4 +1,5 @@
--- `forms_choices::sums::add_two` meets its contract. The invariant: of both, the entries of the fives below j are added.
+-- `forms_choices::sums::add_two` meets its contract. The invariant: of both, the entries of the fives below j are
+-- added.
 -- Assumes nothing.
 use borrow.Author.Needs.{needs}
 use Prim.Native.Nat.{ℕ, _+_, _*_, _-_, _≤_, _<_}

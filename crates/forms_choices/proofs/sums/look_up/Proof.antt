@@ -1,4 +1,5 @@
--- `forms_choices::sums::look_up` meets its contract. The invariant: the entries that the words below k choose are added.
+-- `forms_choices::sums::look_up` meets its contract. The invariant: the entries that the words below k choose are
+-- added.
 -- Assumes nothing.
 use borrow.Author.Needs.{needs}
 use Prim.Native.Nat.{ℕ, _+_, _*_, _/_, _-_, _≤_, _<_}

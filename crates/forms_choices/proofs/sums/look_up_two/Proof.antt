@@ -1,4 +1,5 @@
--- `forms_choices::sums::look_up_two` meets its contract. The invariant: of both rows, the entries that the words below k choose are added.
+-- `forms_choices::sums::look_up_two` meets its contract. The invariant: of both rows, the entries that the words below
+-- k choose are added.
 -- Assumes nothing.
 use borrow.Author.Needs.{needs}
 use Prim.Native.Nat.{ℕ, _+_, _*_, _/_, _-_, _≤_, _<_}

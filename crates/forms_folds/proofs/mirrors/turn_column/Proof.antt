@@ -1,4 +1,5 @@
--- `forms_folds::mirrors::turn_column` meets its contract: eight rows stand together, and sixteen bytes of each are the columns below 128.
+-- `forms_folds::mirrors::turn_column` meets its contract: eight rows stand together, and sixteen bytes of each are the
+-- columns below 128.
 -- Assumes nothing.
 use borrow.Author.Needs.{needs}
 use mathlib.Core.Path.{_∙_}

@@ -1,4 +1,5 @@
--- `forms_folds::rows::put_rows` meets its contract. The invariant: the panels below p are put, and the cells beside them are as they were.
+-- `forms_folds::rows::put_rows` meets its contract. The invariant: the panels below p are put, and the cells beside
+-- them are as they were.
 -- Assumes nothing.
 use borrow.Author.Needs.{needs}
 use Prim.Native.Nat.{_-_, _≤_}

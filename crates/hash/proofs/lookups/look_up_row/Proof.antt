@@ -1,4 +1,5 @@
--- `hash::lookups::look_up_row` meets its contract. The invariant: the entries of the bytes passed are added. What they sum to is `SelectLaws`.
+-- `hash::lookups::look_up_row` meets its contract. The invariant: the entries of the bytes passed are added. What they
+-- sum to is `SelectLaws`.
 -- Assumes nothing.
 use borrow.Author.Needs.{needs}
 use Prim.Native.Nat.{ℕ, _+_, _*_, _-_, _%_, _/_, _≤_, _<_}

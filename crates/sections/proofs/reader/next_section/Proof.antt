@@ -1,5 +1,8 @@
--- `sections::reader::next_section` meets its contract: a walk of its MIR, by hand. The reader is taken apart, two covered functions are called on the slice and the numbers, and the answer is put together. All that the proof knows of the two is that each meets its contract.
--- The reader is Copy: what it owns is had twice, one copy is kept whole for the exit, and of the other what the proof owns goes to the callee, beside the lifetime's token, which comes back.
+-- `sections::reader::next_section` meets its contract: a walk of its MIR, by hand. The reader is taken apart, two
+-- covered functions are called on the slice and the numbers, and the answer is put together. All that the proof knows
+-- of the two is that each meets its contract.
+-- The reader is Copy: what it owns is had twice, one copy is kept whole for the exit, and of the other what the proof
+-- owns goes to the callee, beside the lifetime's token, which comes back.
 -- Assumes nothing.
 use mathlib.Core.Path.{_≡_, refl, ap, _∙_}
 use Prim.Native.Nat.{ℕ, _-_, _<_, _≤_, _^_}
@@ -224,7 +227,8 @@ module _ {M : Type 1} (𝓤 : URA M) (H : Heap 𝓤) (A : Atoms 𝓤) (W : Given
       says ! (e, (λ i. record { proof = d .proof; at = f i }), g) $
       move ! (1 ∷ []) $ frame ! $ move ! (1 ∷ []) $ use1 W (‵ Own ⊛ ‵ Own) (LL.copy D (T′.the-copy (namedLft 1 0 tt (κ, tt))) 𝓤 H A W .twice d (mach ∷ [])) $ split ! $
       nothing ! $ move ! (1 ∷ 0 ∷ []) $ fjoin ! $ frame ! $
-      -- [what the reader owns; what the answer owns; what the section owns]: the proof's part of it goes into the reader that is handed back
+      -- [what the reader owns; what the answer owns; what the section owns]: the proof's part of it goes into the
+      -- reader that is handed back
       use1 W (given (mach ∷ [] ≡ mach ∷ []) (‵ (all-own (D .parts) L vd))) (own-open 𝓤 H A W D L vd mach) $ learn ! (λ _. use1 W (‵ (ownAt (D .parts) L 0 (d .proof)) ⊛ ‵ (rest (D .parts) L 0 vd)) (own-out 𝓤 H A W (D .parts) L 0 vd) $ split ! $ move ! (1 ∷ []) $ drop ! $
       nothing ! $ owned ! usize (Is usize) (uint-makes 𝓤 H A W w64) n _ isN $ fjoin ! $ move ! (1 ∷ 0 ∷ []) $ fjoin ! $
       use1 W (‵ (B (κ, tt) .own (back n) (back-val y ∷ []))) (makes 𝓤 H A W (Part κ ∷ usize ∷ []) (back-own n) (v ∷ [], (y ∷ [], tt))) $
@@ -259,7 +263,8 @@ module _ {M : Type 1} (𝓤 : URA M) (H : Heap 𝓤) (A : Atoms 𝓤) (W : Given
         split ! $ move ! (1 ∷ []) $ use1 W (raw (fact 𝓤 (IsCut r s))) (said-section r s) $ heard ! (IsCut r s) (λ f. split ! $ move ! (1 ∷ []) $
         peeks ! (Part κ) (Is (Part κ)) (shows 𝓤 H A (Part κ)) s (x ∷ []) (λ isS.
         land ! (from ! (stop !)) (init ! 6 refl (shr-slice-lawful 𝓤 H A W erased κ u8 .typed s _ isS .0)) $
-        -- the reader that is handed back, and all together: [what the section owns; the token; what the reader owns; what the answer owns; _6; …]
+        -- the reader that is handed back, and all together: [what the section owns; the token; what the reader owns;
+        -- what the answer owns; _6; …]
         assigns ! (agg ! (and-then ! (load ! (from ! (stop !)) (look ! 12 refl)) (and-then ! (load ! (from ! (fld ! refl (stop !))) (look-in ! 10 (sub ! 3 refl (whole !)))) (no-more !)))) (from ! (stop !)) (init ! 4 refl (LL.lawful (T.the-type αᵉ) (T′.the-laws αᵉ) 𝓤 H A W .typed (back (r .at)) _ ((v ∷ [], (vint w64 (r .at) ∷ [], tt)), (refl, (isP, (LL.owed E P′.the-laws r _ isR .1 .1 .1 .0, tt)))) .0)) $
         assigns ! (agg ! (and-then ! (load ! (from ! (stop !)) (look ! 6 refl)) (and-then ! (load ! (from ! (stop !)) (look ! 4 refl)) (and-then ! (load ! (from ! (fld ! refl (stop !))) (look-in ! 10 (sub ! 0 refl (whole !)))) (no-more !))))) (from ! (stop !)) (init ! 16 refl (LL.lawful (K.the-type (namedLft 1 0 tt (κ, tt))) (K′.the-laws (namedLft 1 0 tt (κ, tt))) 𝓤 H A W .typed (taken s (r .at) (r .answer)) _ ((x ∷ [], (back-val (vint w64 (r .at)) ∷ [], (ans r ∷ [], tt))), (refl, (isS, (((v ∷ [], (vint w64 (r .at) ∷ [], tt)), (refl, (isP, (LL.owed E P′.the-laws r _ isR .1 .1 .1 .0, tt)))), (LL.owed E P′.the-laws r _ isR .0, tt))))) .0)) $
         returns ! (look ! 16 refl) $ forget ! 4 refl $ forget ! 6 refl $ forget ! 8 refl $ forget ! 10 refl $ forget ! 12 refl $ forget ! 14 refl $ forget ! 16 refl $

@@ -1,5 +1,8 @@
--- `sections::reader::read_on` meets its contract: a walk of its MIR, by hand. A `Reader` is made in a local and passed to `next_section`, of which the proof knows only that it meets its contract; of what comes back, the answer, the section's length and the reader's index are handed on.
--- In a local of a body MIR erases the lifetime of a struct's type, so its values are shown to have the types at `erased`: what a struct owns does not say the lifetime's name.
+-- `sections::reader::read_on` meets its contract: a walk of its MIR, by hand. A `Reader` is made in a local and passed
+-- to `next_section`, of which the proof knows only that it meets its contract; of what comes back, the answer, the
+-- section's length and the reader's index are handed on.
+-- In a local of a body MIR erases the lifetime of a struct's type, so its values are shown to have the types at
+-- `erased`: what a struct owns does not say the lifetime's name.
 -- Assumes nothing.
 use mathlib.Core.Path.{_≡_, refl, ap}
 use Prim.Native.Nat.{ℕ, _<_, _^_}
@@ -105,7 +108,8 @@ module _ {M : Type 1} (𝓤 : URA M) (H : Heap 𝓤) (A : Atoms 𝓤) (W : Given
         qed W (raw (onEntry 𝓤 H A read.signature (κ, tt) (q, tt) (s, (n, tt)) here) ∷ []) ∵ enter ! C Λ code.function (machProof s ∷ vint w64 n ∷ []) _ $
         alloc1 ! (λ l₀. alloc1 ! (λ l₁. alloc1 ! (λ l₂. alloc1 ! (λ l₃. alloc1 ! (λ l₄. alloc1 ! (λ l₅. alloc1 ! (λ l₆. alloc1 ! (λ l₇. alloc0 ! $ params1 ! $
         pass1 ! (init ! 12 refl (shr-slice-lawful 𝓤 H A W (named 0) κ u8 .typed s _ isP .0)) $ pass1 ! (init ! 10 refl (tt, record { fits = ok })) $ pass0 ! $
-        -- [room for _7; …; room for _6; …; room for _5; …; room for _4; …; room for _3; …; _2; …; _1; …; room for _0; …; what is had on entry]
+        -- [room for _7; …; room for _6; …; room for _5; …; room for _4; …; room for _3; …; _2; …; _1; …; room for _0;
+        -- …; what is had on entry]
         assigns ! (agg ! (and-then ! (load ! (from ! (stop !)) (look ! 12 refl)) (and-then ! (load ! (from ! (stop !)) (look ! 10 refl)) (no-more !)))) (from ! (stop !)) (init ! 6 refl (tt, (shr-slice-lawful 𝓤 H A W (named 0) κ u8 .typed s _ isP .0 .1, (record { fits = ok }, tt)))) $
         move ! (16 ∷ []) $ use1 W (raw (NextSection 𝓤 H A mem run .pre (to 𝓤 H A mem run κ q s n)) ⊛ ‵ (Own κ s)) (goes 𝓤 H A W mem run κ q s n ok) $ split ! $
         calls-at ! fm (NextSection 𝓤 H A mem run) known (to 𝓤 H A mem run κ q s n) (and-then ! (load ! (from ! (stop !)) (look ! 8 refl)) (no-more !)) (λ u.

@@ -1,4 +1,5 @@
--- `sections::reader::read_sections` meets its contract. The loop's invariant: from where the reader stands, the lengths that are left have still to follow.
+-- `sections::reader::read_sections` meets its contract. The loop's invariant: from where the reader stands, the lengths
+-- that are left have still to follow.
 -- Assumes nothing.
 use mathlib.Core.Path.{_≡_, refl, ap, _∙_}
 use Prim.Native.Nat.{ℕ, _-_, _≤_, _<_}

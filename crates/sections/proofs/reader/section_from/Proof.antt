@@ -1,5 +1,8 @@
--- `sections::reader::section_from` meets its contract: a walk of its MIR, by hand. A `Reader` is made in a local and passed to `next_section`, of which the proof knows only that it meets its contract; of what comes back, the section is handed on.
--- In a local of a body MIR erases the lifetime of a struct's type, so its values are shown to have the types at `erased`: what a struct owns does not say the lifetime's name.
+-- `sections::reader::section_from` meets its contract: a walk of its MIR, by hand. A `Reader` is made in a local and
+-- passed to `next_section`, of which the proof knows only that it meets its contract; of what comes back, the section
+-- is handed on.
+-- In a local of a body MIR erases the lifetime of a struct's type, so its values are shown to have the types at
+-- `erased`: what a struct owns does not say the lifetime's name.
 -- Assumes nothing.
 use mathlib.Core.Path.{_≡_, refl, ap}
 use Prim.Native.Nat.{ℕ, _<_, _^_}

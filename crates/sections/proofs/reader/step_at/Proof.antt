@@ -1,4 +1,5 @@
--- `sections::reader::step_at` meets its contract: the section that `find` found; or the refusal 12, place 0, nothing, and no further.
+-- `sections::reader::step_at` meets its contract: the section that `find` found; or the refusal 12, place 0, nothing,
+-- and no further.
 -- Assumes nothing.
 use mathlib.Core.Path.{ap, _∙_}
 use native.Mathlib.Omega.{arith}

@@ -1,4 +1,5 @@
--- `sections::spare::spare_bits` meets its contract. The loop's invariant: what was found is 0 exactly where the rows passed have spare bits 0 (`SpareLaws`).
+-- `sections::spare::spare_bits` meets its contract. The loop's invariant: what was found is 0 exactly where the rows
+-- passed have spare bits 0 (`SpareLaws`).
 -- Assumes nothing.
 use mathlib.Core.Path.{_≡_}
 use Prim.Native.Nat.{_+_, _*_, _-_, _≤_}

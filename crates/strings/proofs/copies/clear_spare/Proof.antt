@@ -1,4 +1,5 @@
--- `strings::copies::clear_spare` meets its contract. The byte of coordinate n is cut to the bits below it; where n fills its bytes there is none.
+-- `strings::copies::clear_spare` meets its contract. The byte of coordinate n is cut to the bits below it; where n
+-- fills its bytes there is none.
 -- Assumes nothing.
 use Prim.Native.Nat.{_/_, _%_, _^_}
 use mathlib.Core.Path.{refl}

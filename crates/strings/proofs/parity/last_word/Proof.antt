@@ -1,4 +1,5 @@
--- `strings::parity::last_word` meets its contract: the bytes of the last word that are before `from` are shifted out (`WordLaws`).
+-- `strings::parity::last_word` meets its contract: the bytes of the last word that are before `from` are shifted out
+-- (`WordLaws`).
 -- Assumes nothing.
 use borrow.Author.Needs.{needs}
 use Prim.Native.Nat.{_+_, _*_, _/_, _-_, _^_}

@@ -1,4 +1,5 @@
--- `strings::parity::row_product` meets its contract: the parity of the ones that the rows share is their product, and is that of the sum of words (`ParityLaws`).
+-- `strings::parity::row_product` meets its contract: the parity of the ones that the rows share is their product, and
+-- is that of the sum of words (`ParityLaws`).
 -- Assumes nothing.
 use Prim.Native.Nat.{_+_, _*_, _/_, _-_, _%_}
 use mathlib.Core.Path.{_≡_, sym, ap, _∙_}

@@ -1,4 +1,5 @@
--- `strings::parity::shared_words` meets its contract. The invariant: the parity of the ones of the sum is that of the ones shared in the first i words.
+-- `strings::parity::shared_words` meets its contract. The invariant: the parity of the ones of the sum is that of the
+-- ones shared in the first i words.
 -- Assumes nothing.
 use borrow.Author.Needs.{needs}
 use Prim.Native.Nat.{_+_, _*_, _-_, _%_, _≤_}

@@ -1,4 +1,5 @@
--- `tables::opened::load_lane` meets its contract. u and the planes of v are those of the opened tree; then u takes C_e, and the planes δ·(u + C_e).
+-- `tables::opened::load_lane` meets its contract. u and the planes of v are those of the opened tree; then u takes C_e,
+-- and the planes δ·(u + C_e).
 -- Assumes nothing.
 use Prim.Native.Nat.{ℕ, _+_, _*_, _/_, _<_}
 use mathlib.Core.Path.{_≡_, refl, ap, ap₂, _∙_}

@@ -1,4 +1,5 @@
--- `tables::parts::put_lane` meets its contract. The invariant: the first i coordinates have their lane, the other lanes and the coordinates before are as they were.
+-- `tables::parts::put_lane` meets its contract. The invariant: the first i coordinates have their lane, the other lanes
+-- and the coordinates before are as they were.
 -- Assumes nothing.
 use borrow.Author.Needs.{needs}
 use Prim.Native.Nat.{_-_, _≤_}

@@ -1,4 +1,5 @@
--- `tables::parts::spread_parts` meets its contract. The invariant: lane e of the coordinates of the bytes before `at` is done, the other lanes are as they were.
+-- `tables::parts::spread_parts` meets its contract. The invariant: lane e of the coordinates of the bytes before `at`
+-- is done, the other lanes are as they were.
 -- Assumes nothing.
 use borrow.Author.Needs.{needs}
 use Prim.Native.Nat.{ℕ, _+_, _*_, _-_, _<_}

@@ -1,4 +1,5 @@
--- `trees::fours::add_fours` meets its contract. The invariant: where `Running` held of the leaves below `from`, it holds of those below j.
+-- `trees::fours::add_fours` meets its contract. The invariant: where `Running` held of the leaves below `from`, it
+-- holds of those below j.
 -- Assumes nothing.
 use borrow.Author.Needs.{needs}
 use Prim.Native.Nat.{ℕ, _+_, _*_, _-_, _%_, _≤_, _<_}

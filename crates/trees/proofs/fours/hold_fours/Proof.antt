@@ -1,4 +1,5 @@
--- `trees::fours::hold_fours` meets its contract. Sums of 0 are kept apart at first, and at the end each is added to the row of its planes.
+-- `trees::fours::hold_fours` meets its contract. Sums of 0 are kept apart at first, and at the end each is added to the
+-- row of its planes.
 -- Assumes nothing.
 use Prim.Native.Nat.{ℕ, _+_, _*_}
 use mathlib.Core.Path.{_≡_, ap, _∙_}

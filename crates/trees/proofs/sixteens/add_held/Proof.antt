@@ -1,4 +1,5 @@
--- `trees::sixteens::add_held` meets its contract. The invariant: i bytes of the row are changed, and the others are as they were.
+-- `trees::sixteens::add_held` meets its contract. The invariant: i bytes of the row are changed, and the others are as
+-- they were.
 -- Assumes nothing.
 use borrow.Author.Needs.{needs}
 use Prim.Native.Nat.{_+_, _*_, _-_, _≤_}

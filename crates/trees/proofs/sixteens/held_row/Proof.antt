@@ -1,4 +1,5 @@
--- `trees::sixteens::held_row` meets its contract. Which bits change is said by the zeros at the end of j + 1 (`SixteenLaws`).
+-- `trees::sixteens::held_row` meets its contract. Which bits change is said by the zeros at the end of j + 1
+-- (`SixteenLaws`).
 -- Assumes nothing.
 use borrow.Author.Needs.{needs}
 use Prim.Native.Nat.{_+_, _-_}

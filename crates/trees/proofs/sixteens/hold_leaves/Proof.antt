@@ -1,4 +1,5 @@
--- `trees::sixteens::hold_leaves` meets its contract. The invariant: where `Running` held of the leaves below `from`, it holds of those below j.
+-- `trees::sixteens::hold_leaves` meets its contract. The invariant: where `Running` held of the leaves below `from`, it
+-- holds of those below j.
 -- Assumes nothing.
 use borrow.Author.Needs.{needs}
 use Prim.Native.Nat.{_+_, _-_, _≤_}

@@ -1,4 +1,5 @@
--- `trees::sixteens::put_planes` meets its contract. The invariant: sum is that of the rows 0, .., k, and the planes from r - k on are done.
+-- `trees::sixteens::put_planes` meets its contract. The invariant: sum is that of the rows 0, .., k, and the planes
+-- from r - k on are done.
 -- Assumes nothing.
 use borrow.Author.Needs.{needs}
 use Prim.Native.Nat.{ℕ, _+_, _*_, _-_, _≤_, _<_}
