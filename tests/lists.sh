@@ -238,7 +238,7 @@ for file in $header $page SECURITY.md bindings/rust/src/lib.rs; do
     [ "$(grep -o '[0-9]* KiB' "$file" | sort -u)" = "$kib KiB" ] ||
         { echo "$file: not $kib KiB of stack" >&2 && exit 1; }
 done
-most=$(sed -n 's/^const MOST: usize = \([0-9]*\);$/\1/p' crates/checking/src/input.rt)
+most=$(sed -n 's/^const MOST_INPUT: usize = \([0-9]*\);$/\1/p' crates/checking/src/input.rt)
 [ "$(grep -o '[0-9][0-9,]* bytes' docs/man/mqcheck.1 | tr -d , | sort -u)" = "$most bytes" ] ||
     { echo "mqcheck.1: not $most bytes" >&2 && exit 1; }
 echo "limits, $kib KiB of stack and the check program's $most bytes: as in the header and the code"

@@ -15,7 +15,7 @@ use sections::find;
 use sections::section_no;
 
 // The most bytes that are taken, counts included.
-const MOST: usize = 65536;
+const MOST_INPUT: usize = 65536;
 
 // Reads as many sections as lengths has room for, one at a time, by the counts that stand there. Are they all whole,
 // and is nothing left over? Then lengths has their lengths.
@@ -55,7 +55,7 @@ fn verify_sections(input: &[u8], lengths: &[usize]) -> Verdict
 pub fn read_and_verify(input: &[u8]) -> Checked
     ensures { λ r. ⌜ checkedOf r ≡ checkOf bits256 (now (input .entry)) ⌝ }
 {
-    if MOST < input.len() {
+    if MOST_INPUT < input.len() {
         return Checked::Unread;
     }
     let mut lengths = [0usize; 6];

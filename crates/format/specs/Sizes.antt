@@ -1,8 +1,16 @@
 -- The sizes that the code carries, as the shape of a key.
 --   shapeFor sizes == n, m, τ, t of 01
+--   SizesOf key sizes == the sizes are those in the key's header, where it has one
 -- Assumes nothing.
-use Rattle.protocol.specs.Shape.{Shape}
+use mathlib.Core.Path.{_≡_}
+use mathlib.Core.List.{List}
+use Prim.Native.Nat.{ℕ, _≤_}
+use lib.ListN.{length}
+use Rattle.protocol.specs.Shape.{Shape, shapeOf}
 use Rattle.format.specs.declared.sizes.Sizes.{Sizes}
 
 abbrev pub shapeFor : Sizes → Shape
 shapeFor s = record { n = s .n; m = s .m; τ = s .tau; t = s .t }
+
+abbrev pub SizesOf : List ℕ → Sizes → Type 0
+SizesOf key s = 8 ≤ length key → shapeFor s ≡ shapeOf key

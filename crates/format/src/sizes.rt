@@ -2,13 +2,12 @@
 ghost use mathlib.Core.Path.{_≡_};
 ghost use mathlib.Core.Bool.{true};
 ghost use Prim.Native.Nat.{_+_, _*_, _<_, _≤_, _^_};
-ghost use lib.ListN.{length};
 ghost use Rattle.protocol.specs.Strings.{bytesFor};
 ghost use Rattle.protocol.specs.Binary.{bits256};
-ghost use Rattle.protocol.specs.Shape.{shapeOf, within, limits, kOf, lOf, wOf};
+ghost use Rattle.protocol.specs.Shape.{within, limits, kOf, lOf, wOf};
 ghost use Rattle.protocol.specs.Key.{keyLengths};
 ghost use Rattle.protocol.specs.Sections.{lengths, commitLengths, hashLengths, batchLengths};
-ghost use Rattle.format.specs.Sizes.{shapeFor};
+ghost use Rattle.format.specs.Sizes.{shapeFor, SizesOf};
 use super::numbers::number2;
 use field::Gf256;
 
@@ -34,11 +33,21 @@ pub const MOST_LEAF: usize = (MOST_VARIABLES + Gf256::DEGREE + MOST_HASH_ROWS + 
 
 pub const MOST_ROW: usize = (MOST_VARIABLES + Gf256::DEGREE + 7) / 8;
 
-// The sizes in a key's header.
+// The bytes of n, m, τ, t at the start of a key.
+pub const HEADER: usize = 8;
+
+// The sizes in a key's header. A key too short to have one, which question 1 refuses, gives zeros.
 pub fn sizes_of(key: &[u8]) -> Sizes
-    requires { ⌜ 8 ≤ length (now key) ⌝ }
-    ensures { λ r. ⌜ shapeFor r ≡ shapeOf (now (key .entry)) ⌝ }
+    ensures { λ r. ⌜ SizesOf (now (key .entry)) r ⌝ }
 {
+    if key.len() < HEADER {
+        return Sizes {
+            n: 0,
+            m: 0,
+            tau: 0,
+            t: 0,
+        };
+    }
     Sizes {
         n: number2(key, 0),
         m: number2(key, 2),

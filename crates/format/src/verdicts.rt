@@ -8,7 +8,8 @@ ghost use Rattle.format.specs.Verdict.{numberFor, answerOf};
 use super::Reason;
 use super::Verdict;
 
-// The refusal with this reason and the place `first`, the first repetition that fails; accepted where it is their number `tau`.
+// The refusal with this reason and the place `first`, the first repetition that fails; accepted where it is their
+// number `tau`.
 pub fn answer(reason: Reason, first: usize, tau: usize) -> Verdict
     requires { ⌜ tau < 65536 ⌝ }
     ensures { λ r. ⌜ answerOf r ≡ ask (question (leb tau first) (numberFor reason) first ∷ []) ⌝ }

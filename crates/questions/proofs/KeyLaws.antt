@@ -1,8 +1,8 @@
 -- What questions 1 to 3 give of a key: its sections stand where the sizes say.
 -- Assumes nothing.
 use mathlib.Core.Path.{_≡_, sym, subst}
-use mathlib.Core.List.{List, _++_}
-use Prim.Native.Nat.{ℕ, _-_}
+use mathlib.Core.List.{List}
+use Prim.Native.Nat.{ℕ, _-_, _≤_}
 use native.Mathlib.Omega.{arith}
 use lib.ListN.{length, take, drop, length-drop}
 use lib.Seq.{take-all}
@@ -10,11 +10,13 @@ use Rattle.protocol.specs.Frames.{framedLength}
 use Rattle.protocol.specs.Binary.{bits256}
 use Rattle.protocol.specs.Shape.{Shape, shapeOf}
 use Rattle.protocol.specs.Key.{keyLengths, keyExact}
-use Rattle.protocol.specs.Answers.{Question, accepted, ask}
+use Rattle.protocol.specs.Answers.{accepted, ask}
 use Rattle.protocol.proofs.TestLaws.{leb-le}
 use Rattle.protocol.proofs.AnswerLaws.{ask-accepts, all-yes}
 use Rattle.questions.specs.Asking.{keyQuestions, SizedKey, KeyForm}
 use Rattle.questions.specs.Facts.{KeyFacts}
+use Rattle.format.specs.Sizes.{shapeFor, SizesOf}
+use Rattle.format.specs.declared.sizes.Sizes.{Sizes}
 use Rattle.sections.proofs.SectionLaws.{framed-length}
 
 -- a part that goes up to the end
@@ -25,15 +27,22 @@ pub sections-length : (s : Shape) (key : List ℕ) → SizedKey s key → length
 unfolding keyExact
 sections-length s key f = framed-length (keyLengths bits256 s) (drop 8 key) (f .exact)
 
--- sizes that are those in the header
-pub facts-sized : (s : Shape) (key : List ℕ) → s ≡ shapeOf key → KeyFacts (shapeOf key) key → SizedKey s key
-facts-sized s key e f = subst (λ (z : Shape). SizedKey z key) (sym e) (record { header = f .header; sizes = f .in-range; exact = f .key-exact })
+pub facts-sized : (s : Shape) (key : List ℕ) → KeyFacts s key → SizedKey s key
+facts-sized s key f = record { header = f .header; sizes = f .in-range; exact = f .key-exact }
 
+-- sizes that are those in the header
 pub sized-key : (s : Shape) (key : List ℕ) → s ≡ shapeOf key → KeyForm key → SizedKey s key
 sized-key s key e f = subst (λ (z : Shape). SizedKey z key) (sym e) f
 
--- from the acceptance of any call's questions on form: those on the key come first
-pub key-formed : (key : List ℕ) (rest : List Question) → ask (keyQuestions key ++ rest) ≡ accepted → KeyForm key
-key-formed key rest h =
-    let y = all-yes (keyQuestions key ++ rest) (ask-accepts (keyQuestions key ++ rest) .0 h) in
-    record { header = leb-le 8 (length key) (y .0); sizes = y .1 .0; exact = y .1 .1 .0 }
+-- from the acceptance of the questions on the key
+pub key-facts : (key : List ℕ) → ask (keyQuestions key) ≡ accepted → KeyFacts (shapeOf key) key
+key-facts key h =
+    let y = all-yes (keyQuestions key) (ask-accepts (keyQuestions key) .0 h) in
+    record { header = leb-le 8 (length key) (y .0); in-range = y .1 .0; key-exact = y .1 .1 .0; key-spare = y .1 .1 .1 .0 }
+
+-- what holds by the sizes in the header holds by those that were read from it
+pub by-sizes : (P : Shape → Type 0) (s : Sizes) (key : List ℕ) → SizesOf key s → 8 ≤ length key → P (shapeOf key) → P (shapeFor s)
+by-sizes P s key of h f = subst P (sym (of h)) f
+
+pub key-sized : (s : Sizes) (key : List ℕ) → SizesOf key s → ask (keyQuestions key) ≡ accepted → KeyFacts (shapeFor s) key
+key-sized s key of h = by-sizes (λ z. KeyFacts z key) s key of (key-facts key h .header) (key-facts key h)

@@ -2,6 +2,8 @@
 --   keyQuestions key == questions 1 to 4;  outputQuestion ls n == question 10, of an output of n bytes
 --   commitInputs s .., hashInputs, batchInputs, proveInputs, verifyInputs == the questions of a call after those on the key, by the sizes s
 --   proofQuestions s proof == questions 12 and 13
+--   CommitAsked .. n a, HashAsked, BatchAsked, ProveAsked == a is the answer to the call's questions on form, for every
+--     output of n bytes
 --   SizedKey s key == the key has a header, the sizes s are in range, and by them its sections are exact
 --   KeyForm key == what questions 1 to 3 ask of a key: so it is by the sizes in its own header
 -- Assumes nothing.
@@ -16,7 +18,8 @@ use Rattle.protocol.specs.Binary.{bits256}
 use Rattle.protocol.specs.Shape.{Shape, shapeOf, limits, perTree, perOpened}
 use Rattle.protocol.specs.Sections.{lengths, commitLengths, hashLengths, batchLengths}
 use Rattle.protocol.specs.Key.{keyExact}
-use Rattle.protocol.specs.Answers.{Question, question}
+use Rattle.protocol.specs.Answers.{Answer, Question, question, ask}
+use Rattle.protocol.specs.Calls.{commitQuestions, hashQuestions, batchQuestions, proveQuestions}
 use Rattle.protocol.specs.Questions.{ΔExact, hExact, χExact, q1, q2, q3, q4, q5, q6, q7, q8, q9, q12, q13}
 
 abbrev pub keyQuestions : List ℕ → List Question
@@ -53,6 +56,19 @@ module _ (s : Shape) where
 
   abbrev pub proofQuestions : List ℕ → List Question
   proofQuestions proof = q12 bits256 s proof ∷ q13 bits256 s proof ∷ []
+
+module _ (key : List ℕ) where
+  abbrev pub CommitAsked : List ℕ → List ℕ → ℕ → Answer → Type 0
+  CommitAsked leaves x n a = (out : List ℕ) → length out ≡ n → a ≡ ask (commitQuestions bits256 key leaves x out)
+
+  abbrev pub HashAsked : List ℕ → List ℕ → ℕ → Answer → Type 0
+  HashAsked leaves H′ n a = (out : List ℕ) → length out ≡ n → a ≡ ask (hashQuestions bits256 key leaves H′ out)
+
+  abbrev pub BatchAsked : List ℕ → List ℕ → List ℕ → ℕ → Answer → Type 0
+  BatchAsked leaves x χ n a = (out : List ℕ) → length out ≡ n → a ≡ ask (batchQuestions bits256 key leaves x χ out)
+
+  abbrev pub ProveAsked : List ℕ → List ℕ → List ℕ → List ℕ → ℕ → Answer → Type 0
+  ProveAsked leaves x H′ χ n a = (out : List ℕ) → length out ≡ n → a ≡ ask (proveQuestions bits256 key leaves x H′ χ out)
 
 pub record SizedKey (s : Shape) (key : List ℕ) : Type 0 where
   pub header : 8 ≤ length key

@@ -1,16 +1,13 @@
 // The questions on form of each call, in 01's order: all of its questions but 11 to 15.
 ghost use mathlib.Core.Path.{_≡_};
 ghost use mathlib.Core.Bool.{true};
-ghost use mathlib.Core.List.{List};
-ghost use Prim.Native.Nat.{ℕ};
-ghost use lib.ListN.{length};
 ghost use Rattle.protocol.specs.Binary.{bits256};
 ghost use Rattle.protocol.specs.Shape.{limits};
 ghost use Rattle.protocol.specs.Answers.{ask};
-ghost use Rattle.protocol.specs.Calls.{testQuestions, commitQuestions, hashQuestions, batchQuestions, proveQuestions};
-ghost use Rattle.format.specs.Sizes.{shapeFor};
+ghost use Rattle.protocol.specs.Calls.{testQuestions};
+ghost use Rattle.format.specs.Sizes.{shapeFor, SizesOf};
 ghost use Rattle.format.specs.Verdict.{answerOf};
-ghost use Rattle.questions.specs.Asking.{commitInputs, hashInputs, batchInputs, proveInputs, verifyInputs};
+ghost use Rattle.questions.specs.Asking.{commitInputs, hashInputs, batchInputs, proveInputs, verifyInputs, CommitAsked, HashAsked, BatchAsked, ProveAsked};
 use super::inputs::batching_exact;
 use super::inputs::challenge_exact;
 use super::inputs::hash_matrix_exact;
@@ -23,7 +20,6 @@ use format::Reason;
 use format::Verdict;
 use format::also;
 use format::sizes::Sizes;
-use format::sizes::sizes_of;
 use sections::outputs::batch_bytes;
 use sections::outputs::commit_bytes;
 use sections::outputs::hash_bytes;
@@ -96,36 +92,39 @@ pub fn verify_inputs(
 }
 
 // The call that tests a key and a witness: questions 1 to 4, 9.
-pub fn test_form(key: &[u8], witness: &[u8]) -> Verdict
+pub fn test_form(key: &[u8], witness: &[u8], s: Sizes) -> Verdict
+    requires { ⌜ SizesOf (now key) s ⌝ }
     ensures { λ r. ⌜ answerOf r ≡ ask (testQuestions bits256 (now (key .entry)) (now (witness .entry))) ⌝ }
 {
-    let asked = key_form(key);
+    let asked = key_form(key, s);
     let Verdict::Accepted = asked else {
         return asked;
     };
-    witness_form(asked, witness, sizes_of(key))
+    witness_form(asked, witness, s)
 }
 
 // The first step: questions 1 to 4, 7 to 10. Of the output only its length is asked.
-pub fn commit_form(key: &[u8], leaves: &[u8], witness: &[u8], out_len: usize) -> Verdict
-    ensures { λ r. ⌜ ((out : List ℕ) → length out ≡ «out_len» → answerOf r ≡ ask (commitQuestions bits256 (now (key .entry)) (now (leaves .entry)) (now (witness .entry)) out)) ⌝ }
+pub fn commit_form(key: &[u8], leaves: &[u8], witness: &[u8], out_len: usize, s: Sizes) -> Verdict
+    requires { ⌜ SizesOf (now key) s ⌝ }
+    ensures { λ r. ⌜ CommitAsked (now (key .entry)) (now (leaves .entry)) (now (witness .entry)) «out_len» (answerOf r) ⌝ }
 {
-    let asked = key_form(key);
+    let asked = key_form(key, s);
     let Verdict::Accepted = asked else {
         return asked;
     };
-    commit_inputs(leaves, witness, out_len, sizes_of(key))
+    commit_inputs(leaves, witness, out_len, s)
 }
 
 // The second step: questions 1 to 8, 10.
-pub fn hash_form(key: &[u8], leaves: &[u8], hash_matrix: &[u8], out_len: usize) -> Verdict
-    ensures { λ r. ⌜ ((out : List ℕ) → length out ≡ «out_len» → answerOf r ≡ ask (hashQuestions bits256 (now (key .entry)) (now (leaves .entry)) (now («hash_matrix» .entry)) out)) ⌝ }
+pub fn hash_form(key: &[u8], leaves: &[u8], hash_matrix: &[u8], out_len: usize, s: Sizes) -> Verdict
+    requires { ⌜ SizesOf (now key) s ⌝ }
+    ensures { λ r. ⌜ HashAsked (now (key .entry)) (now (leaves .entry)) (now («hash_matrix» .entry)) «out_len» (answerOf r) ⌝ }
 {
-    let asked = key_form(key);
+    let asked = key_form(key, s);
     let Verdict::Accepted = asked else {
         return asked;
     };
-    hash_inputs(leaves, hash_matrix, out_len, sizes_of(key))
+    hash_inputs(leaves, hash_matrix, out_len, s)
 }
 
 // The third step: questions 1 to 5, 7 to 10.
@@ -135,14 +134,16 @@ pub fn batch_form(
     witness: &[u8],
     batching: &[u8],
     out_len: usize,
+    s: Sizes,
 ) -> Verdict
-    ensures { λ r. ⌜ ((out : List ℕ) → length out ≡ «out_len» → answerOf r ≡ ask (batchQuestions bits256 (now (key .entry)) (now (leaves .entry)) (now (witness .entry)) (now (batching .entry)) out)) ⌝ }
+    requires { ⌜ SizesOf (now key) s ⌝ }
+    ensures { λ r. ⌜ BatchAsked (now (key .entry)) (now (leaves .entry)) (now (witness .entry)) (now (batching .entry)) «out_len» (answerOf r) ⌝ }
 {
-    let asked = key_form(key);
+    let asked = key_form(key, s);
     let Verdict::Accepted = asked else {
         return asked;
     };
-    batch_inputs(leaves, witness, batching, out_len, sizes_of(key))
+    batch_inputs(leaves, witness, batching, out_len, s)
 }
 
 // The whole call: questions 1 to 10.
@@ -153,19 +154,14 @@ pub fn prove_form(
     hash_matrix: &[u8],
     batching: &[u8],
     out_len: usize,
+    s: Sizes,
 ) -> Verdict
-    ensures { λ r. ⌜ ((out : List ℕ) → length out ≡ «out_len» → answerOf r ≡ ask (proveQuestions bits256 (now (key .entry)) (now (leaves .entry)) (now (witness .entry)) (now («hash_matrix» .entry)) (now (batching .entry)) out)) ⌝ }
+    requires { ⌜ SizesOf (now key) s ⌝ }
+    ensures { λ r. ⌜ ProveAsked (now (key .entry)) (now (leaves .entry)) (now (witness .entry)) (now («hash_matrix» .entry)) (now (batching .entry)) «out_len» (answerOf r) ⌝ }
 {
-    let asked = key_form(key);
+    let asked = key_form(key, s);
     let Verdict::Accepted = asked else {
         return asked;
     };
-    prove_inputs(
-        leaves,
-        witness,
-        hash_matrix,
-        batching,
-        out_len,
-        sizes_of(key),
-    )
+    prove_inputs(leaves, witness, hash_matrix, batching, out_len, s)
 }

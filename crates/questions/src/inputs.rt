@@ -1,4 +1,5 @@
-// Questions 5 to 10 of 01, one input at a time. Each takes the answer so far, and puts its own only where that is accepted.
+// Questions 5 to 10 of 01, one input at a time. Each takes the answer so far, and puts its own only where that is
+// accepted.
 ghost use mathlib.Core.Path.{_≡_};
 ghost use mathlib.Core.Bool.{true};
 ghost use mathlib.Core.List.{[], _∷_};
@@ -45,7 +46,8 @@ pub fn batching_exact(batching: &[u8], s: Sizes) -> bool
     batching.len() == batching_bytes(s)
 }
 
-// Questions 5 and 6 of a call that takes H′: `exact` is what question 5 asks, of H′ and of the call's other challenges.
+// Questions 5 and 6 of a call that takes H′: `exact` is what question 5 asks, of H′ and of the call's other
+// challenges.
 pub fn hash_matrix_form(exact: bool, hash_matrix: &[u8], s: Sizes) -> Verdict
     requires { ⌜ (limits (shapeFor s) ≡ true) × (exact ≡ true → hExact bits256 (shapeFor s) (now «hash_matrix») ≡ true) ⌝ }
     ensures { λ r. ⌜ answerOf r ≡ ask (question exact 5 0 ∷ q6 bits256 (shapeFor s) (now («hash_matrix» .entry)) ∷ []) ⌝ }

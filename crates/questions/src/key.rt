@@ -9,25 +9,22 @@ ghost use Rattle.protocol.specs.Binary.{bits256};
 ghost use Rattle.protocol.specs.Shape.{limits};
 ghost use Rattle.protocol.specs.Key.{keyLengths, keySpare, sectionA, sectionB, sectionY};
 ghost use Rattle.protocol.specs.Answers.{ask};
-ghost use Rattle.format.specs.Sizes.{shapeFor};
+ghost use Rattle.format.specs.Sizes.{shapeFor, SizesOf};
 ghost use Rattle.format.specs.Verdict.{answerOf};
 ghost use Rattle.questions.specs.Asking.{keyQuestions, SizedKey};
 use format::Reason;
 use format::Verdict;
 use format::also;
 use format::refuse;
+use format::sizes::HEADER;
 use format::sizes::Sizes;
 use format::sizes::in_limits;
 use format::sizes::key_lengths;
-use format::sizes::sizes_of;
 use sections::framed_length;
 use sections::section_no;
 use sections::sections_form;
 use sections::spare::row_spare;
 use sections::spare::rows_spare;
-
-// The bytes of n, m, τ, t.
-const HEADER: usize = 8;
 
 // The bytes of a key of these sizes.
 pub fn key_bytes(s: Sizes) -> usize
@@ -84,13 +81,13 @@ pub fn key_spare(key: &[u8], s: Sizes) -> bool
 }
 
 // Questions 1 to 4.
-pub fn key_form(key: &[u8]) -> Verdict
+pub fn key_form(key: &[u8], s: Sizes) -> Verdict
+    requires { ⌜ SizesOf (now key) s ⌝ }
     ensures { λ r. ⌜ answerOf r ≡ ask (keyQuestions (now (key .entry))) ⌝ }
 {
     if key.len() < HEADER {
         return refuse(Reason::ShortHeader, 0);
     }
-    let s = sizes_of(key);
     if !in_limits(s) {
         return refuse(Reason::SizeOutOfRange, 0);
     }

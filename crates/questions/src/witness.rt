@@ -1,15 +1,17 @@
-// Question 11: does the witness solve the system? Every equation is looked at; that the answer, place included, is told is 01's rule.
+// Question 11: does the witness solve the system? Every equation is looked at; that the answer, place
+// included, is told is 01's rule.
 ghost use mathlib.Core.Path.{_≡_};
 ghost use Prim.Native.Nat.{_≤_};
 ghost use lib.ListN.{length};
-ghost use Rattle.protocol.specs.Shape.{shapeOf};
+ghost use Rattle.format.specs.Sizes.{shapeFor, SizesOf};
 ghost use Rattle.format.specs.Verdict.{answerOf};
-ghost use Rattle.questions.specs.Facts.{KeyFacts, WitnessForm};
+ghost use Rattle.questions.specs.Facts.{TestFacts};
 ghost use Rattle.questions.specs.Solved.{ErrorsAs, SolvedAs};
 use equations::Found;
 use format::Reason;
 use format::Verdict;
 use format::sizes::MOST_EQUATIONS;
+use format::sizes::Sizes;
 
 // The answer that the errors of the equations give: accepted, or refused 11 with the first that fails.
 fn answer(errors: &[u8]) -> Verdict
@@ -23,11 +25,10 @@ fn answer(errors: &[u8]) -> Verdict
     }
 }
 
-fn test_equations(errors: &mut [u8], key: &[u8], witness: &[u8]) -> Verdict
-    requires { ⌜ KeyFacts (shapeOf (now key)) (now key) × WitnessForm (shapeOf (now key)) (now witness) × (length (now errors) ≡ shapeOf (now key) .m) ⌝ }
+fn test_equations(errors: &mut [u8], key: &[u8], witness: &[u8], s: Sizes) -> Verdict
+    requires { ⌜ SizesOf (now key) s × TestFacts (shapeFor s) (now key) (now witness) × (length (now errors) ≡ s .m) ⌝ }
     ensures { λ r. ⌜ SolvedAs (now (key .entry)) (now (witness .entry)) (answerOf r) ⌝ }
 {
-    let s = format::sizes::sizes_of(key);
     let n = s.n;
     equations::equation_errors(
         errors,
@@ -41,12 +42,11 @@ fn test_equations(errors: &mut [u8], key: &[u8], witness: &[u8]) -> Verdict
 }
 
 // Accepted, or refused 11 with an equation that fails.
-pub fn solved(key: &[u8], witness: &[u8]) -> Verdict
-    requires { ⌜ KeyFacts (shapeOf (now key)) (now key) × WitnessForm (shapeOf (now key)) (now witness) ⌝ }
+pub fn solved(key: &[u8], witness: &[u8], s: Sizes) -> Verdict
+    requires { ⌜ SizesOf (now key) s × TestFacts (shapeFor s) (now key) (now witness) ⌝ }
     ensures { λ r. ⌜ SolvedAs (now (key .entry)) (now (witness .entry)) (answerOf r) ⌝ }
 {
-    let s = format::sizes::sizes_of(key);
     let m = s.m;
     let mut errors = [0u8; MOST_EQUATIONS];
-    test_equations(&mut errors[..m], key, witness)
+    test_equations(&mut errors[..m], key, witness, s)
 }

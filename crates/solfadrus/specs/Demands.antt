@@ -17,8 +17,9 @@ use Rattle.protocol.specs.Shape.{Shape, shapeOf}
 use Rattle.protocol.specs.Prover.{sectionsOf, commitBytes, hashBytes, batchBytes, proofOf}
 use Rattle.protocol.specs.Sections.{lengths}
 use Rattle.protocol.specs.Answers.{Answer, Question, allYes, word, Published}
-use Rattle.protocol.specs.Questions.{fails, consistentIn, productIn, q11, q14, q15}
-use Rattle.protocol.specs.Calls.{testQuestions, commitQuestions, hashQuestions, batchQuestions, proveQuestions, verifyQuestions, hashAnswer, verifyAnswer, TestReply, CommitReply, BatchReply, ProveReply, testForm, commitForm, batchForm, proveForm, verifyForm}
+use Rattle.protocol.specs.Questions.{fails, consistentIn, productIn}
+use Rattle.protocol.specs.Calls.{hashQuestions, testPuts, commitPuts, batchPuts, provePuts, verifyPuts, hashAnswer, verifyAnswer}
+use Rattle.protocol.specs.Calls.{TestReply, CommitReply, BatchReply, ProveReply, testForm, commitForm, batchForm, proveForm, verifyForm}
 use Rattle.protocol.specs.Counting.{opening}
 use Rattle.protocol.specs.Statements.{FirstNo, FirstFailing, SomeFails}
 use Rattle.sections.specs.Reading.{Reads}
@@ -63,13 +64,13 @@ pub record EveryAnswerListed : Type 0 where
 
 -- "Each call puts those that concern its inputs, in this order. A no ends the call with that number."
 pub record EveryQuestionPut : Type 0 where
-  pub test-put : (key x : List ℕ) (r : ℕ) → TestTold key x r → Asked (λ p. testQuestions bits256 key x ++ (q11 bits256 (shapeOf key) key x p ∷ [])) r
-  pub commit-put : (key leaves x before after : List ℕ) (r : ℕ) → CommitWrites key leaves x before after r → Asked (λ p. commitQuestions bits256 key leaves x before ++ (q11 bits256 (shapeOf key) key x p ∷ [])) r
+  pub test-put : (key x : List ℕ) (r : ℕ) → TestTold key x r → Asked (testPuts bits256 key x) r
+  pub commit-put : (key leaves x before after : List ℕ) (r : ℕ) → CommitWrites key leaves x before after r → Asked (commitPuts bits256 key leaves x before) r
   pub hash-put : (key leaves H′ before after : List ℕ) (r : ℕ) → HashWrites key leaves H′ before after r → Asked (λ p. hashQuestions bits256 key leaves H′ before) r
-  pub batch-put : (key leaves x χ before after : List ℕ) (r : ℕ) → BatchWrites key leaves x χ before after r → Asked (λ p. batchQuestions bits256 key leaves x χ before ++ (q11 bits256 (shapeOf key) key x p ∷ [])) r
-  pub prove-put : (key leaves x H′ χ before after : List ℕ) (r : ℕ) → ProveWrites key leaves x H′ χ before after r → Asked (λ p. proveQuestions bits256 key leaves x H′ χ before ++ (q11 bits256 (shapeOf key) key x p ∷ [])) r
+  pub batch-put : (key leaves x χ before after : List ℕ) (r : ℕ) → BatchWrites key leaves x χ before after r → Asked (batchPuts bits256 key leaves x χ before) r
+  pub prove-put : (key leaves x H′ χ before after : List ℕ) (r : ℕ) → ProveWrites key leaves x H′ χ before after r → Asked (provePuts bits256 key leaves x H′ χ before) r
   pub verify-put : (key Δ H′ χ opened proof : List ℕ) (r : ℕ) → VerifyTold key Δ H′ χ opened proof r
-      → Asked (λ p. verifyQuestions bits256 key Δ H′ χ opened proof ++ (q14 bits256 (shapeOf key) Δ H′ opened proof ∷ q15 bits256 (shapeOf key) key Δ χ opened proof ∷ [])) r
+      → Asked (λ p. verifyPuts bits256 key Δ H′ χ opened proof) r
 
 -- Each place of that list means what the list says: no call names an equation that holds or a repetition in which the check holds.
 pub record PlacesNamed : Type 0 where

@@ -1,23 +1,25 @@
-// The calls: the questions in 01's order, and then the bytes. Question 11, the last, is answered before a section is computed.
+// The calls: the questions in 01's order, and then the bytes. Question 11, the last, is answered before a
+// section is computed.
 ghost use mathlib.Core.Path.{_≡_};
 ghost use Rattle.protocol.specs.Binary.{bits256};
-ghost use Rattle.protocol.specs.Prover.{commitBytes, hashBytes, batchBytes, proofOf};
-ghost use Rattle.protocol.specs.Answers.{written};
 ghost use Rattle.protocol.specs.Calls.{hashAnswer, TestReply, CommitReply, BatchReply, ProveReply};
 ghost use Rattle.format.specs.Verdict.{answerOf};
+ghost use Rattle.solfadrus.specs.Told.{CommitWritten, HashWritten, BatchWritten, ProveWritten};
 use format::Verdict;
+use format::sizes::sizes_of;
 use questions::witness::solved;
 
 // The second step (01): hash with H′. It takes no witness, and writes the sections ũ and Ṽ.
 pub fn hash(key: &[u8], leaves: &[u8], matrix: &[u8], out: &mut [u8]) -> Verdict
     ensures { λ r. ⌜ answerOf r ≡ hashAnswer bits256 (now (key .entry)) (now (leaves .entry)) (now (matrix .entry)) (now (out .entry)) ⌝ }
-    ensures { λ r. ⌜ now (out .exit) ≡ written (answerOf r) (now (out .entry)) (hashBytes bits256 (now (key .entry)) (now (leaves .entry)) (now (matrix .entry))) ⌝ }
+    ensures { λ r. ⌜ HashWritten (now (key .entry)) (now (leaves .entry)) (now (matrix .entry)) (now (out .entry)) (now (out .exit)) (answerOf r) ⌝ }
 {
-    let form = questions::calls::hash_form(key, leaves, matrix, out.len());
+    let s = sizes_of(key);
+    let form = questions::calls::hash_form(key, leaves, matrix, out.len(), s);
     let Verdict::Accepted = form else {
         return form;
     };
-    prover::hash(out, leaves, matrix, format::sizes::sizes_of(key));
+    prover::hash(out, leaves, matrix, s);
     form
 }
 
@@ -25,51 +27,47 @@ pub fn hash(key: &[u8], leaves: &[u8], matrix: &[u8], out: &mut [u8]) -> Verdict
 pub fn test(key: &[u8], witness: &[u8]) -> Verdict
     ensures { λ r. ⌜ TestReply bits256 (now (key .entry)) (now (witness .entry)) (answerOf r) ⌝ }
 {
-    let form = questions::calls::test_form(key, witness);
+    let s = sizes_of(key);
+    let form = questions::calls::test_form(key, witness, s);
     let Verdict::Accepted = form else {
         return form;
     };
-    solved(key, witness)
+    solved(key, witness, s)
 }
 
 // The first step (01): commit. It takes the witness, and writes the sections C and d.
 pub fn commit(key: &[u8], leaves: &[u8], witness: &[u8], out: &mut [u8]) -> Verdict
     ensures { λ r. ⌜ CommitReply bits256 (now (key .entry)) (now (leaves .entry)) (now (witness .entry)) (now (out .entry)) (answerOf r) ⌝ }
-    ensures { λ r. ⌜ now (out .exit) ≡ written (answerOf r) (now (out .entry)) (commitBytes bits256 (now (key .entry)) (now (leaves .entry)) (now (witness .entry))) ⌝ }
+    ensures { λ r. ⌜ CommitWritten (now (key .entry)) (now (leaves .entry)) (now (witness .entry)) (now (out .entry)) (now (out .exit)) (answerOf r) ⌝ }
 {
-    let form = questions::calls::commit_form(key, leaves, witness, out.len());
+    let s = sizes_of(key);
+    let form = questions::calls::commit_form(key, leaves, witness, out.len(), s);
     let Verdict::Accepted = form else {
         return form;
     };
-    let answer = solved(key, witness);
+    let answer = solved(key, witness, s);
     let Verdict::Accepted = answer else {
         return answer;
     };
-    prover::commit(out, leaves, witness, format::sizes::sizes_of(key));
+    prover::commit(out, leaves, witness, s);
     answer
 }
 
 // The third step (01): batch. It takes the witness, and writes the sections QS0 and QS1.
 pub fn batch(key: &[u8], leaves: &[u8], witness: &[u8], batching: &[u8], out: &mut [u8]) -> Verdict
     ensures { λ r. ⌜ BatchReply bits256 (now (key .entry)) (now (leaves .entry)) (now (witness .entry)) (now (batching .entry)) (now (out .entry)) (answerOf r) ⌝ }
-    ensures { λ r. ⌜ now (out .exit) ≡ written (answerOf r) (now (out .entry)) (batchBytes bits256 (now (key .entry)) (now (leaves .entry)) (now (witness .entry)) (now (batching .entry))) ⌝ }
+    ensures { λ r. ⌜ BatchWritten (now (key .entry)) (now (leaves .entry)) (now (witness .entry)) (now (batching .entry)) (now (out .entry)) (now (out .exit)) (answerOf r) ⌝ }
 {
-    let form = questions::calls::batch_form(key, leaves, witness, batching, out.len());
+    let s = sizes_of(key);
+    let form = questions::calls::batch_form(key, leaves, witness, batching, out.len(), s);
     let Verdict::Accepted = form else {
         return form;
     };
-    let answer = solved(key, witness);
+    let answer = solved(key, witness, s);
     let Verdict::Accepted = answer else {
         return answer;
     };
-    prover::batch(
-        out,
-        key,
-        leaves,
-        witness,
-        batching,
-        format::sizes::sizes_of(key),
-    );
+    prover::batch(out, key, leaves, witness, batching, s);
     answer
 }
 
@@ -83,24 +81,17 @@ pub fn prove(
     out: &mut [u8],
 ) -> Verdict
     ensures { λ r. ⌜ ProveReply bits256 (now (key .entry)) (now (leaves .entry)) (now (witness .entry)) (now (matrix .entry)) (now (batching .entry)) (now (out .entry)) (answerOf r) ⌝ }
-    ensures { λ r. ⌜ now (out .exit) ≡ written (answerOf r) (now (out .entry)) (proofOf bits256 (now (key .entry)) (now (leaves .entry)) (now (witness .entry)) (now (matrix .entry)) (now (batching .entry))) ⌝ }
+    ensures { λ r. ⌜ ProveWritten (now (key .entry)) (now (leaves .entry)) (now (witness .entry)) (now (matrix .entry)) (now (batching .entry)) (now (out .entry)) (now (out .exit)) (answerOf r) ⌝ }
 {
-    let form = questions::calls::prove_form(key, leaves, witness, matrix, batching, out.len());
+    let s = sizes_of(key);
+    let form = questions::calls::prove_form(key, leaves, witness, matrix, batching, out.len(), s);
     let Verdict::Accepted = form else {
         return form;
     };
-    let answer = solved(key, witness);
+    let answer = solved(key, witness, s);
     let Verdict::Accepted = answer else {
         return answer;
     };
-    prover::prove(
-        out,
-        key,
-        leaves,
-        witness,
-        matrix,
-        batching,
-        format::sizes::sizes_of(key),
-    );
+    prover::prove(out, key, leaves, witness, matrix, batching, s);
     answer
 }

@@ -1,6 +1,6 @@
 -- What an accepted answer to the verifier's questions on form says; and what the opened table is once it is loaded.
 -- Assumes nothing.
-use mathlib.Core.Path.{_≡_, sym, ap, subst, _∙_}
+use mathlib.Core.Path.{_≡_, ap, _∙_}
 use mathlib.Core.Bool.{true}
 use mathlib.Core.List.{List, [], _∷_}
 use Prim.Native.Nat.{ℕ, _*_}
@@ -11,7 +11,7 @@ use Rattle.protocol.specs.Sections.{sectionsIn}
 use Rattle.protocol.specs.Answers.{Answer, accepted, ask}
 use Rattle.protocol.specs.Questions.{ΔExact, hExact, χExact, leavesExact}
 use Rattle.protocol.specs.Calls.{verifyAnswer}
-use Rattle.protocol.proofs.TestLaws.{eqb-eq, leb-le, all-true}
+use Rattle.protocol.proofs.TestLaws.{eqb-eq, all-true}
 use Rattle.protocol.proofs.AnswerLaws.{ask-accepts, all-yes}
 use Rattle.lanes.specs.Lanes.{lanes}
 use Rattle.tables.specs.Opened.{OpenedTableIs}
@@ -31,13 +31,7 @@ opened-of : (s : Shape) (opened : List ℕ) → leavesExact bits256 s (perOpened
 unfolding leavesExact perOpened perTree
 opened-of s opened h = eqb-eq _ _ h
 
--- from the acceptance of the questions on the key
-pub key-facts : (s : Shape) (key : List ℕ) → s ≡ shapeOf key → ask (keyQuestions key) ≡ accepted → KeyFacts s key
-key-facts s key e h =
-    let t = all-yes (keyQuestions key) (ask-accepts (keyQuestions key) .0 h) in
-    subst (λ (z : Shape). KeyFacts z key) (sym e) (record { header = leb-le _ _ (t .0); in-range = t .1 .0; key-exact = t .1 .1 .0; key-spare = t .1 .1 .1 .0 })
-
--- from that, and the acceptance of those on the other inputs
+-- from the facts of the key, and the acceptance of the questions on the other inputs
 pub verify-facts : (s : Shape) (key Δ H′ χ opened proof : List ℕ) → KeyFacts s key → ask (verifyInputs s Δ H′ χ opened) ≡ accepted → ProofForm s proof → VerifyFacts s key Δ H′ χ opened proof
 verify-facts s key Δ H′ χ opened proof facts h form =
     let t = all-yes (verifyInputs s Δ H′ χ opened) (ask-accepts (verifyInputs s Δ H′ χ opened) .0 h) in

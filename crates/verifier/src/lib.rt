@@ -107,11 +107,11 @@ pub fn verify(
 ) -> Verdict
     ensures { λ r. ⌜ answerOf r ≡ verifyAnswer bits256 (now (key .entry)) (now (delta .entry)) (now (matrix .entry)) (now (batching .entry)) (now (opened .entry)) (now (proof .entry)) ⌝ }
 {
-    let of_key = key_form(key);
+    let s = sizes_of(key);
+    let of_key = key_form(key, s);
     let Verdict::Accepted = of_key else {
         return of_key;
     };
-    let s = sizes_of(key);
     let of_inputs = verify_inputs(delta, matrix, batching, opened, s);
     let Verdict::Accepted = of_inputs else {
         return of_inputs;

@@ -7,16 +7,16 @@ use denote.Ref.{now}
 use Rattle.protocol.specs.Binary.{bits256}
 use Rattle.protocol.specs.Answers.{ask}
 use Rattle.protocol.specs.Questions.{q9}
-use Rattle.protocol.specs.Shape.{limits}
-use Rattle.questions.specs.Asking.{KeyForm}
+use Rattle.questions.specs.Facts.{KeyFacts}
+use Rattle.format.specs.Sizes.{shapeFor}
 use Rattle.format.specs.Verdict.{answerOf, andThen}
 use Rattle.format.proofs.AskLaws.{stop-at, then-ask}
-use Rattle.questions.proofs.KeyLaws.{key-formed}
+use Rattle.questions.proofs.KeyLaws.{key-sized}
 use Rattle.questions.proofs.calls.test_form.Statement.{statement}
 use Rattle.questions.proofs.calls.test_form.Tie as tie
 
 key-form-requires : tie.Need-key-form-requires
-key-form-requires c κs = search needs
+key-form-requires c κs = c .before .before .pre
 
 enum-told : tie.Need-enum-told
 enum-told c = search needs
@@ -24,24 +24,20 @@ enum-told c = search needs
 enum-told-2 : tie.Need-enum-told-2
 enum-told-2 c = search needs
 
-formed : (c : tie.After-enum-told) → KeyForm (now (c .before .before .before .before .before .args .key))
-formed c = key-formed _ [] (sym (c .before .before .key-form .ensures) ∙ ap answerOf (c .enum-told .given .1))
+of-key : (c : tie.After-enum-told) → KeyFacts (shapeFor (c .before .before .before .before .before .args .s)) (now (c .before .before .before .before .before .args .key))
+of-key c = key-sized (c .before .before .before .before .before .args .s) (now (c .before .before .before .before .before .args .key)) (c .before .before .before .before .before .pre) (sym (c .before .before .key-form .ensures) ∙ ap answerOf (c .enum-told .given .1))
 
 returns : tie.Need-returns
 returns c = then-ask _ _ (c .before .before .key-form .ensures) (stop-at _ (c .enum-told2 .given .1))
 
-sizes-of-requires : tie.Need-sizes-of-requires
-sizes-of-requires c κs = formed c .header
-
 witness-form-requires : tie.Need-witness-form-requires
-witness-form-requires c κs = ap limits (c .sizes-of .ensures) ∙ formed (c .before) .sizes
+witness-form-requires c κs = of-key c .in-range
 
 returns-2 : tie.Need-returns-2
 returns-2 c =
-    let p = c .before in
-    let k = p .before .before .before in
-    let x = now (k .before .before .before .args .witness) in
-    then-ask _ _ (k .key-form .ensures) (c .witness-form .ensures ∙ ap (λ S. andThen (answerOf (k .key-form .result)) (ask (q9 bits256 S x ∷ []))) (p .sizes-of .ensures))
+    let x = now (c .before .before .before .before .before .before .args .witness) in
+    let e = c .before .before .before .before .before .before .pre (of-key (c .before) .header) in
+    then-ask _ _ (c .before .before .before .key-form .ensures) (c .witness-form .ensures ∙ ap (λ S. andThen (answerOf (c .before .before .before .key-form .result)) (ask (q9 bits256 S x ∷ []))) e)
 
 pub test-form-spec : {M : Type 1} → statement M
 test-form-spec =
@@ -51,6 +47,5 @@ test-form-spec =
     enum-told
     enum-told-2
     returns
-    sizes-of-requires
     witness-form-requires
     returns-2)

@@ -13,6 +13,7 @@ use Rattle.protocol.specs.Shape.{shapeOf, limits}
 use Rattle.protocol.specs.Key.{keyLengths, keyExact, keySpare}
 use Rattle.protocol.specs.Answers.{question, ask}
 use Rattle.protocol.proofs.TestLaws.{leb-yes, leb-no}
+use Rattle.format.specs.Sizes.{shapeFor}
 use Rattle.format.specs.Verdict.{answerOf}
 use Rattle.questions.specs.Asking.{KeyForm}
 use Rattle.format.proofs.AskLaws.{no-of, yes-of, says-no, says-yes, said-yes, stop-at, then-ask, same-first, same-also}
@@ -21,36 +22,27 @@ use Rattle.questions.proofs.key.key_form.Statement.{statement}
 use Rattle.questions.proofs.key.key_form.Tie as tie
 
 -- what the tests on the way have shown
-sized : (c : tie.Else2) → limits (shapeOf (now (c .before .before .before .before .before .args .key))) ≡ true
-sized c = yes-of (c .before .in-limits .ensures ∙ ap limits (c .before .before .sizes-of .ensures)) (c .if2 .left)
+of : (c : tie.Else1) → shapeFor (c .before .before .args .s) ≡ shapeOf (now (c .before .before .args .key))
+of c = c .before .before .pre (c .if1 .left)
 
-abbrev keyAt : tie.After-sections-form → List ℕ
-keyAt c = now (c .before .before .before .before .before .before .before .before .args .key)
+sized : (c : tie.Else2) → limits (shapeOf (now (c .before .before .before .before .args .key))) ≡ true
+sized c = yes-of (c .before .in-limits .ensures ∙ ap limits (of (c .before .before))) (c .if2 .left)
+
+abbrev keyAt : (c : tie.After-sections-form) → List ℕ
+keyAt c = now (c .before .before .before .before .before .before .before .args .key)
 
 exact : (c : tie.After-sections-form) → answerOf (c .sections-form .result) ≡ ask (question (keyExact bits256 (shapeOf (keyAt c)) (keyAt c)) 3 0 ∷ [])
 unfolding keyExact
-exact c =
-    let k = c .before .before in
-    same-first 3 0 _ (ap (λ ls. framed ls (drop 8 (keyAt c))) (k .key-lengths .ensures ∙ ap (keyLengths bits256) (k .before .before .before .sizes-of .ensures))) (c .sections-form .ensures)
+exact c = same-first 3 0 _ (ap (λ ls. framed ls (drop 8 (keyAt c))) (c .before .before .key-lengths .ensures ∙ ap (keyLengths bits256) (of (c .before .before .before .before .before)))) (c .sections-form .ensures)
 
 formed : (c : tie.After-enum-told) → KeyForm (keyAt (c .before .before))
-formed c =
-    let p = c .before .before in
-    let q = p .before .before .before in
-    record {
-      header = q .before .before .before .if1 .left;
-      sizes = sized q;
-      exact = said-yes _ 3 0 (sym (exact p) ∙ ap answerOf (c .enum-told .given .1));
-    }
+formed c = record { header = c .before .before .before .before .before .before .before .if1 .left; sizes = sized (c .before .before .before .before .before); exact = said-yes _ 3 0 (sym (exact (c .before .before)) ∙ ap answerOf (c .enum-told .given .1)) }
 
 refuse-requires : tie.Need-refuse-requires
 refuse-requires c κs = search needs
 
 returns : tie.Need-returns
 returns c = says-no _ 1 0 _ (leb-no 8 _ (c .before .if1 .taken)) (c .refuse .ensures)
-
-sizes-of-requires : tie.Need-sizes-of-requires
-sizes-of-requires c κs = search needs
 
 in-limits-requires : tie.Need-in-limits-requires
 in-limits-requires c κs = search needs
@@ -60,9 +52,8 @@ refuse-requires-2 c κs = search needs
 
 returns-2 : tie.Need-returns-2
 returns-2 c =
-    let p = c .before .before in
-    says-yes _ 1 0 _ (leb-yes 8 _ (p .before .before .if1 .left))
-    (says-no _ 2 0 _ (no-of (p .in-limits .ensures ∙ ap limits (p .before .sizes-of .ensures)) (c .before .if2 .taken)) (c .refuse2 .ensures))
+    says-yes _ 1 0 _ (leb-yes 8 _ (c .before .before .before .if1 .left))
+    (says-no _ 2 0 _ (no-of (c .before .before .in-limits .ensures ∙ ap limits (of (c .before .before .before))) (c .before .if2 .taken)) (c .refuse2 .ensures))
 
 key-lengths-requires : tie.Need-key-lengths-requires
 key-lengths-requires c κs = yes-of (c .before .in-limits .ensures) (c .if2 .left)
@@ -81,23 +72,20 @@ enum-told-2 c = search needs
 
 returns-3 : tie.Need-returns-3
 returns-3 c =
-    let p = c .before .before in
-    let q = p .before .before .before in
-    says-yes _ 1 0 _ (leb-yes 8 _ (q .before .before .before .if1 .left)) (says-yes _ 2 0 _ (sized q) (then-ask _ _ (exact p) (stop-at _ (c .enum-told2 .given .1))))
+    says-yes _ 1 0 _ (leb-yes 8 _ (c .before .before .before .before .before .before .before .if1 .left)) (says-yes _ 2 0 _ (sized (c .before .before .before .before .before)) (then-ask _ _ (exact (c .before .before)) (stop-at _ (c .enum-told2 .given .1))))
 
 key-spare-requires : tie.Need-key-spare-requires
-key-spare-requires c κs =
-    let p = c .before .before in
-    sized-key _ (keyAt p) (p .before .before .before .before .before .sizes-of .ensures) (formed c)
+key-spare-requires c κs = sized-key _ (keyAt (c .before .before)) (of (c .before .before .before .before .before .before .before)) (formed c)
 
 also-requires : tie.Need-also-requires
 also-requires c κs = search needs
 
 returns-4 : tie.Need-returns-4
 returns-4 c =
-    let p = c .before .before in
-    let f = formed p in
-    says-yes _ 1 0 _ (leb-yes 8 _ (f .header)) (says-yes _ 2 0 _ (f .sizes) (then-ask _ _ (exact (p .before .before)) (same-also 4 _ (c .before .key-spare .ensures ∙ ap (λ S. keySpare bits256 S (keyAt (p .before .before))) (p .before .before .before .before .before .before .before .sizes-of .ensures)) (c .also .ensures))))
+    let f = formed (c .before .before) in
+    says-yes _ 1 0 _ (leb-yes 8 _ (f .header))
+    (says-yes _ 2 0 _ (f .sizes)
+    (then-ask _ _ (exact (c .before .before .before .before)) (same-also 4 _ (c .before .key-spare .ensures ∙ ap (λ S. keySpare bits256 S (keyAt (c .before .before .before .before))) (of (c .before .before .before .before .before .before .before .before .before))) (c .also .ensures))))
 
 pub key-form-spec : {M : Type 1} → statement M
 key-form-spec =
@@ -105,7 +93,6 @@ key-form-spec =
     (tie.spec
     refuse-requires
     returns
-    sizes-of-requires
     in-limits-requires
     refuse-requires-2
     returns-2

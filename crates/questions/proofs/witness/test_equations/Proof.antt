@@ -1,11 +1,12 @@
 -- `questions::witness::test_equations` meets its contract: the errors of the equations, and their answer.
 -- Assumes nothing.
-use mathlib.Core.Path.{_≡_, sym, ap, _∙_}
+use mathlib.Core.Path.{_≡_, sym, ap, _∙_, subst}
+use mathlib.Core.Bool.{true}
 use Prim.Native.Nat.{ℕ, _*_}
 use native.Mathlib.Nat.{mul-assoc}
 use native.Mathlib.Omega.{arith}
 use denote.Ref.{now}
-use Rattle.protocol.specs.Strings.{bytesFor}
+use Rattle.protocol.specs.Strings.{bytesFor, spareZero}
 use Rattle.protocol.specs.Binary.{bits256}
 use Rattle.protocol.specs.Shape.{Shape, shapeOf}
 use Rattle.protocol.specs.Key.{sectionA, sectionB, sectionY}
@@ -20,63 +21,47 @@ use Rattle.questions.proofs.KeyLaws.{facts-sized}
 use Rattle.questions.proofs.witness.test_equations.Statement.{statement}
 use Rattle.questions.proofs.witness.test_equations.Tie as tie
 
-sizes-of-requires : tie.Need-sizes-of-requires
-sizes-of-requires c κs = search needs
-
 section-a-requires : tie.Need-section-a-requires
-section-a-requires c κs =
-    let s = c .before .before .before .before .before in
-    facts-sized (shapeFor (c .before .sizes-of .result)) (now (s .args .key)) (c .before .sizes-of .ensures) (s .pre .0)
+section-a-requires c κs = facts-sized (shapeFor (c .before .before .before .before .args .s)) (now (c .before .before .before .before .args .key)) (c .before .before .before .before .pre .1 .of-key)
 
 section-b-requires : tie.Need-section-b-requires
-section-b-requires c κs =
-    let s = c .before .before .before .before .before .before in
-    facts-sized (shapeFor (c .before .before .sizes-of .result)) (now (s .args .key)) (c .before .before .sizes-of .ensures) (s .pre .0)
+section-b-requires c κs = facts-sized (shapeFor (c .before .before .before .before .before .args .s)) (now (c .before .before .before .before .before .args .key)) (c .before .before .before .before .before .pre .1 .of-key)
 
 section-y-requires : tie.Need-section-y-requires
-section-y-requires c κs =
-    let s = c .before .before .before .before .before .before .before in
-    facts-sized (shapeFor (c .before .before .before .sizes-of .result)) (now (s .args .key)) (c .before .before .before .sizes-of .ensures) (s .pre .0)
+section-y-requires c κs = facts-sized (shapeFor (c .before .before .before .before .before .before .args .s)) (now (c .before .before .before .before .before .before .args .key)) (c .before .before .before .before .before .before .pre .1 .of-key)
 
 equation-errors-requires : tie.Need-equation-errors-requires
 equation-errors-requires c κs =
-    let s = c .before .before .before .before .before .before .before .before in
-    let shape = shapeOf (now (s .args .key)) in
-    let e = c .before .before .before .before .sizes-of .ensures in
-    rw (ap (λ (z : Shape). z .n) e) (
-      omega (arith, in-limits shape (s .pre .0 .in-range) .n-most),
-      s .pre .1 .witness-length,
-      c .before .before .section-a .ensures .1 ∙ ap (λ (z : Shape). z .m * z .n * bytesFor (z .n)) e ∙ mul-assoc (shape .m) (shape .n) (bytesFor (shape .n)) ∙ ap (λ (k : ℕ). k * (shape .n * bytesFor (shape .n))) (sym (s .pre .2)),
-      c .before .section-b .ensures .1 ∙ ap (λ (z : Shape). z .m * bytesFor (z .n)) e ∙ ap (λ (k : ℕ). k * bytesFor (shape .n)) (sym (s .pre .2)),
-      omega (arith, s .pre .2, c .section-y .ensures .1 ∙ ap (λ (z : Shape). bytesFor (z .m)) e, bytes-enough (shape .m)),
+    let s = c .before .before .before .before .before .before .before .args .s in
+    let f = c .before .before .before .before .before .before .before .pre .1 in (
+      omega (arith, in-limits (shapeFor s) (f .of-key .in-range) .n-most),
+      f .of-witness .witness-length,
+      c .before .before .section-a .ensures .1 ∙ mul-assoc (s .m) (s .n) (bytesFor (s .n)) ∙ ap (λ (k : ℕ). k * (s .n * bytesFor (s .n))) (sym (c .before .before .before .before .before .before .before .pre .2)),
+      c .before .section-b .ensures .1 ∙ ap (λ (k : ℕ). k * bytesFor (s .n)) (sym (c .before .before .before .before .before .before .before .pre .2)),
+      omega (arith, c .before .before .before .before .before .before .before .pre .2, c .section-y .ensures .1, bytes-enough (s .m)),
     )
 
 answer-requires : tie.Need-answer-requires
-answer-requires c κs =
-    let s = c .before .before .before .before .before .before .before .before .before .before .before .before in
-    omega (arith, c .before .before .before .equation-errors .kept .0, s .pre .2, in-limits (shapeOf (now (s .args .key))) (s .pre .0 .in-range) .m-most)
+answer-requires c κs = omega (arith, c .before .before .before .equation-errors .kept .0, c .before .before .before .before .before .before .before .before .before .before .before .pre .2, in-limits (shapeFor (c .before .before .before .before .before .before .before .before .before .before .before .args .s)) (c .before .before .before .before .before .before .before .before .before .before .before .pre .1 .of-key .in-range) .m-most)
 
 same-length : tie.Need-same-length
 same-length c = search needs
 
 returns : tie.Need-returns
 returns c =
-    let s = c .before .before .before .before .before .before .before .before .before .before .before .before .before in
-    let key = now (s .args .key) in
-    let x = now (s .args .witness) in
-    let e = c .before .before .before .before .before .before .before .before .before .sizes-of .ensures in
-    let y = c .before .before .before .before .before in
+    let key = now (c .before .before .before .before .before .before .before .before .before .before .before .before .args .key) in
+    let x = now (c .before .before .before .before .before .before .before .before .before .before .before .before .args .witness) in
+    let e = c .before .before .before .before .before .before .before .before .before .before .before .before .pre .0 (c .before .before .before .before .before .before .before .before .before .before .before .before .pre .1 .of-key .header) in
     let p = c .before .before .before .before .equation-errors in
-    let same : (i : ℕ) → errorOf (c .before .before .before .before .before .before .before .before .before .sizes-of .result .n) (now (y .before .before .section-a .result)) (now (y .before .section-b .result)) (now (y .section-y .result)) x i
+    let same : (i : ℕ) → errorOf (c .before .before .before .before .before .before .before .before .before .before .before .before .args .s .n) (now (c .before .before .before .before .before .before .before .section-a .result)) (now (c .before .before .before .before .before .before .section-b .result)) (now (c .before .before .before .before .before .section-y .result)) x i
     ≡ errorOf (shapeOf key .n) (sectionA bits256 (shapeOf key) key) (sectionB bits256 (shapeOf key) key) (sectionY bits256 (shapeOf key) key) x i =
-    λ i. rw (y .before .before .section-a .ensures .0, y .before .section-b .ensures .0, y .section-y .ensures .0) (ap (λ (z : Shape). errorOf (z .n) (sectionA bits256 z key) (sectionB bits256 z key) (sectionY bits256 z key) x i) e) in
-    solved-as key x (s .pre .1 .witness-spare) (p .last .0) (p .kept .0 ∙ s .pre .2) (λ i h. p .ensures i (rw (p .kept .0) at h) ∙ same i) (answerOf (c .answer .result)) (c .answer .ensures)
+    λ i. rw (c .before .before .before .before .before .before .before .section-a .ensures .0, c .before .before .before .before .before .before .section-b .ensures .0, c .before .before .before .before .before .section-y .ensures .0) (ap (λ (z : Shape). errorOf (z .n) (sectionA bits256 z key) (sectionB bits256 z key) (sectionY bits256 z key) x i) e) in
+    solved-as key x (subst (λ (z : Shape). spareZero x (z .n) ≡ true) e (c .before .before .before .before .before .before .before .before .before .before .before .before .pre .1 .of-witness .witness-spare)) (p .last .0) (p .kept .0 ∙ c .before .before .before .before .before .before .before .before .before .before .before .before .pre .2 ∙ ap (λ (z : Shape). z .m) e) (λ i h. p .ensures i (rw (p .kept .0) at h) ∙ same i) (answerOf (c .answer .result)) (c .answer .ensures)
 
 pub test-equations-spec : {M : Type 1} → statement M
 test-equations-spec =
     tie.close
     (tie.spec
-    sizes-of-requires
     section-a-requires
     section-b-requires
     section-y-requires

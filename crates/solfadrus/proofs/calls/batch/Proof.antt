@@ -1,22 +1,29 @@
 -- `solfadrus::calls::batch` meets its contract: a refusal on form, then question 11's, is its reply; and else the step's bytes are written.
 -- Assumes nothing.
-use mathlib.Core.Path.{refl, sym, ap, _∙_, subst}
+use mathlib.Core.Path.{_≡_, refl, sym, ap, _∙_}
 use mathlib.Core.List.{[], _∷_}
 use denote.Ref.{now}
 use Rattle.protocol.specs.Frames.{frame}
 use Rattle.protocol.specs.Binary.{bits256}
-use Rattle.protocol.specs.Shape.{Shape}
 use Rattle.protocol.specs.Prover.{qs0Section, qs1Section, batchBytes}
+use Rattle.protocol.specs.Shape.{Shape}
+use Rattle.protocol.specs.Answers.{accepted, ask}
+use Rattle.protocol.specs.Calls.{batchQuestions}
+use Rattle.format.specs.Sizes.{shapeFor}
 use Rattle.format.specs.Verdict.{answerOf}
 use Rattle.questions.specs.Facts.{BatchFacts}
+use Rattle.questions.proofs.KeyLaws.{by-sizes}
 use Rattle.solfadrus.proofs.FactLaws.{batch-facts}
 use Rattle.solfadrus.proofs.ReplyLaws.{refused-not, batch-form-reply, batch-solved-reply}
 use borrow.Author.Needs.{needs}
 use Rattle.solfadrus.proofs.calls.batch.Statement.{statement}
 use Rattle.solfadrus.proofs.calls.batch.Tie as tie
 
+sizes-of-requires : tie.Need-sizes-of-requires
+sizes-of-requires c κs = search needs
+
 batch-form-requires : tie.Need-batch-form-requires
-batch-form-requires c κs = search needs
+batch-form-requires c κs = c .sizes-of .ensures
 
 enum-told : tie.Need-enum-told
 enum-told c = search needs
@@ -26,14 +33,20 @@ enum-told-2 c = search needs
 
 returns : tie.Need-returns
 returns c =
-    let a = c .before .before .before .before .before .before .before .before .args in
+    let a = c .before .before .before .before .before .before .before .before .before .args in
     (batch-form-reply (now (a .key)) (now (a .leaves)) (now (a .witness)) (now (a .batching)) (now (a .out)) _ (c .before .before .batch-form .ensures (now (a .out)) refl) (rw (c .enum-told2 .given .1) (refused-not _ _)), rw (c .enum-told2 .given .1))
 
+asked : (c : tie.After-enum-told) → ask (batchQuestions bits256 (now (c .before .before .before .before .before .before .before .before .before .args .key)) (now (c .before .before .before .before .before .before .before .before .before .args .leaves)) (now (c .before .before .before .before .before .before .before .before .before .args .witness)) (now (c .before .before .before .before .before .before .before .before .before .args .batching)) (now (c .before .before .before .before .before .before .before .before .before .args .out))) ≡ accepted
+asked c = sym (c .before .before .batch-form .ensures (now (c .before .before .before .before .before .before .before .before .before .args .out)) refl) ∙ ap answerOf (c .enum-told .given .1)
+
+facts : (c : tie.After-enum-told) → BatchFacts (shapeFor (c .before .before .before .sizes-of .result)) (now (c .before .before .before .before .before .before .before .before .before .args .key)) (now (c .before .before .before .before .before .before .before .before .before .args .leaves)) (now (c .before .before .before .before .before .before .before .before .before .args .witness)) (now (c .before .before .before .before .before .before .before .before .before .args .batching)) (now (c .before .before .before .before .before .before .before .before .before .args .out))
+facts c =
+    let a = c .before .before .before .before .before .before .before .before .before .args in
+    let f = batch-facts (now (a .key)) (now (a .leaves)) (now (a .witness)) (now (a .batching)) (now (a .out)) (asked c) in
+    by-sizes (λ z. BatchFacts z (now (a .key)) (now (a .leaves)) (now (a .witness)) (now (a .batching)) (now (a .out))) (c .before .before .before .sizes-of .result) (now (a .key)) (c .before .before .before .sizes-of .ensures) (f .of-key .header) f
+
 solved-requires : tie.Need-solved-requires
-solved-requires c κs =
-    let a = c .before .before .before .before .before .before .before .before .args in
-    let f = batch-facts (now (a .key)) (now (a .leaves)) (now (a .witness)) (now (a .batching)) (now (a .out)) (sym (c .before .before .batch-form .ensures (now (a .out)) refl) ∙ ap answerOf (c .enum-told .given .1)) in
-    (f .of-key, f .of-witness)
+solved-requires c κs = (c .before .before .before .sizes-of .ensures, record { of-key = facts c .of-key; of-witness = facts c .of-witness })
 
 enum-told-3 : tie.Need-enum-told-3
 enum-told-3 c = search needs
@@ -43,20 +56,11 @@ enum-told-4 c = search needs
 
 returns-2 : tie.Need-returns-2
 returns-2 c =
-    let a = c .before .before .before .before .before .before .before .before .before .before .before .args in
-    (batch-solved-reply (now (a .key)) (now (a .leaves)) (now (a .witness)) (now (a .batching)) (now (a .out)) (sym (c .before .before .before .before .before .batch-form .ensures (now (a .out)) refl) ∙ ap answerOf (c .before .before .before .enum-told .given .1)) _ (c .before .before .solved .ensures), rw (c .enum-told4 .given .1))
-
-sizes-of-requires : tie.Need-sizes-of-requires
-sizes-of-requires c κs =
     let a = c .before .before .before .before .before .before .before .before .before .before .before .before .args in
-    batch-facts (now (a .key)) (now (a .leaves)) (now (a .witness)) (now (a .batching)) (now (a .out)) (sym (c .before .before .before .before .before .before .batch-form .ensures (now (a .out)) refl) ∙ ap answerOf (c .before .before .before .before .enum-told .given .1)) .of-key .header
+    (batch-solved-reply (now (a .key)) (now (a .leaves)) (now (a .witness)) (now (a .batching)) (now (a .out)) (asked (c .before .before .before)) _ (c .before .before .solved .ensures), rw (c .enum-told4 .given .1))
 
 batch-requires : tie.Need-batch-requires
-batch-requires c κs =
-    let a = c .before .before .before .before .before .before .before .before .before .before .before .before .before .args in
-    let g = batch-facts (now (a .key)) (now (a .leaves)) (now (a .witness)) (now (a .batching)) (now (a .out)) (sym (c .before .before .before .before .before .before .before .batch-form .ensures (now (a .out)) refl) ∙ ap answerOf (c .before .before .before .before .before .enum-told .given .1)) in
-    let f = subst (λ (z : Shape). BatchFacts z (now (a .key)) (now (a .leaves)) (now (a .witness)) (now (a .batching)) (now (a .out))) (sym (c .sizes-of .ensures)) g in
-    f
+batch-requires c κs = facts (c .before .before .before .before)
 
 same-length : tie.Need-same-length
 same-length c = search needs
@@ -64,15 +68,17 @@ same-length c = search needs
 returns-3 : tie.Need-returns-3
 unfolding batchBytes
 returns-3 c =
-    let a = c .before .before .before .before .before .before .before .before .before .before .before .before .before .before .before .before .args in (
-      batch-solved-reply (now (a .key)) (now (a .leaves)) (now (a .witness)) (now (a .batching)) (now (a .out)) (sym (c .before .before .before .before .before .before .before .before .before .before .batch-form .ensures (now (a .out)) refl) ∙ ap answerOf (c .before .before .before .before .before .before .before .before .enum-told .given .1)) _ (c .before .before .before .before .before .before .before .solved .ensures),
-      rw (c .before .before .before .before .before .enum-told3 .given .1) (c .before .before .batch .ensures ∙ ap (λ (z : Shape). frame (qs0Section bits256 z (now (a .leaves)) (now (a .key)) (now (a .batching)) ∷ qs1Section bits256 z (now (a .leaves)) (now (a .key)) (now (a .witness)) (now (a .batching)) ∷ [])) (c .before .before .before .sizes-of .ensures)),
+    let a = c .before .before .before .before .before .before .before .before .before .before .before .before .before .before .before .before .args in
+    let e = c .before .before .before .before .before .before .before .before .before .before .sizes-of .ensures (facts (c .before .before .before .before .before .before .before) .of-key .header) in (
+      batch-solved-reply (now (a .key)) (now (a .leaves)) (now (a .witness)) (now (a .batching)) (now (a .out)) (asked (c .before .before .before .before .before .before .before)) _ (c .before .before .before .before .before .before .solved .ensures),
+      rw (c .before .before .before .before .enum-told3 .given .1) (c .before .before .batch .ensures ∙ ap (λ (z : Shape). frame (qs0Section bits256 z (now (a .leaves)) (now (a .key)) (now (a .batching)) ∷ qs1Section bits256 z (now (a .leaves)) (now (a .key)) (now (a .witness)) (now (a .batching)) ∷ [])) e),
     )
 
 pub batch-spec : {M : Type 1} → statement M
 batch-spec =
     tie.close
     (tie.spec
+    sizes-of-requires
     batch-form-requires
     enum-told
     enum-told-2
@@ -81,7 +87,6 @@ batch-spec =
     enum-told-3
     enum-told-4
     returns-2
-    sizes-of-requires
     batch-requires
     same-length
     returns-3)

@@ -1,27 +1,29 @@
 -- `solfadrus::calls::commit` meets its contract: a refusal on form, then question 11's, is its reply; and else the step's bytes are written.
 -- Assumes nothing.
-use mathlib.Core.Path.{_≡_, refl, sym, ap, _∙_, subst}
-use mathlib.Core.List.{List, [], _∷_}
-use Prim.Native.Nat.{ℕ, _≤_}
+use mathlib.Core.Path.{_≡_, refl, sym, ap, _∙_}
+use mathlib.Core.List.{[], _∷_}
 use denote.Ref.{now}
-use lib.ListN.{length}
 use Rattle.protocol.specs.Frames.{frame}
 use Rattle.protocol.specs.Binary.{bits256}
-use Rattle.protocol.specs.Shape.{Shape, shapeOf}
 use Rattle.protocol.specs.Prover.{cSection, dSection, commitBytes}
-use Rattle.protocol.specs.Answers.{accepted, ask, written}
+use Rattle.protocol.specs.Shape.{Shape}
+use Rattle.protocol.specs.Answers.{accepted, ask}
 use Rattle.protocol.specs.Calls.{commitQuestions}
 use Rattle.format.specs.Sizes.{shapeFor}
 use Rattle.format.specs.Verdict.{answerOf}
-use Rattle.questions.specs.Facts.{CommitFacts}
+use Rattle.questions.specs.Facts.{KeyFacts, CommitFacts}
+use Rattle.questions.proofs.KeyLaws.{by-sizes}
 use Rattle.solfadrus.proofs.FactLaws.{commit-facts}
 use Rattle.solfadrus.proofs.ReplyLaws.{refused-not, commit-form-reply, commit-solved-reply}
 use borrow.Author.Needs.{needs}
 use Rattle.solfadrus.proofs.calls.commit.Statement.{statement}
 use Rattle.solfadrus.proofs.calls.commit.Tie as tie
 
+sizes-of-requires : tie.Need-sizes-of-requires
+sizes-of-requires c κs = search needs
+
 commit-form-requires : tie.Need-commit-form-requires
-commit-form-requires c κs = search needs
+commit-form-requires c κs = c .sizes-of .ensures
 
 enum-told : tie.Need-enum-told
 enum-told c = search needs
@@ -31,14 +33,20 @@ enum-told-2 c = search needs
 
 returns : tie.Need-returns
 returns c =
-    let a = c .before .before .before .before .before .before .before .args in
+    let a = c .before .before .before .before .before .before .before .before .args in
     (commit-form-reply (now (a .key)) (now (a .leaves)) (now (a .witness)) (now (a .out)) _ (c .before .before .commit-form .ensures (now (a .out)) refl) (rw (c .enum-told2 .given .1) (refused-not _ _)), rw (c .enum-told2 .given .1))
 
+asked : (c : tie.After-enum-told) → ask (commitQuestions bits256 (now (c .before .before .before .before .before .before .before .before .args .key)) (now (c .before .before .before .before .before .before .before .before .args .leaves)) (now (c .before .before .before .before .before .before .before .before .args .witness)) (now (c .before .before .before .before .before .before .before .before .args .out))) ≡ accepted
+asked c = sym (c .before .before .commit-form .ensures (now (c .before .before .before .before .before .before .before .before .args .out)) refl) ∙ ap answerOf (c .enum-told .given .1)
+
+facts : (c : tie.After-enum-told) → KeyFacts (shapeFor (c .before .before .before .sizes-of .result)) (now (c .before .before .before .before .before .before .before .before .args .key)) × CommitFacts (shapeFor (c .before .before .before .sizes-of .result)) (now (c .before .before .before .before .before .before .before .before .args .leaves)) (now (c .before .before .before .before .before .before .before .before .args .witness)) (now (c .before .before .before .before .before .before .before .before .args .out))
+facts c =
+    let a = c .before .before .before .before .before .before .before .before .args in
+    let f = commit-facts (now (a .key)) (now (a .leaves)) (now (a .witness)) (now (a .out)) (asked c) in
+    by-sizes (λ z. KeyFacts z (now (a .key)) × CommitFacts z (now (a .leaves)) (now (a .witness)) (now (a .out))) (c .before .before .before .sizes-of .result) (now (a .key)) (c .before .before .before .sizes-of .ensures) (f .0 .header) f
+
 solved-requires : tie.Need-solved-requires
-solved-requires c κs =
-    let a = c .before .before .before .before .before .before .before .args in
-    let f = commit-facts (now (a .key)) (now (a .leaves)) (now (a .witness)) (now (a .out)) (sym (c .before .before .commit-form .ensures (now (a .out)) refl) ∙ ap answerOf (c .enum-told .given .1)) in
-    (f .0, f .1 .of-witness)
+solved-requires c κs = (c .before .before .before .sizes-of .ensures, record { of-key = facts c .0; of-witness = facts c .1 .of-witness })
 
 enum-told-3 : tie.Need-enum-told-3
 enum-told-3 c = search needs
@@ -48,18 +56,11 @@ enum-told-4 c = search needs
 
 returns-2 : tie.Need-returns-2
 returns-2 c =
-    let a = c .before .before .before .before .before .before .before .before .before .before .args in
-    (commit-solved-reply (now (a .key)) (now (a .leaves)) (now (a .witness)) (now (a .out)) (sym (c .before .before .before .before .before .commit-form .ensures (now (a .out)) refl) ∙ ap answerOf (c .before .before .before .enum-told .given .1)) _ (c .before .before .solved .ensures), rw (c .enum-told4 .given .1))
-
-sizes-of-requires : tie.Need-sizes-of-requires
-sizes-of-requires c κs =
     let a = c .before .before .before .before .before .before .before .before .before .before .before .args in
-    commit-facts (now (a .key)) (now (a .leaves)) (now (a .witness)) (now (a .out)) (sym (c .before .before .before .before .before .before .commit-form .ensures (now (a .out)) refl) ∙ ap answerOf (c .before .before .before .before .enum-told .given .1)) .0 .header
+    (commit-solved-reply (now (a .key)) (now (a .leaves)) (now (a .witness)) (now (a .out)) (asked (c .before .before .before)) _ (c .before .before .solved .ensures), rw (c .enum-told4 .given .1))
 
 commit-requires : tie.Need-commit-requires
-commit-requires c κs =
-    let a = c .before .before .before .before .before .before .before .before .before .before .before .before .args in
-    subst (λ (z : Shape). CommitFacts z (now (a .leaves)) (now (a .witness)) (now (a .out))) (sym (c .sizes-of .ensures)) (commit-facts (now (a .key)) (now (a .leaves)) (now (a .witness)) (now (a .out)) (sym (c .before .before .before .before .before .before .before .commit-form .ensures (now (a .out)) refl) ∙ ap answerOf (c .before .before .before .before .before .enum-told .given .1)) .1)
+commit-requires c κs = facts (c .before .before .before .before) .1
 
 same-length : tie.Need-same-length
 same-length c = search needs
@@ -67,17 +68,17 @@ same-length c = search needs
 returns-3 : tie.Need-returns-3
 unfolding commitBytes
 returns-3 c =
-    let a = c .before .before .before .before .before .before .before .before .before .before .before .before .before .before .before .args in (
-      commit-solved-reply (now (a .key)) (now (a .leaves)) (now (a .witness)) (now (a .out)) (sym (c .before .before .before .before .before .before .before .before .before .before .commit-form .ensures (now (a .out)) refl) ∙ ap answerOf (c .before .before .before .before .before .before .before .before .enum-told .given .1)) _ (c .before .before .before .before .before .before .before .solved .ensures),
-      rw (c .before .before .before .before .before .enum-told3 .given .1)
-          (c .before .before .commit .ensures
-          ∙ ap (λ (z : Shape). frame (cSection bits256 z (now (a .leaves)) ∷ dSection bits256 z (now (a .leaves)) (now (a .witness)) ∷ [])) (c .before .before .before .sizes-of .ensures)),
+    let a = c .before .before .before .before .before .before .before .before .before .before .before .before .before .before .before .args in
+    let e = c .before .before .before .before .before .before .before .before .before .before .sizes-of .ensures (facts (c .before .before .before .before .before .before .before) .0 .header) in (
+      commit-solved-reply (now (a .key)) (now (a .leaves)) (now (a .witness)) (now (a .out)) (asked (c .before .before .before .before .before .before .before)) _ (c .before .before .before .before .before .before .solved .ensures),
+      rw (c .before .before .before .before .enum-told3 .given .1) (c .before .before .commit .ensures ∙ ap (λ (z : Shape). frame (cSection bits256 z (now (a .leaves)) ∷ dSection bits256 z (now (a .leaves)) (now (a .witness)) ∷ [])) e),
     )
 
 pub commit-spec : {M : Type 1} → statement M
 commit-spec =
     tie.close
     (tie.spec
+    sizes-of-requires
     commit-form-requires
     enum-told
     enum-told-2
@@ -86,7 +87,6 @@ commit-spec =
     enum-told-3
     enum-told-4
     returns-2
-    sizes-of-requires
     commit-requires
     same-length
     returns-3)

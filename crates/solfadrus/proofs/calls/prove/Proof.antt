@@ -1,21 +1,28 @@
 -- `solfadrus::calls::prove` meets its contract: a refusal on form, then question 11's, is its reply; and else the proof is written.
 -- Assumes nothing.
-use mathlib.Core.Path.{refl, sym, ap, _∙_, subst}
+use mathlib.Core.Path.{_≡_, refl, sym, ap, _∙_}
 use denote.Ref.{now}
 use Rattle.protocol.specs.Binary.{bits256}
-use Rattle.protocol.specs.Shape.{Shape}
 use Rattle.protocol.specs.Prover.{sectionsOf, proofOf}
 use Rattle.protocol.specs.Sections.{bytesOf}
+use Rattle.protocol.specs.Shape.{Shape}
+use Rattle.protocol.specs.Answers.{accepted, ask}
+use Rattle.protocol.specs.Calls.{proveQuestions}
+use Rattle.format.specs.Sizes.{shapeFor}
 use Rattle.format.specs.Verdict.{answerOf}
 use Rattle.questions.specs.Facts.{ProveFacts}
+use Rattle.questions.proofs.KeyLaws.{by-sizes}
 use Rattle.solfadrus.proofs.FactLaws.{prove-facts}
 use Rattle.solfadrus.proofs.ReplyLaws.{refused-not, prove-form-reply, prove-solved-reply}
 use borrow.Author.Needs.{needs}
 use Rattle.solfadrus.proofs.calls.prove.Statement.{statement}
 use Rattle.solfadrus.proofs.calls.prove.Tie as tie
 
+sizes-of-requires : tie.Need-sizes-of-requires
+sizes-of-requires c κs = search needs
+
 prove-form-requires : tie.Need-prove-form-requires
-prove-form-requires c κs = search needs
+prove-form-requires c κs = c .sizes-of .ensures
 
 enum-told : tie.Need-enum-told
 enum-told c = search needs
@@ -25,14 +32,20 @@ enum-told-2 c = search needs
 
 returns : tie.Need-returns
 returns c =
-    let a = c .before .before .before .before .before .before .before .before .before .args in
+    let a = c .before .before .before .before .before .before .before .before .before .before .args in
     (prove-form-reply (now (a .key)) (now (a .leaves)) (now (a .witness)) (now (a .matrix)) (now (a .batching)) (now (a .out)) _ (c .before .before .prove-form .ensures (now (a .out)) refl) (rw (c .enum-told2 .given .1) (refused-not _ _)), rw (c .enum-told2 .given .1))
 
+asked : (c : tie.After-enum-told) → ask (proveQuestions bits256 (now (c .before .before .before .before .before .before .before .before .before .before .args .key)) (now (c .before .before .before .before .before .before .before .before .before .before .args .leaves)) (now (c .before .before .before .before .before .before .before .before .before .before .args .witness)) (now (c .before .before .before .before .before .before .before .before .before .before .args .matrix)) (now (c .before .before .before .before .before .before .before .before .before .before .args .batching)) (now (c .before .before .before .before .before .before .before .before .before .before .args .out))) ≡ accepted
+asked c = sym (c .before .before .prove-form .ensures (now (c .before .before .before .before .before .before .before .before .before .before .args .out)) refl) ∙ ap answerOf (c .enum-told .given .1)
+
+facts : (c : tie.After-enum-told) → ProveFacts (shapeFor (c .before .before .before .sizes-of .result)) (now (c .before .before .before .before .before .before .before .before .before .before .args .key)) (now (c .before .before .before .before .before .before .before .before .before .before .args .leaves)) (now (c .before .before .before .before .before .before .before .before .before .before .args .witness)) (now (c .before .before .before .before .before .before .before .before .before .before .args .matrix)) (now (c .before .before .before .before .before .before .before .before .before .before .args .batching)) (now (c .before .before .before .before .before .before .before .before .before .before .args .out))
+facts c =
+    let a = c .before .before .before .before .before .before .before .before .before .before .args in
+    let f = prove-facts (now (a .key)) (now (a .leaves)) (now (a .witness)) (now (a .matrix)) (now (a .batching)) (now (a .out)) (asked c) in
+    by-sizes (λ z. ProveFacts z (now (a .key)) (now (a .leaves)) (now (a .witness)) (now (a .matrix)) (now (a .batching)) (now (a .out))) (c .before .before .before .sizes-of .result) (now (a .key)) (c .before .before .before .sizes-of .ensures) (f .of-key .header) f
+
 solved-requires : tie.Need-solved-requires
-solved-requires c κs =
-    let a = c .before .before .before .before .before .before .before .before .before .args in
-    let f = prove-facts (now (a .key)) (now (a .leaves)) (now (a .witness)) (now (a .matrix)) (now (a .batching)) (now (a .out)) (sym (c .before .before .prove-form .ensures (now (a .out)) refl) ∙ ap answerOf (c .enum-told .given .1)) in
-    (f .of-key, f .of-witness)
+solved-requires c κs = (c .before .before .before .sizes-of .ensures, record { of-key = facts c .of-key; of-witness = facts c .of-witness })
 
 enum-told-3 : tie.Need-enum-told-3
 enum-told-3 c = search needs
@@ -42,20 +55,11 @@ enum-told-4 c = search needs
 
 returns-2 : tie.Need-returns-2
 returns-2 c =
-    let a = c .before .before .before .before .before .before .before .before .before .before .before .before .args in
-    (prove-solved-reply (now (a .key)) (now (a .leaves)) (now (a .witness)) (now (a .matrix)) (now (a .batching)) (now (a .out)) (sym (c .before .before .before .before .before .prove-form .ensures (now (a .out)) refl) ∙ ap answerOf (c .before .before .before .enum-told .given .1)) _ (c .before .before .solved .ensures), rw (c .enum-told4 .given .1))
-
-sizes-of-requires : tie.Need-sizes-of-requires
-sizes-of-requires c κs =
     let a = c .before .before .before .before .before .before .before .before .before .before .before .before .before .args in
-    prove-facts (now (a .key)) (now (a .leaves)) (now (a .witness)) (now (a .matrix)) (now (a .batching)) (now (a .out)) (sym (c .before .before .before .before .before .before .prove-form .ensures (now (a .out)) refl) ∙ ap answerOf (c .before .before .before .before .enum-told .given .1)) .of-key .header
+    (prove-solved-reply (now (a .key)) (now (a .leaves)) (now (a .witness)) (now (a .matrix)) (now (a .batching)) (now (a .out)) (asked (c .before .before .before)) _ (c .before .before .solved .ensures), rw (c .enum-told4 .given .1))
 
 prove-requires : tie.Need-prove-requires
-prove-requires c κs =
-    let a = c .before .before .before .before .before .before .before .before .before .before .before .before .before .before .args in
-    let g = prove-facts (now (a .key)) (now (a .leaves)) (now (a .witness)) (now (a .matrix)) (now (a .batching)) (now (a .out)) (sym (c .before .before .before .before .before .before .before .prove-form .ensures (now (a .out)) refl) ∙ ap answerOf (c .before .before .before .before .before .enum-told .given .1)) in
-    let f = subst (λ (z : Shape). ProveFacts z (now (a .key)) (now (a .leaves)) (now (a .witness)) (now (a .matrix)) (now (a .batching)) (now (a .out))) (sym (c .sizes-of .ensures)) g in
-    f
+prove-requires c κs = facts (c .before .before .before .before)
 
 same-length : tie.Need-same-length
 same-length c = search needs
@@ -63,15 +67,17 @@ same-length c = search needs
 returns-3 : tie.Need-returns-3
 unfolding proofOf
 returns-3 c =
-    let a = c .before .before .before .before .before .before .before .before .before .before .before .before .before .before .before .before .before .args in (
-      prove-solved-reply (now (a .key)) (now (a .leaves)) (now (a .witness)) (now (a .matrix)) (now (a .batching)) (now (a .out)) (sym (c .before .before .before .before .before .before .before .before .before .before .prove-form .ensures (now (a .out)) refl) ∙ ap answerOf (c .before .before .before .before .before .before .before .before .enum-told .given .1)) _ (c .before .before .before .before .before .before .before .solved .ensures),
-      rw (c .before .before .before .before .before .enum-told3 .given .1) (c .before .before .prove .ensures ∙ ap (λ (z : Shape). bytesOf (sectionsOf bits256 z (now (a .leaves)) (now (a .key)) (now (a .witness)) (now (a .matrix)) (now (a .batching)))) (c .before .before .before .sizes-of .ensures)),
+    let a = c .before .before .before .before .before .before .before .before .before .before .before .before .before .before .before .before .before .args in
+    let e = c .before .before .before .before .before .before .before .before .before .before .sizes-of .ensures (facts (c .before .before .before .before .before .before .before) .of-key .header) in (
+      prove-solved-reply (now (a .key)) (now (a .leaves)) (now (a .witness)) (now (a .matrix)) (now (a .batching)) (now (a .out)) (asked (c .before .before .before .before .before .before .before)) _ (c .before .before .before .before .before .before .solved .ensures),
+      rw (c .before .before .before .before .enum-told3 .given .1) (c .before .before .prove .ensures ∙ ap (λ (z : Shape). bytesOf (sectionsOf bits256 z (now (a .leaves)) (now (a .key)) (now (a .witness)) (now (a .matrix)) (now (a .batching)))) e),
     )
 
 pub prove-spec : {M : Type 1} → statement M
 prove-spec =
     tie.close
     (tie.spec
+    sizes-of-requires
     prove-form-requires
     enum-told
     enum-told-2
@@ -80,7 +86,6 @@ prove-spec =
     enum-told-3
     enum-told-4
     returns-2
-    sizes-of-requires
     prove-requires
     same-length
     returns-3)

@@ -1,18 +1,24 @@
 -- `solfadrus::calls::test` meets its contract: a refusal on form is its reply, and else question 11's.
 -- Assumes nothing.
-use mathlib.Core.Path.{_≡_, refl, sym, ap, _∙_, subst}
-use mathlib.Core.List.{List}
-use Prim.Native.Nat.{ℕ}
+use mathlib.Core.Path.{_≡_, sym, ap, _∙_}
 use denote.Ref.{now}
+use Rattle.protocol.specs.Binary.{bits256}
+use Rattle.protocol.specs.Answers.{accepted, ask}
+use Rattle.protocol.specs.Calls.{testQuestions}
 use Rattle.format.specs.Verdict.{answerOf}
+use Rattle.questions.specs.Facts.{TestFacts}
+use Rattle.questions.proofs.KeyLaws.{by-sizes}
 use Rattle.solfadrus.proofs.FactLaws.{test-facts}
 use Rattle.solfadrus.proofs.ReplyLaws.{refused-not, test-form-reply, test-solved-reply}
 use borrow.Author.Needs.{needs}
 use Rattle.solfadrus.proofs.calls.test.Statement.{statement}
 use Rattle.solfadrus.proofs.calls.test.Tie as tie
 
+sizes-of-requires : tie.Need-sizes-of-requires
+sizes-of-requires c κs = search needs
+
 test-form-requires : tie.Need-test-form-requires
-test-form-requires c κs = search needs
+test-form-requires c κs = c .sizes-of .ensures
 
 enum-told : tie.Need-enum-told
 enum-told c = search needs
@@ -21,20 +27,19 @@ enum-told-2 : tie.Need-enum-told-2
 enum-told-2 c = search needs
 
 returns : tie.Need-returns
-returns c =
-    let a = c .before .before .before .before .before .args in
-    test-form-reply (now (a .key)) (now (a .witness)) _ (c .before .before .test-form .ensures) (rw (c .enum-told2 .given .1) (refused-not _ _))
+returns c = test-form-reply (now (c .before .before .before .before .before .before .args .key)) (now (c .before .before .before .before .before .before .args .witness)) _ (c .before .before .test-form .ensures) (rw (c .enum-told2 .given .1) (refused-not _ _))
+
+asked : (c : tie.After-enum-told) → ask (testQuestions bits256 (now (c .before .before .before .before .before .before .args .key)) (now (c .before .before .before .before .before .before .args .witness))) ≡ accepted
+asked c = sym (c .before .before .test-form .ensures) ∙ ap answerOf (c .enum-told .given .1)
 
 solved-requires : tie.Need-solved-requires
 solved-requires c κs =
-    let a = c .before .before .before .before .before .args in
-    let f = test-facts (now (a .key)) (now (a .witness)) (sym (c .before .before .test-form .ensures) ∙ ap answerOf (c .enum-told .given .1)) in
-    (f .of-key, f .of-witness)
+    let key = now (c .before .before .before .before .before .before .args .key) in
+    let f = test-facts key (now (c .before .before .before .before .before .before .args .witness)) (asked c) in
+    (c .before .before .before .sizes-of .ensures, by-sizes (λ z. TestFacts z key (now (c .before .before .before .before .before .before .args .witness))) (c .before .before .before .sizes-of .result) key (c .before .before .before .sizes-of .ensures) (f .of-key .header) f)
 
 returns-2 : tie.Need-returns-2
-returns-2 c =
-    let a = c .before .before .before .before .before .before .args in
-    test-solved-reply (now (a .key)) (now (a .witness)) (sym (c .before .before .before .test-form .ensures) ∙ ap answerOf (c .before .enum-told .given .1)) _ (c .solved .ensures)
+returns-2 c = test-solved-reply (now (c .before .before .before .before .before .before .before .args .key)) (now (c .before .before .before .before .before .before .before .args .witness)) (asked (c .before)) _ (c .solved .ensures)
 
 pub test-spec : {M : Type 1} → statement M
-test-spec = tie.close (tie.spec test-form-requires enum-told enum-told-2 returns solved-requires returns-2)
+test-spec = tie.close (tie.spec sizes-of-requires test-form-requires enum-told enum-told-2 returns solved-requires returns-2)
