@@ -1,4 +1,5 @@
--- Decimal digits: the last one after the digits of a tenth, and how many there are; and a line that is stored part by part.
+-- Decimal digits: the last one after the digits of a tenth, and how many there are; and a line that is stored part by
+-- part.
 -- Assumes nothing.
 use mathlib.Core.Path.{_≡_, sym, ap, _∙_}
 use mathlib.Core.List.{List, [], _∷_, _++_, append-assoc}

@@ -1,7 +1,10 @@
--- What the check program makes of six strings, each after its count: proofs/ReadBack proves these of `checkOf`, the very name in the program's contract.
+-- What the check program makes of six strings, each after its count: proofs/ReadBack proves these of `checkOf`, the
+-- very name in the program's contract.
 --   six k d h x o p == the strings, each after its count
---   ReadBack == "reads key, Δ, H′, χ, opened leaves, proof ..., each after its four-byte count": the verifier is asked of these very strings
---   TooLong == "more than 65,536 bytes of input in all";  LeftOver == "bytes left over";  CutShort == "a cut section": an input that ends early, wherever
+--   ReadBack == "reads key, Δ, H′, χ, opened leaves, proof ..., each after its four-byte count": the verifier is asked
+--     of these very strings
+--   TooLong == "more than 65,536 bytes of input in all";  LeftOver == "bytes left over";  CutShort == "a cut section":
+--     an input that ends early, wherever
 -- Assumes nothing.
 use mathlib.Core.Path.{_≡_}
 use mathlib.Core.List.{List, [], _∷_, _++_}

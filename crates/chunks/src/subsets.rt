@@ -10,9 +10,10 @@ ghost use Rattle.strings.specs.Rows.{RowsKept};
 ghost use Rattle.chunks.specs.Subsets.{GroupFilled};
 use super::cells::copy_part;
 use super::masks::fill_part;
+use format::sizes::MOST_REPETITIONS;
 
-// The widest row that is served.
-const WIDEST: usize = 48;
+// The widest row that is served: one of all lanes.
+const WIDEST: usize = MOST_REPETITIONS;
 
 // Entry `to` becomes entry `from` plus a row.
 fn fill_entry(sums: &mut [u8], w: usize, from: usize, to: usize, row: &[u8])

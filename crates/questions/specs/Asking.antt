@@ -1,6 +1,8 @@
--- How the code puts its questions: those on the key first, then one input after the other, each only where all before got a yes.
+-- How the code puts its questions: those on the key first, then one input after the other, each only where all before
+-- got a yes.
 --   keyQuestions key == questions 1 to 4;  outputQuestion ls n == question 10, of an output of n bytes
---   commitInputs s .., hashInputs, batchInputs, proveInputs, verifyInputs == the questions of a call after those on the key, by the sizes s
+--   commitInputs s .., hashInputs, batchInputs, proveInputs, verifyInputs == the questions of a call after those on the
+--     key, by the sizes s
 --   proofQuestions s proof == questions 12 and 13
 --   CommitAsked .. n a, HashAsked, BatchAsked, ProveAsked == a is the answer to the call's questions on form, for every
 --     output of n bytes

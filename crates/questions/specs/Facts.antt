@@ -5,7 +5,8 @@
 --   PlacesOf s proof places == so it is, and the reader has stood at these places
 --   SectionIs s proof i r == r is section i of the proof, and has its length
 --   ProofAsked s proof walk == the answer to questions 12 and 13; and where that is accepted, where the reader stood
---   TestFacts, CommitFacts, HashFacts, BatchFacts, ProveFacts == of all inputs that a call goes on with, and of its output's length
+--   TestFacts, CommitFacts, HashFacts, BatchFacts, ProveFacts == of all inputs that a call goes on with, and of its
+--     output's length
 -- Assumes nothing.
 use mathlib.Core.Path.{_≡_}
 use mathlib.Core.Bool.{true}

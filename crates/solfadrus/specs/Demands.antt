@@ -1,8 +1,11 @@
 -- Demand 1 and demand 2 of the exports, over what their contracts promise. Demand 3 is in Forgery.
 --   Listed s r == r is 0, or number × 65,536 + place of a refusal in the published list, for a key of sizes s
---   Asked qs r == r is 0 and every question of qs gets a yes, or r is number × 65,536 + place of the first that gets a no; qs p has p for the place of 11
---   RefusedByEleven key x r == r is a refusal exactly when some equation of the key fails at x, and then its number is 11
---   TestTold, CommitWrites, HashWrites, BatchWrites, ProveWrites == the promises of mq_test, mq_commit, mq_hash, mq_batch, mq_prove: their inputs, the output before and after, the number
+--   Asked qs r == r is 0 and every question of qs gets a yes, or r is number × 65,536 + place of the first that gets a
+--     no; qs p has p for the place of 11
+--   RefusedByEleven key x r == r is a refusal exactly when some equation of the key fails at x, and then its number is
+--     11
+--   TestTold, CommitWrites, HashWrites, BatchWrites, ProveWrites == the promises of mq_test, mq_commit, mq_hash,
+--     mq_batch, mq_prove: their inputs, the output before and after, the number
 --   VerifyTold == the promise of mq_verify, which writes nothing: its inputs, the number
 -- Assumes nothing.
 use mathlib.Core.Path.{_≡_}
@@ -72,7 +75,8 @@ pub record EveryQuestionPut : Type 0 where
   pub verify-put : (key Δ H′ χ opened proof : List ℕ) (r : ℕ) → VerifyTold key Δ H′ χ opened proof r
       → Asked (λ p. verifyPuts bits256 key Δ H′ χ opened proof) r
 
--- Each place of that list means what the list says: no call names an equation that holds or a repetition in which the check holds.
+-- Each place of that list means what the list says: no call names an equation that holds or a repetition in which the
+-- check holds.
 pub record PlacesNamed : Type 0 where
   -- "11, with the number of some equation that fails"
   pub test-names : (key x : List ℕ) (i : ℕ) → i < 65536 → TestTold key x (11 * 65536 + i) → fails bits256 (shapeOf key) key x i
@@ -87,7 +91,8 @@ pub record PlacesNamed : Type 0 where
       → FirstFailing (shapeOf key .τ) (productIn bits256 (shapeOf key) key Δ χ opened proof) e
       × ((i : ℕ) → i < shapeOf key .τ → consistentIn bits256 (shapeOf key) Δ H′ opened proof i ≡ true)
 
--- "a refused call changes no lent byte": of any export that writes. Inputs are lent for reading only, and mq_verify is lent nothing else.
+-- "a refused call changes no lent byte": of any export that writes. Inputs are lent for reading only, and mq_verify is
+-- lent nothing else.
 abbrev pub RefusedKeeps : Type 1
 RefusedKeeps = (reply : Answer → Type 0) (before after string : List ℕ) (r : ℕ) → Writes reply before after string r → r ≢ 0 → after ≡ before
 
@@ -98,7 +103,8 @@ pub record AcceptedWrites : Type 0 where
   pub batch-writes : (key leaves x χ before after : List ℕ) → BatchWrites key leaves x χ before after 0 → after ≡ batchBytes bits256 key leaves x χ
   pub prove-writes : (key leaves x H′ χ before after : List ℕ) → ProveWrites key leaves x H′ χ before after 0 → after ≡ proofOf bits256 key leaves x H′ χ
 
--- "a witness of right form is refused exactly when some equation fails": by the number 11, whose place `PlacesNamed` speaks of
+-- "a witness of right form is refused exactly when some equation fails": by the number 11, whose place `PlacesNamed`
+-- speaks of
 pub record RefusedWhenFails : Type 0 where
   pub test-fails : (key x : List ℕ) (r : ℕ) → testForm bits256 key x ≡ true → TestTold key x r → RefusedByEleven key x r
   pub commit-fails : (key leaves x before after : List ℕ) (r : ℕ) → commitForm bits256 key leaves x before ≡ true → CommitWrites key leaves x before after r → RefusedByEleven key x r
@@ -110,12 +116,14 @@ abbrev pub VerifierAcceptsExactly : Type 0
 VerifierAcceptsExactly = (key Δ H′ χ opened proof : List ℕ) (r : ℕ) → verifyForm bits256 key Δ H′ χ opened proof ≡ true → VerifyTold key Δ H′ χ opened proof r
     → (r ≡ 0) ↔ ((e : ℕ) → e < shapeOf key .τ → (consistentIn bits256 (shapeOf key) Δ H′ opened proof e ≡ true) × (productIn bits256 (shapeOf key) key Δ χ opened proof e ≡ true))
 
--- "So an honest proof is accepted at every challenge": what mq_prove wrote, mq_verify accepts at every Δ, with the leaves opened there.
+-- "So an honest proof is accepted at every challenge": what mq_prove wrote, mq_verify accepts at every Δ, with the
+-- leaves opened there.
 abbrev pub WrittenIsAccepted : Type 0
 WrittenIsAccepted = (key leaves x H′ χ before after Δ : List ℕ) (r : ℕ) → ProveWrites key leaves x H′ χ before after 0 → length Δ ≡ shapeOf key .τ → bytes Δ
     → VerifyTold key Δ H′ χ (opening bits256 (shapeOf key) leaves Δ) after r → r ≡ 0
 
--- What the three steps wrote of one key, leaves and witness, one after the other, is what mq_prove writes: a proof, which mq_verify accepts at every Δ.
+-- What the three steps wrote of one key, leaves and witness, one after the other, is what mq_prove writes: a proof,
+-- which mq_verify accepts at every Δ.
 abbrev pub StepsMakeWhole : Type 0
 StepsMakeWhole = (key leaves x H′ χ b₁ a₁ b₂ a₂ b₃ a₃ : List ℕ) → CommitWrites key leaves x b₁ a₁ 0 → HashWrites key leaves H′ b₂ a₂ 0 → BatchWrites key leaves x χ b₃ a₃ 0
     → a₁ ++ (a₂ ++ a₃) ≡ proofOf bits256 key leaves x H′ χ
@@ -124,7 +132,8 @@ abbrev pub StepsAreAccepted : Type 0
 StepsAreAccepted = (key leaves x H′ χ b₁ a₁ b₂ a₂ b₃ a₃ Δ : List ℕ) (r : ℕ) → CommitWrites key leaves x b₁ a₁ 0 → HashWrites key leaves H′ b₂ a₂ 0 → BatchWrites key leaves x χ b₃ a₃ 0
     → length Δ ≡ shapeOf key .τ → bytes Δ → VerifyTold key Δ H′ χ (opening bits256 (shapeOf key) leaves Δ) (a₁ ++ (a₂ ++ a₃)) r → r ≡ 0
 
--- What mq_prove wrote reads back: the finder finds its six sections, one after the other, each from where the one before ended, and the last ends where it ends.
+-- What mq_prove wrote reads back: the finder finds its six sections, one after the other, each from where the one
+-- before ended, and the last ends where it ends.
 abbrev pub ReadsBack : Type 0
 ReadsBack = (key leaves x H′ χ before after : List ℕ) → ProveWrites key leaves x H′ χ before after 0
     → let p = sectionsOf bits256 (shapeOf key) leaves key x H′ χ in Reads after 0 (lengths bits256 (shapeOf key)) (p .C ∷ p .d ∷ p .ũ ∷ p .Ṽ ∷ p .QS0 ∷ p .QS1 ∷ [])

@@ -1,6 +1,7 @@
 -- What an export tells C.
 --   Told reply r == r is the word of an answer that `reply` allows
---   Writes reply before after string r == the same, and the output holds `string` after an accepted call, and else what it held before
+--   Writes reply before after string r == the same, and the output holds `string` after an accepted call, and else what
+--     it held before
 --   CommitWritten .. before after a, HashWritten, BatchWritten, ProveWritten == after the answer a the output holds the
 --     call's bytes where it is accepted, and else what it held before
 -- Assumes nothing.

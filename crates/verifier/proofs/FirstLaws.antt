@@ -1,4 +1,5 @@
--- The first index that fails a test, from what a loop knows that looks for it; and two tests that agree below the bound.
+-- The first index that fails a test, from what a loop knows that looks for it; and two tests that agree below the
+-- bound.
 -- Assumes nothing.
 use mathlib.Core.Path.{_≡_, refl, ap, ap₂}
 use mathlib.Core.Bool.{Bool, true, false}

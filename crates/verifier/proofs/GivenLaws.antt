@@ -45,7 +45,8 @@ verify-facts s key Δ H′ χ opened proof facts h form =
       of-proof = form;
     }
 
--- the questions on the key, on the other inputs, on the proof, and the checks, each only where all before got a yes: the verifier's answer
+-- the questions on the key, on the other inputs, on the proof, and the checks, each only where all before got a yes:
+-- the verifier's answer
 pub all-asked : (s : Shape) (key Δ H′ χ opened proof : List ℕ) → s ≡ shapeOf key → {a b c d : Answer} → a ≡ ask (keyQuestions key) → b ≡ ask (verifyInputs s Δ H′ χ opened)
     → c ≡ ask (proofQuestions s proof) → d ≡ ask (checkQuestions s key Δ H′ χ opened proof) → andThen a (andThen b (andThen c d)) ≡ verifyAnswer bits256 key Δ H′ χ opened proof
 unfolding verifyAnswer

@@ -1,4 +1,5 @@
--- The product check's left side, put together from its parts: `l₁`, `l₂`, `l₃` are the lane as the parts are added to it.
+-- The product check's left side, put together from its parts: `l₁`, `l₂`, `l₃` are the lane as the parts are added to
+-- it.
 -- Assumes nothing.
 use mathlib.Core.Path.{_≡_, ap, ap₂, _∙_}
 use mathlib.Core.List.{List}

@@ -1,4 +1,5 @@
--- The sections of a proof: their lengths and bytes; and the two checks of all repetitions, from what the kernels ensure.
+-- The sections of a proof: their lengths and bytes; and the two checks of all repetitions, from what the kernels
+-- ensure.
 -- Assumes nothing.
 use mathlib.Core.Path.{_≡_, refl, sym, ap, ap₂, _∙_}
 use mathlib.Core.List.{List, [], _∷_}

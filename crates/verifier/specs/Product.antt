@@ -3,7 +3,8 @@
 --   EquationsOf s A b y χ == the sections of a key of sizes s that are in range, and its batching bytes
 --   LeftSides s A b y χ Δ T left == byte e of left is the left side of repetition e
 --   valueByte m χ y e == Σ_i χ(e, i)·y_i
---   productByte == the left side at the vector f of repetition e: the batched f·A·f, plus δ times the batched b·f, plus δ² times the batched y, plus the mask
+--   productByte == the left side at the vector f of repetition e: the batched f·A·f, plus δ times the batched b·f, plus
+--     δ² times the batched y, plus the mask
 -- Assumes nothing.
 use mathlib.Core.Path.{_≡_}
 use mathlib.Core.Bool.{true}

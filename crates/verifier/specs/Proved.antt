@@ -1,6 +1,7 @@
 -- What the two checks are given.
 --   Opened s Δ opened proof table == the lanes of the table are W_e of every repetition
---   FirstInconsistent s Δ H′ proof table r == r is the first repetition that is not consistent, or their number, whatever leaves were opened into
+--   FirstInconsistent s Δ H′ proof table r == r is the first repetition that is not consistent, or their number,
+--     whatever leaves were opened into
 --     the table
 --   FirstDiffers s key Δ χ proof table r == the same of the product check
 -- Assumes nothing.

@@ -31,6 +31,7 @@ use questions::proof::C;
 use questions::proof::proof_form;
 use questions::proof::proof_section;
 use sections::reader::Places;
+use strings::BITS;
 
 // Questions 14 and 15, with a table of exact length.
 fn ask_checks(
@@ -82,9 +83,9 @@ fn both_checks(
     ensures { λ r. ⌜ answerOf r ≡ ask (checkQuestions (shapeFor s) (now (key .entry)) (now (delta .entry)) (now (matrix .entry)) (now (batching .entry)) (now (opened .entry)) (now (proof .entry))) ⌝ }
 {
     let w = leaf_bytes(s);
-    let mut table = [0u8; 8 * MOST_LEAF * LANES];
+    let mut table = [0u8; BITS * MOST_LEAF * LANES];
     ask_checks(
-        &mut table[..8 * w * LANES],
+        &mut table[..BITS * w * LANES],
         key,
         delta,
         matrix,

@@ -1,4 +1,5 @@
--- `verifier::verify` meets its contract: a refusal on the key, the other inputs or the proof is its answer, and else the two checks give it.
+-- `verifier::verify` meets its contract: a refusal on the key, the other inputs or the proof is its answer, and else
+-- the two checks give it.
 -- Assumes nothing.
 use borrow.Author.Needs.{needs}
 use mathlib.Core.Path.{refl, sym, ap, _∙_}

@@ -1,4 +1,5 @@
--- `checking::input::read_lengths` meets its contract. The loop's invariant: the lengths so far are those of the sections before `next`, and from there on the others have still to follow.
+-- `checking::input::read_lengths` meets its contract. The loop's invariant: the lengths so far are those of the
+-- sections before `next`, and from there on the others have still to follow.
 -- Assumes nothing.
 use mathlib.Core.Path.{_≡_, refl, sym, ap, _∙_}
 use mathlib.Core.Bool.{false≢true}

@@ -1,4 +1,5 @@
--- `checking::line::put_decimal` meets its contract: the digits of a tenth, then the last one. The measure is the number.
+-- `checking::line::put_decimal` meets its contract: the digits of a tenth, then the last one. The measure is the
+-- number.
 -- Assumes nothing.
 use mathlib.Core.Path.{sym, ap, subst, _∙_}
 use mathlib.Core.List.{[], _∷_}

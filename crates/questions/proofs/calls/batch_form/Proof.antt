@@ -1,4 +1,5 @@
--- `questions::calls::batch_form` meets its contract. The questions on the key, then those on the other inputs, by the sizes that the key has.
+-- `questions::calls::batch_form` meets its contract. The questions on the key, then those on the other inputs, by the
+-- sizes that the key has.
 -- Assumes nothing.
 use mathlib.Core.Path.{sym, ap, _∙_}
 use borrow.Author.Needs.{needs}

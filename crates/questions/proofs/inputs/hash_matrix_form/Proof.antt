@@ -1,4 +1,5 @@
--- `questions::inputs::hash_matrix_form` meets its contract. Each return is the first question that got a no, or none did.
+-- `questions::inputs::hash_matrix_form` meets its contract. Each return is the first question that got a no, or none
+-- did.
 -- Assumes nothing.
 use mathlib.Core.Path.{_≡_, refl, sym, ap, _∙_}
 use Prim.Native.Nat.{_*_}

@@ -1,4 +1,5 @@
--- `questions::inputs::leaves_form` meets its contract. Each return is the answer so far, or the first question that got a no, or none did.
+-- `questions::inputs::leaves_form` meets its contract. Each return is the answer so far, or the first question that got
+-- a no, or none did.
 -- Assumes nothing.
 use mathlib.Core.Path.{_≡_, sym, ap, _∙_}
 use mathlib.Core.Bool.{true}

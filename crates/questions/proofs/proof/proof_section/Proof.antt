@@ -1,4 +1,5 @@
--- `questions::proof::proof_section` meets its contract. Where the sections are exact, the reader has stood where the lengths say (`ReaderLaws`).
+-- `questions::proof::proof_section` meets its contract. Where the sections are exact, the reader has stood where the
+-- lengths say (`ReaderLaws`).
 -- Assumes nothing.
 use mathlib.Core.Path.{_≡_, ap, _∙_}
 use Prim.Native.Nat.{ℕ, _<_}

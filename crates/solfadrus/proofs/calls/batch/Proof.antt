@@ -1,4 +1,5 @@
--- `solfadrus::calls::batch` meets its contract: a refusal on form, then question 11's, is its reply; and else the step's bytes are written.
+-- `solfadrus::calls::batch` meets its contract: a refusal on form, then question 11's, is its reply; and else the
+-- step's bytes are written.
 -- Assumes nothing.
 use mathlib.Core.Path.{_≡_, refl, sym, ap, _∙_}
 use mathlib.Core.List.{[], _∷_}

@@ -1,4 +1,5 @@
--- `solfadrus::calls::prove` meets its contract: a refusal on form, then question 11's, is its reply; and else the proof is written.
+-- `solfadrus::calls::prove` meets its contract: a refusal on form, then question 11's, is its reply; and else the proof
+-- is written.
 -- Assumes nothing.
 use mathlib.Core.Path.{_≡_, refl, sym, ap, _∙_}
 use denote.Ref.{now}

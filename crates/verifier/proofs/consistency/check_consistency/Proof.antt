@@ -1,4 +1,5 @@
--- `verifier::consistency::check_consistency` meets its contract: the buffer holds the hashes of the largest key, and so those of this one.
+-- `verifier::consistency::check_consistency` meets its contract: the buffer holds the hashes of the largest key, and so
+-- those of this one.
 -- Assumes nothing.
 use mathlib.Core.Path.{sym}
 use Prim.Native.Nat.{_*_}

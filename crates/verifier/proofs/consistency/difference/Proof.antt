@@ -1,4 +1,5 @@
--- `verifier::consistency::difference` meets its contract. The invariant: what was found is 0 exactly where the entries passed are as they must be.
+-- `verifier::consistency::difference` meets its contract. The invariant: what was found is 0 exactly where the entries
+-- passed are as they must be.
 -- Assumes nothing.
 use borrow.Author.Needs.{needs}
 use Prim.Native.Nat.{ℕ, _-_, _≤_}

@@ -1,4 +1,5 @@
--- `verifier::product::add_difference` meets its contract. The invariant: the coordinates passed are changed, and no other.
+-- `verifier::product::add_difference` meets its contract. The invariant: the coordinates passed are changed, and no
+-- other.
 -- Assumes nothing.
 use borrow.Author.Needs.{needs}
 use Prim.Native.Nat.{ℕ, _*_, _-_, _≤_, _<_}

@@ -1,4 +1,5 @@
--- `verifier::product::check_product` meets its contract: the table holds K_e, and the left sides are those of the product check.
+-- `verifier::product::check_product` meets its contract: the table holds K_e, and the left sides are those of the
+-- product check.
 -- Assumes nothing.
 use borrow.Author.Needs.{needs}
 use Prim.Native.Nat.{ℕ, _*_, _<_}

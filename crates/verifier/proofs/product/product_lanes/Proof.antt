@@ -1,4 +1,5 @@
--- `verifier::product::product_lanes` meets its contract: what the first n coordinates of the table give is what the table gives (`PrefixLaws`).
+-- `verifier::product::product_lanes` meets its contract: what the first n coordinates of the table give is what the
+-- table gives (`PrefixLaws`).
 -- Assumes nothing.
 use borrow.Author.Needs.{needs}
 use Prim.Native.Nat.{ℕ, zero, suc, _+_, _*_, _<_}
