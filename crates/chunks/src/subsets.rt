@@ -5,6 +5,7 @@ ghost use mathlib.Core.Path.{_≡_};
 ghost use Prim.Native.Nat.{ℕ, _+_, _*_, _^_, _<_, _≤_};
 ghost use lib.ListN.{length};
 ghost use lib.Bits.{bitXor};
+ghost use Rattle.protocol.specs.Shape.{mostRepetitions};
 ghost use Rattle.strings.specs.Sums.{byteAt};
 ghost use Rattle.strings.specs.Rows.{RowsKept};
 ghost use Rattle.chunks.specs.Subsets.{GroupFilled};
@@ -17,7 +18,7 @@ const WIDEST: usize = MOST_REPETITIONS;
 
 // Entry `to` becomes entry `from` plus a row.
 fn fill_entry(sums: &mut [u8], w: usize, from: usize, to: usize, row: &[u8])
-    requires { ⌜ (from * w + w ≤ length (now sums)) × (to * w + w ≤ length (now sums)) × (length (now row) ≡ w) × (w ≤ 48) ⌝ }
+    requires { ⌜ (from * w + w ≤ length (now sums)) × (to * w + w ≤ length (now sums)) × (length (now row) ≡ w) × (w ≤ mostRepetitions) ⌝ }
     ensures { λ _. ⌜ ((f : ℕ) → f < w → byteAt (now (sums .exit)) (to * w + f) ≡ bitXor (byteAt (now (sums .entry)) (from * w + f)) (byteAt (now (row .entry)) f)) ⌝ }
     ensures { λ _. ⌜ RowsKept w to (now (sums .entry)) (now (sums .exit)) ⌝ }
 {
@@ -28,7 +29,7 @@ fn fill_entry(sums: &mut [u8], w: usize, from: usize, to: usize, row: &[u8])
 
 // The `count` entries from base on, each plus a row, become the next as many.
 fn fill_next(sums: &mut [u8], w: usize, base: usize, count: usize, row: &[u8])
-    requires { ⌜ ((base + count + count) * w ≤ length (now sums)) × (length (now row) ≡ w) × (w ≤ 48) × (0 < w) ⌝ }
+    requires { ⌜ ((base + count + count) * w ≤ length (now sums)) × (length (now row) ≡ w) × (w ≤ mostRepetitions) × (0 < w) ⌝ }
     ensures { λ _. ⌜ ((v f : ℕ) → v < count → f < w
         → byteAt (now (sums .exit)) ((base + count + v) * w + f) ≡ bitXor (byteAt (now (sums .entry)) ((base + v) * w + f)) (byteAt (now (row .entry)) f)) ⌝ }
     ensures { λ _. ⌜ ((q f : ℕ) → q < base + count → f < w → byteAt (now (sums .exit)) (q * w + f) ≡ byteAt (now (sums .entry)) (q * w + f)) ⌝ }
@@ -61,7 +62,7 @@ pub fn fill_group(
     n: usize,
     table: &[u8],
 )
-    requires { ⌜ ((g * entries + entries) * w ≤ length (now sums)) × (length (now table) ≡ n * w) × (entries ≡ 2 ^ size) × (size ≤ 5) × (w ≤ 48) × (0 < w) ⌝ }
+    requires { ⌜ ((g * entries + entries) * w ≤ length (now sums)) × (length (now table) ≡ n * w) × (entries ≡ 2 ^ size) × (size ≤ 5) × (w ≤ mostRepetitions) × (0 < w) ⌝ }
     ensures { λ _. ⌜ GroupFilled (now (table .entry)) w size entries g (now (sums .exit)) ⌝ }
     ensures { λ _. ⌜ ((q f : ℕ) → q < g * entries → f < w → byteAt (now (sums .exit)) (q * w + f) ≡ byteAt (now (sums .entry)) (q * w + f)) ⌝ }
 {
