@@ -1,5 +1,6 @@
 #!/bin/sh
-# Holds the table of named forms in docs/ARCHITECTURE.md against the code: each place must be there, once. With --write it makes the table.
+# Holds the table of named forms in docs/ARCHITECTURE.md against the code: each place must be there, once. With --write
+# it makes the table.
 set -eu
 cd "$(dirname "$0")/.."
 table=$(mktemp)

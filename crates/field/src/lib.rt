@@ -55,8 +55,7 @@ impl Gf256 {
     }
 
     // The product, on bytes throughout so that a loop over it takes sixteen to a register. As many turns as the degree,
-    // whatever the operands are,
-    // with no branch and no table that goes by them.
+    // whatever the operands are, with no branch and no table that goes by them.
     pub fn multiply(a: u8, b: u8) -> u8
         ensures { λ r. ⌜ r ≡ mulByte gf256 a b ⌝ }
     {

@@ -10,6 +10,7 @@ ghost use Rattle.protocol.specs.Sections.{lengths, commitLengths, hashLengths, 
 ghost use Rattle.format.specs.Sizes.{shapeFor, SizesOf};
 use super::numbers::number2;
 use field::Gf256;
+use strings::BITS;
 
 // n variables, m equations, τ repetitions, t hash rows.
 pub struct Sizes {
@@ -29,9 +30,9 @@ pub const MOST_REPETITIONS: usize = 48;
 pub const MOST_HASH_ROWS: usize = 160;
 
 // Room for the largest key: the bytes of a leaf, and of a row of H′.
-pub const MOST_LEAF: usize = (MOST_VARIABLES + Gf256::DEGREE + MOST_HASH_ROWS + 7) / 8;
+pub const MOST_LEAF: usize = (MOST_VARIABLES + Gf256::DEGREE + MOST_HASH_ROWS + 7) / BITS;
 
-pub const MOST_ROW: usize = (MOST_VARIABLES + Gf256::DEGREE + 7) / 8;
+pub const MOST_ROW: usize = (MOST_VARIABLES + Gf256::DEGREE + 7) / BITS;
 
 // The bytes of n, m, τ, t at the start of a key.
 pub const HEADER: usize = 8;
@@ -81,7 +82,7 @@ pub fn bytes_for(bits: usize) -> usize
     requires { ⌜ bits + 7 < 2 ^ 64 ⌝ }
     ensures { λ r. ⌜ r ≡ bytesFor bits ⌝ }
 {
-    (bits + 7) / 8
+    (bits + 7) / BITS
 }
 
 // k = n + 8: the coordinates that a row of H′ covers.

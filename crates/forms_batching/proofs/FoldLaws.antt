@@ -1,6 +1,5 @@
 -- A sum over the entries of a folded matrix, under weights that are symmetric, is the sum over all entries of the
--- matrix: for forms and for their
--- polar forms.
+-- matrix: for forms and for their polar forms.
 -- Assumes nothing.
 use mathlib.Core.Path.{_≡_, sym, ap, ap₂, _∙_}
 use mathlib.Core.Bool.{Bool, true, false, cond}

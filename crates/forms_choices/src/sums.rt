@@ -54,7 +54,7 @@ pub fn fill_sums(sums: &mut [u8], groups: usize, n: usize, table: &[u8])
 }
 
 // Where the entry stands that five j of a word chooses among the 32 of group g.
-fn place_of(w: u64, g: usize, j: usize) -> usize
+fn entry_place(w: u64, g: usize, j: usize) -> usize
     requires { ⌜ (j < 10) × (g < 32) ⌝ }
     ensures { λ r. ⌜ (r ≡ (g * 32 + five w j) * chunk) × (five w j < 32) ⌝ }
 {
@@ -72,8 +72,8 @@ fn add_ten(first: &mut [u8; CHUNK], second: &mut [u8; CHUNK], w: u64, x: u64, su
     let mut j = 0;
     while j < 10 {
         let g = k * 10 + j;
-        add_at(first, sums, place_of(w, g, j));
-        add_at(second, sums, place_of(x, g, j));
+        add_at(first, sums, entry_place(w, g, j));
+        add_at(second, sums, entry_place(x, g, j));
         j += 1;
     }
 }
@@ -89,8 +89,8 @@ fn add_two(first: &mut [u8; CHUNK], second: &mut [u8; CHUNK], w: u64, x: u64, su
     let mut j = 0;
     while j < 2 {
         let g = 30 + j;
-        add_at(first, sums, place_of(w, g, j));
-        add_at(second, sums, place_of(x, g, j));
+        add_at(first, sums, entry_place(w, g, j));
+        add_at(second, sums, entry_place(x, g, j));
         j += 1;
     }
 }
@@ -170,7 +170,7 @@ fn add_word(sum: &mut [u8; CHUNK], w: u64, n: usize, sums: &[u8], k: usize)
 {
     let mut j = 0;
     while j < n {
-        add_at(sum, sums, place_of(w, k * 10 + j, j));
+        add_at(sum, sums, entry_place(w, k * 10 + j, j));
         j += 1;
     }
 }

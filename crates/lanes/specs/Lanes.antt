@@ -1,7 +1,7 @@
 -- Vectors of the repetitions side by side, on bytes, and their masks.
 --   lanes == the stride of a table, as many as a key may have repetitions;  laneAt T c e == coordinate c of the vector
 --     of repetition e
---   IsLanes s == s has one byte for each lane;  LaneIs e n f T == coordinates f 0, .., f (n - 1) stand in lane e;
+--   LaneIs e n f T == coordinates f 0, .., f (n - 1) stand in lane e;
 --     LanesKept e old new == the lanes other than e are as they were
 --   LanesAdded n f old new == to each of the first n lanes e, f e is added
 --   maskLane T n e == Σ α^s · coordinate n + s, s below the field's degree, in repetition e
@@ -23,9 +23,6 @@ lanes = mostRepetitions
 
 abbrev pub laneAt : List ℕ → ℕ → ℕ → ℕ
 laneAt T c e = byteAt T (c * lanes + e)
-
-abbrev pub IsLanes : List ℕ → Type 0
-IsLanes s = length s ≡ lanes
 
 abbrev pub LaneIs : ℕ → ℕ → (ℕ → ℕ) → List ℕ → Type 0
 LaneIs e n f T = (c : ℕ) → c < n → byteAt T (c * lanes + e) ≡ f c

@@ -49,7 +49,7 @@ fn hash_bit(matrix: &[u8], u: &[u8], k: usize, rho: usize) -> u8
     requires { ⌜ (rho * bytesFor k + bytesFor k ≤ length (now matrix)) × (k + rho < length (now u) * 8) × (length (now u) ≤ 100000) ⌝ }
     ensures { λ r. ⌜ r ≡ hashBit (now (matrix .entry)) (now (u .entry)) k rho ⌝ }
 {
-    let width = (k + 7) / 8;
+    let width = (k + 7) / strings::BITS;
     let row = strings::row_at(matrix, width, rho);
     strings::parity::row_product(row, &u[..width]) ^ strings::bit_at(u, k + rho)
 }

@@ -1,7 +1,6 @@
 -- In a string of sections of given lengths, the reader finds each where the lengths say that it stands; and what reads
--- back as sections, the
--- reader takes one after the other.
--- Question 12 is asked one section at a time: the reader's answer, the section's length, and what is left.
+-- back as sections, the reader takes one after the other. Question 12 is asked one section at a time: the reader's
+-- answer, the section's length, and what is left.
 --   yes? a == the answer is accepted
 -- Assumes nothing.
 use mathlib.Core.Path.{_≡_, refl, sym, ap, _∙_, subst}

@@ -7,6 +7,7 @@ ghost use Rattle.protocol.specs.Strings.{bytesFor, spareZero};
 ghost use Rattle.protocol.specs.Binary.{bits256};
 ghost use Rattle.protocol.specs.Key.{rowsSpare};
 use format::sizes::bytes_for;
+use strings::BITS;
 
 // The spare bits of all rows together, none of them looked at alone: rows may be secret, so every turn does the same
 // and nothing leaves early.
@@ -15,7 +16,7 @@ fn spare_bits(s: &[u8], bits: usize, rows: usize) -> u8
     ensures { λ r. ⌜ eqb r 0 ≡ rowsSpare bits256 bits rows (now (s .entry)) ⌝ }
 {
     let width = bytes_for(bits);
-    let used = bits % 8;
+    let used = bits % BITS;
     let mut found: u8 = 0;
     let mut i = 0;
     while i < rows {
@@ -30,7 +31,7 @@ pub fn rows_spare(s: &[u8], bits: usize, rows: usize) -> bool
     requires { ⌜ (length (now s) ≡ rows * bytesFor bits) × (bits + 7 < 2 ^ 64) ⌝ }
     ensures { λ r. ⌜ r ≡ rowsSpare bits256 bits rows (now (s .entry)) ⌝ }
 {
-    if bits % 8 == 0 {
+    if bits % BITS == 0 {
         return true;
     }
     spare_bits(s, bits, rows) == 0

@@ -1,6 +1,5 @@
 -- Demand 3 of mq_verify: whatever a stranger hands us, how many challenge strings the call accepts. It is proved of
--- every function that keeps
--- mq_verify's promise on strings of bytes; full leaves are bytes too.
+-- every function that keeps mq_verify's promise on strings of bytes; full leaves are bytes too.
 --   Answers key H′ χ proof call == call Δ opened is a number that mq_verify may answer, for every Δ and every string of
 --     opened leaves, of bytes as C lends them
 --   accepts key leaves call Δ == the call answers 0 at the challenge string Δ, with the leaves opened there
@@ -34,8 +33,7 @@ abbrev pub acceptedBy : List ℕ → List ℕ → (List ℕ → List ℕ → ℕ
 acceptedBy key leaves call = count (λ z. accepts key leaves call (map (bits256 .K .byte) z)) (strings (bits256 .K .base) (shapeOf key .τ))
 
 -- "Whatever well-formed key, full set of leaves, hash matrix, batching bytes and proof a stranger hands us": the
--- client's sentences, in order. Those that
--- speak of no call are protocol's, under the same words in its Demands.
+-- client's sentences, in order. Those that speak of no call are protocol's, under the same words in its Demands.
 pub record ForgeryBound (key leaves H′ χ proof : List ℕ) (call : List ℕ → List ℕ → ℕ) : Type 0 where
   -- "the count of challenge strings that the verifier accepts, the leaves opened anew for each, equals the product of
   -- one factor per repetition"

@@ -15,6 +15,9 @@ ghost use Rattle.strings.specs.Words.{wordOf};
 // The bits of a byte.
 pub const BITS: usize = 8;
 
+// The bytes of a word.
+pub const WORD: usize = 8;
+
 // The bytes of a register of the machine. Loops of this length stay in registers.
 pub const SIXTEEN: usize = 16;
 
@@ -92,7 +95,7 @@ pub fn xor_bit(s: &mut [u8], c: usize, q: u8)
 
 // A byte as an index.
 pub fn wide(x: u8) -> usize
-    ensures { λ r. ⌜ r ≡ x ⌝ }
+    ensures { λ r. ⌜ (r ≡ x) × (r < 256) ⌝ }
 {
     x as usize
 }

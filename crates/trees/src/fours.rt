@@ -14,7 +14,7 @@ use strings::SIXTEEN;
 use strings::row_at;
 
 // The leaves from `from` on and below `to`, sixteen bytes of each from `at` on. Leaf j stands at place j - skip.
-struct Span {
+struct Run {
     at: usize,
     skip: usize,
     from: usize,
@@ -55,7 +55,7 @@ fn add_fours(
     r: usize,
     tree: &[u8],
     w: usize,
-    s: Span,
+    s: Run,
 )
     requires { ⌜ (length (now sum) ≡ 16) × (length (now held) ≡ 144) × (length (now first) ≡ 16) × (length (now second) ≡ 16) ⌝ }
     requires { ⌜ FoursFit r w (s .at) (s .skip) (s .from) (s .to) (now tree) ⌝ }
@@ -108,7 +108,7 @@ pub fn hold_fours(
     let mut first = [0u8; SIXTEEN];
     let mut second = [0u8; SIXTEEN];
     add_sixteen(&mut s, sum, 0);
-    let span = Span { at, skip, from, to };
+    let span = Run { at, skip, from, to };
     add_fours(&mut s, held, &mut first, &mut second, r, tree, w, span);
     put_sixteen(sum, 0, &s);
     add_held(held, held_row(0, r), &first);

@@ -1,8 +1,8 @@
-//! The sittings over GF(256) of the rendering's file of vectors: each at its Δ, and with each of its changes.
+//! The examples over GF(256) of the rendering's file of vectors: each at its Δ, and with each of its changes.
 
 use crate::inputs::{framed, input, Input};
 
-const SITTINGS: &str = include_str!("../../reference/tests/vectors/sittings-degree8.rsp");
+const EXAMPLES: &str = include_str!("../../reference/tests/vectors/sittings-degree8.rsp");
 
 fn hex(text: &str) -> Vec<u8> {
     (0..text.len() / 2)
@@ -19,10 +19,10 @@ fn line(reply: &str) -> String {
     }
 }
 
-/// The value that stands after a name in a sitting.
-fn value<'a>(sitting: &'a str, name: &str) -> &'a str {
+/// The value that stands after a name in an example.
+fn value<'a>(example: &'a str, name: &str) -> &'a str {
     let start = format!("{name} = ");
-    sitting
+    example
         .lines()
         .find_map(|line| line.strip_prefix(&start))
         .unwrap()
@@ -30,17 +30,17 @@ fn value<'a>(sitting: &'a str, name: &str) -> &'a str {
 
 pub fn all() -> Vec<Input> {
     let mut inputs = Vec::new();
-    for (number, sitting) in SITTINGS.split("# sitting ").skip(1).enumerate() {
+    for (number, example) in EXAMPLES.split("# sitting ").skip(1).enumerate() {
         let sections = ["key", "delta", "hprime", "chi", "opened", "proof"]
-            .map(|name| hex(value(sitting, name)));
-        let reply = line(value(sitting, "reply"));
+            .map(|name| hex(value(example, name)));
+        let reply = line(value(example, "reply"));
         inputs.push(input(
-            format!("sitting {number}"),
+            format!("example {number}"),
             framed(&sections),
             Some(&reply),
         ));
         // changed = d byte 10 xor 1: reply 983040 factors 1 1
-        for changed in sitting
+        for changed in example
             .lines()
             .filter_map(|line| line.strip_prefix("changed = "))
         {
@@ -50,7 +50,7 @@ pub fn all() -> Vec<Input> {
             let mut other = sections.clone();
             other[5][at] ^= xor;
             inputs.push(input(
-                format!("sitting {number}, {changed}"),
+                format!("example {number}, {changed}"),
                 framed(&other),
                 Some(&line(words[6])),
             ));

@@ -1,6 +1,5 @@
 -- `forms::batch::batch_forms` meets its contract: the words of what the batching bytes choose, the lines, and the forms
--- of the batched matrix with
--- the lines (`BatchLaws`).
+-- of the batched matrix with the lines (`BatchLaws`).
 -- Assumes nothing.
 use borrow.Author.Needs.{needs}
 use Prim.Native.Nat.{ℕ, _<_}

@@ -1,6 +1,5 @@
 -- `forms::batch::batch_lanes` meets its contract: the batched forms, from zeros, and the masks. The forms of the first
--- n coordinates of the table
--- are those of the table (`PrefixLaws`).
+-- n coordinates of the table are those of the table (`PrefixLaws`).
 -- Assumes nothing.
 use borrow.Author.Needs.{needs}
 use Prim.Native.Nat.{ℕ, _*_, _≤_, _<_}

@@ -33,23 +33,23 @@ loop-holds c = (search needs, c .before .pre .0, c .before .pre .1, (λ f h. sym
 add-g : tie.Need-add-g Inv-loop μ-loop
 add-g c = search needs
 
-place-of-requires : tie.Need-place-of-requires Inv-loop μ-loop
-place-of-requires c κs = search needs
+entry-place-requires : tie.Need-entry-place-requires Inv-loop μ-loop
+entry-place-requires c κs = search needs
 
 add-at-requires : tie.Need-add-at-requires Inv-loop μ-loop
 add-at-requires c κs =
     let pre = c .before .before .before .before .before .pre in
     let l = c .before .before .before .loop in
-    (omega (arith, c .place-of .ensures .0, c .place-of .ensures .1, pre .2, c .before .before .loop-test .taken), l .inv .1)
+    (omega (arith, c .entry-place .ensures .0, c .entry-place .ensures .1, pre .2, c .before .before .loop-test .taken), l .inv .1)
 
-place-of-requires-2 : tie.Need-place-of-requires-2 Inv-loop μ-loop
-place-of-requires-2 c κs = search needs
+entry-place-requires-2 : tie.Need-entry-place-requires-2 Inv-loop μ-loop
+entry-place-requires-2 c κs = search needs
 
 add-at-requires-2 : tie.Need-add-at-requires-2 Inv-loop μ-loop
 add-at-requires-2 c κs =
     let pre = c .before .before .before .before .before .before .before .before .pre in
     let l = c .before .before .before .before .before .before .loop in
-    (omega (arith, c .place-of2 .ensures .0, c .place-of2 .ensures .1, pre .2, c .before .before .before .before .before .loop-test .taken), l .inv .2)
+    (omega (arith, c .entry-place2 .ensures .0, c .entry-place2 .ensures .1, pre .2, c .before .before .before .before .before .loop-test .taken), l .inv .2)
 
 add-j : tie.Need-add-j Inv-loop μ-loop
 add-j c = search needs
@@ -67,8 +67,8 @@ loop-again c =
       omega (arith, c .before .before .before .before .before .before .loop-test .taken),
       one .ensures .0,
       two .ensures .0,
-      (λ f h. one .ensures .1 f h ∙ ap (λ (p : ℕ). bitXor (byteAt (l .first) f) (byteAt S (p + f))) (c .before .before .before .before .place-of .ensures .0) ∙ sum-step (byteAt (now (a .first)) f) (byteAt (l .first) f) (l .j) (entry S (a .w) f) (l .inv .3 f h)),
-      (λ f h. two .ensures .1 f h ∙ ap (λ (p : ℕ). bitXor (byteAt (l .second) f) (byteAt S (p + f))) (c .before .place-of2 .ensures .0) ∙ sum-step (byteAt (now (a .second)) f) (byteAt (l .second) f) (l .j) (entry S (a .x) f) (l .inv .4 f h)),
+      (λ f h. one .ensures .1 f h ∙ ap (λ (p : ℕ). bitXor (byteAt (l .first) f) (byteAt S (p + f))) (c .before .before .before .before .entry-place .ensures .0) ∙ sum-step (byteAt (now (a .first)) f) (byteAt (l .first) f) (l .j) (entry S (a .w) f) (l .inv .3 f h)),
+      (λ f h. two .ensures .1 f h ∙ ap (λ (p : ℕ). bitXor (byteAt (l .second) f) (byteAt S (p + f))) (c .before .entry-place2 .ensures .0) ∙ sum-step (byteAt (now (a .second)) f) (byteAt (l .second) f) (l .j) (entry S (a .x) f) (l .inv .4 f h)),
     )
 
 returns : tie.Need-returns Inv-loop μ-loop
@@ -85,9 +85,9 @@ add-two-spec =
     μ-loop
     loop-holds
     add-g
-    place-of-requires
+    entry-place-requires
     add-at-requires
-    place-of-requires-2
+    entry-place-requires-2
     add-at-requires-2
     add-j
     loop-less

@@ -29,20 +29,20 @@ loop-holds : tie.Need-loop-holds Inv-loop μ-loop
 unfolding xorSum
 loop-holds c = (search needs, c .before .pre .0, λ f h. sym (xor-zero-r _))
 
-mul-place-of : tie.Need-mul-place-of Inv-loop μ-loop
-mul-place-of c = search needs
+mul-entry-place : tie.Need-mul-entry-place Inv-loop μ-loop
+mul-entry-place c = search needs
 
-add-place-of : tie.Need-add-place-of Inv-loop μ-loop
-add-place-of c = search needs
+add-entry-place : tie.Need-add-entry-place Inv-loop μ-loop
+add-entry-place c = search needs
 
-place-of-requires : tie.Need-place-of-requires Inv-loop μ-loop
-place-of-requires c κs = search needs
+entry-place-requires : tie.Need-entry-place-requires Inv-loop μ-loop
+entry-place-requires c κs = search needs
 
 add-at-requires : tie.Need-add-at-requires Inv-loop μ-loop
 add-at-requires c κs =
     let pre = c .before .before .before .before .before .pre in
     let l = c .before .before .before .loop in
-    (omega (arith, c .place-of .ensures .0, c .place-of .ensures .1, pre .3, c .before .before .loop-test .taken), l .inv .1)
+    (omega (arith, c .entry-place .ensures .0, c .entry-place .ensures .1, pre .3, c .before .before .loop-test .taken), l .inv .1)
 
 add-j : tie.Need-add-j Inv-loop μ-loop
 add-j c = search needs
@@ -58,7 +58,7 @@ loop-again c =
     let S = now (a .sums) in (
       omega (arith, c .before .before .before .loop-test .taken),
       done .ensures .0,
-      (λ f h. done .ensures .1 f h ∙ ap (λ (p : ℕ). bitXor (byteAt (l .sum) f) (byteAt S (p + f))) (c .before .place-of .ensures .0) ∙ sum-step (byteAt (now (a .sum)) f) (byteAt (l .sum) f) (l .j) (entry S (a .k) (a .w) f) (l .inv .2 f h)),
+      (λ f h. done .ensures .1 f h ∙ ap (λ (p : ℕ). bitXor (byteAt (l .sum) f) (byteAt S (p + f))) (c .before .entry-place .ensures .0) ∙ sum-step (byteAt (now (a .sum)) f) (byteAt (l .sum) f) (l .j) (entry S (a .k) (a .w) f) (l .inv .2 f h)),
     )
 
 returns : tie.Need-returns Inv-loop μ-loop
@@ -74,9 +74,9 @@ add-word-spec =
     Inv-loop
     μ-loop
     loop-holds
-    mul-place-of
-    add-place-of
-    place-of-requires
+    mul-entry-place
+    add-entry-place
+    entry-place-requires
     add-at-requires
     add-j
     loop-less

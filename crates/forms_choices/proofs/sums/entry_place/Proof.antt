@@ -1,12 +1,12 @@
--- `forms_choices::sums::place_of` meets its contract.
+-- `forms_choices::sums::entry_place` meets its contract.
 -- Assumes nothing.
 use borrow.Author.Needs.{needs}
 use mathlib.Core.Path.{refl}
 use native.Mathlib.Nat.{mod-lt}
 use native.Mathlib.Omega.{arith}
 use Rattle.forms_choices.specs.Entries.{five}
-use Rattle.forms_choices.proofs.sums.place_of.Statement.{statement}
-use Rattle.forms_choices.proofs.sums.place_of.Tie as tie
+use Rattle.forms_choices.proofs.sums.entry_place.Statement.{statement}
+use Rattle.forms_choices.proofs.sums.entry_place.Tie as tie
 
 mul-result : tie.Need-mul-result
 mul-result c = search needs
@@ -27,6 +27,6 @@ returns : tie.Need-returns
 unfolding five
 returns c = (refl, mod-lt _ (omega arith))
 
-pub place-of-spec : {M : Type 1} → statement M
-place-of-spec =
+pub entry-place-spec : {M : Type 1} → statement M
+entry-place-spec =
     tie.close (tie.spec mul-result mul-result-2 shr-result add-result mul-result-3 returns)
