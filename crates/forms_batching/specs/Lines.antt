@@ -11,6 +11,7 @@
 --   LeftAdded m J bits cells old new == where the bits are masks of x, leftBit is added to each line at the columns of
 --     panel J
 --   LinesBeside J old new == the lines are as they were at the other columns
+--   LinesAdded n w m A x old new == leftOf is added to each of m lines, at its first n coordinates
 --   weighedLine S χ m c == Σ_i χ(i)·lineBit S i c
 --   lineProduct vs e f == Σ_c f(c)·(coordinate c of vector e of vs)
 --   lineForm n L m χ e y == Σ_c y(c)·lineSum L m χ e c, over n coordinates
@@ -48,6 +49,9 @@ LeftAdded m J bits cells old new =
 
 abbrev pub LinesBeside : ℕ → List ℕ → List ℕ → Type 0
 LinesBeside J old new = (i k : ℕ) → k < chunk → (k / 2 ≡ J → ⊥) → cellAt new i k ≡ cellAt old i k
+
+abbrev pub LinesAdded : ℕ → ℕ → ℕ → List ℕ → (ℕ → ℕ) → List ℕ → List ℕ → Type 0
+LinesAdded n w m A x old new = (i c : ℕ) → i < m → c < n → lineBit new i c ≡ bitXor (lineBit old i c) (leftOf w (n * w) A x i c)
 
 abbrev pub weighedLine : List ℕ → (ℕ → ℕ) → ℕ → ℕ → ℕ
 weighedLine S χ m c = xorSum m (λ i. lineBit S i c * χ i)

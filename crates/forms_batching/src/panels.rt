@@ -12,7 +12,7 @@ ghost use Rattle.forms_choices.specs.Entries.{ChosenAll, WordsFit, GroupsFor};
 ghost use Rattle.forms_columns.specs.Stacks.{StacksFit};
 ghost use Rattle.forms_folds.specs.Folds.{FoldedSet};
 ghost use Rattle.forms_batching.specs.Batched.{formSum, IsBytes, CellsRoom, VectorsFit, PanelCells, SumsRoom, PanelStacked, vectorOf, polarSum, BatchFits};
-ghost use Rattle.forms_batching.specs.Lines.{lineForm};
+ghost use Rattle.forms_batching.specs.Lines.{lineForm, LinesAdded};
 use chunks::CHUNK;
 use format::sizes::MOST_EQUATIONS;
 use format::sizes::MOST_VARIABLES;
@@ -105,6 +105,7 @@ pub fn add_forms(
         → byteAt (now (mid .exit)) e
         ≡ bitXor (bitXor (byteAt (now (mid .entry)) e) (polarSum (s .n) (s .width) (s .m) (now (a .entry)) χ e (byteAt (now (xs .entry))) (vectorOf (now (table .entry)) e)))
         (lineForm (s .n) (now (lines .entry)) (s .m) χ e (vectorOf (now (table .entry)) e))) ⌝ }
+    ensures { λ _. ⌜ LinesAdded (s .n) (s .width) (s .m) (now (a .entry)) (byteAt (now (xs .entry))) (now (lines .entry)) (now (lines .exit)) ⌝ }
 {
     let n = s.n;
     let m = s.m;

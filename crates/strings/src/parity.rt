@@ -12,7 +12,7 @@ use super::word_at;
 // The first words of row AND x, eight bytes each, added by exclusive or, which keeps the parity of their ones.
 fn shared_words(row: &[u8], x: &[u8], words: usize) -> u64
     requires { ⌜ (length (now x) ≡ length (now row)) × (length (now row) ≤ 100000) × (words * 8 ≤ length (now row)) ⌝ }
-    ensures { λ r. ⌜ ones r % 2 ≡ shared (words * WORD) (now (row .entry)) (now (x .entry)) % 2 ⌝ }
+    ensures { λ r. ⌜ ones r % 2 ≡ shared (words * 8) (now (row .entry)) (now (x .entry)) % 2 ⌝ }
 {
     let mut sum = 0u64;
     let mut i = 0;

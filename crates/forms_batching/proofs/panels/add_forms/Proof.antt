@@ -235,6 +235,7 @@ returns c =
           ∙ lines-added (a .s .width) (a .s .n * a .s .width) (a .s .m) A χ e small x (pre .13) (l .panel) (a .s .n) enough y (gone e) L (l .lines) added)
           ∙ both-halves (byteAt (now (a .mid)) e) given added-left columns
           ∙ ap (λ (v : ℕ). bitXor (bitXor (byteAt (now (a .mid)) e) v) given) (polar-is (l .panel) (a .s .n) (a .s .width) (a .s .m) A χ e enough y (gone e) x (pre .14))),
+      added,
     )
 
 pub add-forms-spec : {M : Type 1} → statement M
