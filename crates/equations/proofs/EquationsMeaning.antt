@@ -28,7 +28,7 @@ use Rattle.protocol.proofs.StringLaws.{bit-lt}
 use Rattle.strings.specs.Sums.{byteAt, xorSum}
 use Rattle.strings.proofs.SumLaws.{sum-same}
 use Rattle.strings.proofs.Meaning.{byte-sum, byte-bit, byte-scale}
-use Rattle.equations.specs.Equations.{rowProduct, rowOf, errorBit, errorOf, FirstIn}
+use Rattle.equations.specs.Equations.{rowProduct, rowOf, errorBit, keyError, FirstIn}
 use Rattle.equations.specs.declared.Found.the-variants.{At, Nothing}
 use Rattle.equations.proofs.BlockLaws.{block-block}
 use Rattle.equations.proofs.ElementLaws.{byte-form, product-is, bitsOf}
@@ -71,8 +71,8 @@ module _ (C : Coded) (s : Shape) (key x : List ℕ) where
     unfolding yOf ySym symbol
     y-at i = sym (byte-bit C (bit (sectionY A s key) i) (bit-lt (sectionY A s key) i))
 
-    pub error-is : (i : ℕ) → errorOf n (sectionA A s key) (sectionB A s key) (sectionY A s key) x i ≡ byte (error A s key i (symbol A x))
-    unfolding errorOf errorBit error
+    pub error-is : (i : ℕ) → keyError n (sectionA A s key) (sectionB A s key) (sectionY A s key) x i ≡ byte (error A s key i (symbol A x))
+    unfolding keyError errorBit error
     error-is i =
         ap₂ bitXor (ap₂ bitXor (quad-at i) (lin-at i) ∙ sym (C .byte-add _ _)) (y-at i)
         ∙ sym (C .byte-add (quad A s key i (symbol A x) (symbol A x) ⊕ lin A s key i (symbol A x)) (yOf A s key i))
@@ -80,7 +80,7 @@ module _ (C : Coded) (s : Shape) (key x : List ℕ) where
     -- ---- a string of the errors
 
     module _ (errors : List ℕ) (long : length errors ≡ s .m)
-        (are : (i : ℕ) → i < length errors → byteAt errors i ≡ errorOf n (sectionA A s key) (sectionB A s key) (sectionY A s key) x i) where
+        (are : (i : ℕ) → i < length errors → byteAt errors i ≡ keyError n (sectionA A s key) (sectionB A s key) (sectionY A s key) x i) where
       zero-error : (i : ℕ) → i < s .m → byteAt errors i ≡ 0 → error A s key i (symbol A x) ≡ 𝟘
       zero-error i h z = sym (C .elem-byte _) ∙ ap elem (sym (are i (omega arith) ∙ error-is i) ∙ z) ∙ C .elem-zero
 

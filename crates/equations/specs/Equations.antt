@@ -1,7 +1,7 @@
 -- The equations of a key at the bits of a witness, on bytes.
 --   rowProduct row x == the product over GF(2) of the whole of a row with x
 --   rowOf n A ρ == row ρ of a matrix of n variables;  matrixOf n A i == matrix i of a section
---   errorBit n A b y x == xᵀ·A·x + b·x + y;  errorOf n A b y x i == the error of equation i of the sections A, b, y at
+--   errorBit n A b y x == xᵀ·A·x + b·x + y;  keyError n A b y x i == the error of equation i of the sections A, b, y at
 --     x
 --   EquationsFit n m A b y x == the sections are those of m equations of n variables, and x that of a witness, by their
 --     lengths
@@ -32,8 +32,8 @@ matrixOf n A i = blockAt A (n * bytesFor n) i
 unfoldable pub errorBit : ℕ → List ℕ → List ℕ → ℕ → List ℕ → ℕ
 errorBit n A b y x = bitXor (bitXor (xorSum n (λ ρ. bit x ρ * rowProduct (rowOf n A ρ) x)) (rowProduct b x)) y
 
-unfoldable pub errorOf : ℕ → List ℕ → List ℕ → List ℕ → List ℕ → ℕ → ℕ
-errorOf n A b y x i = errorBit n (matrixOf n A i) (rowOf n b i) (bit y i) x
+unfoldable pub keyError : ℕ → List ℕ → List ℕ → List ℕ → List ℕ → ℕ → ℕ
+keyError n A b y x i = errorBit n (matrixOf n A i) (rowOf n b i) (bit y i) x
 
 abbrev pub EquationsFit : ℕ → ℕ → List ℕ → List ℕ → List ℕ → List ℕ → Type 0
 EquationsFit n m A b y x = (n < 65536) × (length x ≡ bytesFor n) × (length A ≡ m * (n * bytesFor n)) × (length b ≡ m * bytesFor n) × (m ≤ length y * 8)

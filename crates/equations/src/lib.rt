@@ -5,7 +5,7 @@ ghost use Prim.Native.Nat.{ℕ, _*_, _<_, _≤_};
 ghost use lib.ListN.{length};
 ghost use Rattle.protocol.specs.Strings.{bytesFor, bit};
 ghost use Rattle.strings.specs.Sums.{byteAt};
-ghost use Rattle.equations.specs.Equations.{errorBit, errorOf, EquationsFit, FirstIn};
+ghost use Rattle.equations.specs.Equations.{errorBit, keyError, EquationsFit, FirstIn};
 
 // The first equation that fails, or that none does.
 pub enum Found {
@@ -47,7 +47,7 @@ fn equation_error(matrix: &[u8], row: &[u8], y: u8, x: &[u8], n: usize) -> u8
 // equation is looked at, whatever the others gave.
 pub fn equation_errors(errors: &mut [u8], a: &[u8], b: &[u8], y: &[u8], x: &[u8], n: usize)
     requires { ⌜ EquationsFit n (length (now errors)) (now a) (now b) (now y) (now x) ⌝ }
-    ensures { λ _. ⌜ ((i : ℕ) → i < length (now (errors .entry)) → byteAt (now (errors .exit)) i ≡ errorOf n (now (a .entry)) (now (b .entry)) (now (y .entry)) (now (x .entry)) i) ⌝ }
+    ensures { λ _. ⌜ ((i : ℕ) → i < length (now (errors .entry)) → byteAt (now (errors .exit)) i ≡ keyError n (now (a .entry)) (now (b .entry)) (now (y .entry)) (now (x .entry)) i) ⌝ }
 {
     let width = x.len();
     let size = n * width;

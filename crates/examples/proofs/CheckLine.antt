@@ -13,7 +13,7 @@ use Rattle.protocol.specs.Counting.{opening}
 use Rattle.protocol.specs.Answers.{Answer, accepted, refused}
 use Rattle.protocol.specs.Calls.{verifyAnswer}
 use Rattle.protocol.specs.Check.{answered, unread, lengthsIn, readable, checkOf, decimalDigits, decimal, lineOf, checkLine}
-use Rattle.examples.specs.Toy.{A, key, leaves, H′, χ, proofWith, answerAt}
+use Rattle.examples.specs.Toy.{A, key, leaves, H′, χ, proofWith, answerWith}
 use Rattle.examples.specs.CheckLine.{inputWith, input, lineAccepted, line15, line14, lineUnread, CheckLines}
 use Rattle.examples.proofs.ToyComputing.{computing}
 use Rattle.examples.proofs.ToyVerifier.{proof-at-02, QS1-changed-at-02, ũ-changed-at-02}
@@ -70,7 +70,7 @@ module _ (ũ q : ℕ) where
   unfolding reading
   at-5 = refl
 
-  answer-is : checkOf A s ≡ answered (answerAt key 0x02 (proofWith ũ 0x03 q))
+  answer-is : checkOf A s ≡ answered (answerWith key 0x02 (proofWith ũ 0x03 q))
   answer-is = read-is s whole at-0 at-1 at-2 at-3 at-4 at-5
 
 -- ---- the lines
@@ -91,7 +91,7 @@ text-unread : lineOf unread ≡ lineUnread
 unfolding lineOf decimal decimalDigits
 text-unread = refl
 
-line-of : (ũ q : ℕ) {a : Answer} {line : List ℕ} → answerAt key 0x02 (proofWith ũ 0x03 q) ≡ a → lineOf (answered a) ≡ line → checkLine A (inputWith key 0x02 (proofWith ũ 0x03 q)) ≡ line
+line-of : (ũ q : ℕ) {a : Answer} {line : List ℕ} → answerWith key 0x02 (proofWith ũ 0x03 q) ≡ a → lineOf (answered a) ≡ line → checkLine A (inputWith key 0x02 (proofWith ũ 0x03 q)) ≡ line
 unfolding checkLine
 line-of ũ q e t = ap lineOf (answer-is ũ q ∙ ap answered e) ∙ t
 

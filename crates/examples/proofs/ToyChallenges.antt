@@ -29,7 +29,7 @@ use Rattle.protocol.proofs.TestLaws.{and-true}
 use Rattle.protocol.proofs.CountingLaws.{form-of, leaves-length, splits}
 use Rattle.protocol.proofs.CoefficientLaws.{checks-passing}
 use Rattle.protocol.proofs.Demands.{demand-3}
-use Rattle.examples.specs.Toy.{A, keyWith, leaves, H′, χ, answerAt}
+use Rattle.examples.specs.Toy.{A, keyWith, leaves, H′, χ, answerWith}
 use Rattle.examples.proofs.ToyLeaves.{R, F, toy, u₄, v₄, u-few, v-few}
 use Rattle.examples.proofs.ToyVerifier.{leaves-exact}
 
@@ -83,7 +83,7 @@ module _ (y : ℕ) (proof : List ℕ) where
   factor-by c n e k = factor-is ∙ ap (λ c. count (passing K c) (K .elements)) e ∙ k
 
   module _ (well : wellFormed A (keyWith y) leaves H′ χ proof ≡ true) where
-    pub accepted-if-passing : (δ : F) → isAccepted (answerAt (keyWith y) (A .K .byte δ) proof) ≡ passing K coefficients δ
+    pub accepted-if-passing : (δ : F) → isAccepted (answerWith (keyWith y) (A .K .byte δ) proof) ≡ passing K coefficients δ
     unfolding num2 keyWith
     accepted-if-passing δ = splits A (keyWith y) leaves H′ χ proof (form-of A (keyWith y) leaves H′ χ proof well) (δ ∷ []) refl ∙ and-true _ ∙ checks-are δ
 

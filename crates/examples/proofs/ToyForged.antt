@@ -11,7 +11,7 @@ use Rattle.algebra.proofs.BitsLaws.{bit-same}
 use Rattle.algebra.proofs.LinearLaws.{everywhere-at}
 use Rattle.protocol.specs.Answers.{isAccepted}
 use Rattle.protocol.specs.Calls.{wellFormed}
-use Rattle.examples.specs.Toy.{A, key₀, leaves, H′, χ, proofQS1, answerAt}
+use Rattle.examples.specs.Toy.{A, key₀, leaves, H′, χ, proofQS1, answerWith}
 use Rattle.examples.proofs.ToyComputing.{computing}
 use Rattle.examples.proofs.ToyLeaves.{F}
 use Rattle.examples.proofs.ToyChallenges.{K, conditionsWith, coefficients, accepted-if-passing}
@@ -31,11 +31,11 @@ roots : T (everywhere 8 (λ δ. not (plus (passing K (conditionsWith 0x00 0x01 0
 unfolding computing
 roots = tt
 
-at-element : (δ : F) → isAccepted (answerAt key₀ (A .K .byte δ) proofQS1) ≡ two δ
+at-element : (δ : F) → isAccepted (answerWith key₀ (A .K .byte δ) proofQS1) ≡ two δ
 at-element δ =
     accepted-if-passing 0x00 proofQS1 forged-well-formed δ
     ∙ ap (λ c. passing K c δ) coefficients-are
     ∙ bit-same _ _ (everywhere-at 8 (λ δ. not (plus (passing K (conditionsWith 0x00 0x01 0x05) δ) (two δ))) roots δ)
 
-pub forged-at-00-and-52 : (δ : ℕ) → δ < 256 → isAccepted (answerAt key₀ δ proofQS1) ≡ (eqb δ 0x00 || eqb δ 0x52)
-forged-at-00-and-52 δ l = subst (λ b. isAccepted (answerAt key₀ b proofQS1) ≡ (eqb b 0x00 || eqb b 0x52)) (A .K .byte-elem δ l) (at-element (A .K .elem δ))
+pub forged-at-00-and-52 : (δ : ℕ) → δ < 256 → isAccepted (answerWith key₀ δ proofQS1) ≡ (eqb δ 0x00 || eqb δ 0x52)
+forged-at-00-and-52 δ l = subst (λ b. isAccepted (answerWith key₀ b proofQS1) ≡ (eqb b 0x00 || eqb b 0x52)) (A .K .byte-elem δ l) (at-element (A .K .elem δ))

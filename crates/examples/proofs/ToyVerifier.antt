@@ -21,7 +21,7 @@ use Rattle.protocol.specs.Counting.{opening}
 use Rattle.protocol.proofs.AnswerLaws.{ask-after}
 use Rattle.protocol.proofs.CountingLaws.{leaves-length, tree-is}
 use Rattle.protocol.proofs.VoleLaws.{vole}
-use Rattle.examples.specs.Toy.{A, keyWith, key, leaves, H′, χ, proof, proofQS1, proofũ, answerAt}
+use Rattle.examples.specs.Toy.{A, keyWith, key, leaves, H′, χ, proof, proofQS1, proofũ, answerWith}
 use Rattle.examples.proofs.ToyComputing.{computing}
 use Rattle.examples.proofs.ToyLeaves.{R, F, toy, u₄, v₄, u-few, v-few}
 
@@ -65,22 +65,22 @@ module _ (y δ : ℕ) (proof : List ℕ) where
     unfolding allBelow firstNot consistentIn productIn consistentAt productAt
     last-two = ap checks W-is
 
-    pub answer-is : verifyForm A (keyWith y) (δ ∷ []) H′ χ opened proof ≡ true → answerAt (keyWith y) δ proof ≡ checks W₄
+    pub answer-is : verifyForm A (keyWith y) (δ ∷ []) H′ χ opened proof ≡ true → answerWith (keyWith y) δ proof ≡ checks W₄
     unfolding verifyAnswer verifyForm num2 keyWith
     answer-is h = ask-after (verifyQuestions A (keyWith y) (δ ∷ []) H′ χ opened proof) _ h ∙ last-two
 
-pub proof-at-02 : answerAt key 0x02 proof ≡ accepted
+pub proof-at-02 : answerWith key 0x02 proof ≡ accepted
 unfolding computing
 proof-at-02 = answer-is 0x01 0x02 proof (lit< tt) refl ∙ refl
 
-pub QS1-changed-at-02 : answerAt key 0x02 proofQS1 ≡ refused 15 0
+pub QS1-changed-at-02 : answerWith key 0x02 proofQS1 ≡ refused 15 0
 unfolding computing
 QS1-changed-at-02 = answer-is 0x01 0x02 proofQS1 (lit< tt) refl ∙ refl
 
-pub QS1-changed-at-00 : answerAt key 0x00 proofQS1 ≡ accepted
+pub QS1-changed-at-00 : answerWith key 0x00 proofQS1 ≡ accepted
 unfolding computing
 QS1-changed-at-00 = answer-is 0x01 0x00 proofQS1 (lit< tt) refl ∙ refl
 
-pub ũ-changed-at-02 : answerAt key 0x02 proofũ ≡ refused 14 0
+pub ũ-changed-at-02 : answerWith key 0x02 proofũ ≡ refused 14 0
 unfolding computing
 ũ-changed-at-02 = answer-is 0x01 0x02 proofũ (lit< tt) refl ∙ refl

@@ -17,7 +17,7 @@ use Rattle.protocol.specs.Prover.{u, v, sectionsOf, proofOf}
 use Rattle.protocol.specs.Answers.{Answer, accepted, refused, isAccepted}
 use Rattle.protocol.specs.Questions.{namesFailing}
 use Rattle.protocol.specs.Calls.{testAnswer, commitAnswer, batchAnswer, proveAnswer, TestReply, CommitReply, BatchReply, ProveReply}
-use Rattle.examples.specs.Toy.{A, s, key, key₀, leaves, x, H′, χ, out, proof, proofQS1, proofũ, answerAt}
+use Rattle.examples.specs.Toy.{A, s, key, key₀, leaves, x, H′, χ, out, proof, proofQS1, proofũ, answerWith}
 
 abbrev pub sections : Sections
 sections = sectionsOf A s leaves key x H′ χ
@@ -40,12 +40,12 @@ pub record PublishedEntries : Type 0 where
   pub proof-is : proofOf A key leaves x H′ χ ≡ proof
   pub proof-length : length (proofOf A key leaves x H′ χ) ≡ 29
   -- "Δ = 02 accepted."
-  pub proof-at-02 : answerAt key 0x02 proof ≡ accepted
+  pub proof-at-02 : answerWith key 0x02 proof ≡ accepted
   -- "QS1 changed to 05: refused 15 place 0 at Δ = 02, accepted at 00."
-  pub QS1-changed-at-02 : answerAt key 0x02 proofQS1 ≡ refused 15 0
-  pub QS1-changed-at-00 : answerAt key 0x00 proofQS1 ≡ accepted
+  pub QS1-changed-at-02 : answerWith key 0x02 proofQS1 ≡ refused 15 0
+  pub QS1-changed-at-00 : answerWith key 0x00 proofQS1 ≡ accepted
   -- "ũ changed to 00: refused 14 place 0 at 02."
-  pub ũ-changed-at-02 : answerAt key 0x02 proofũ ≡ refused 14 0
+  pub ũ-changed-at-02 : answerWith key 0x02 proofũ ≡ refused 14 0
   -- "y = 0: witness refused 11 place 0;" equation 0 fails, so that this answer is a reply, and there is no other.
   pub equation-0-fails : namesFailing A (shapeOf key₀) key₀ x 0
   pub test-refused : testAnswer A key₀ x 0 ≡ refused 11 0
@@ -57,4 +57,4 @@ pub record PublishedEntries : Type 0 where
   pub batch-no-other : (a : Answer) → BatchReply A key₀ leaves x χ (out 10) a → a ≡ refused 11 0
   pub prove-no-other : (a : Answer) → ProveReply A key₀ leaves x H′ χ (out 29) a → a ≡ refused 11 0
   -- "with QS1 = 05, accepted at Δ = 00 and 52 only."
-  pub forged-at-00-and-52 : (δ : ℕ) → δ < 256 → isAccepted (answerAt key₀ δ proofQS1) ≡ (eqb δ 0x00 || eqb δ 0x52)
+  pub forged-at-00-and-52 : (δ : ℕ) → δ < 256 → isAccepted (answerWith key₀ δ proofQS1) ≡ (eqb δ 0x00 || eqb δ 0x52)

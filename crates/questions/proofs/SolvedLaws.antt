@@ -12,12 +12,12 @@ use Rattle.protocol.specs.Shape.{shapeOf}
 use Rattle.protocol.specs.Key.{sectionA, sectionB, sectionY}
 use Rattle.protocol.specs.Answers.{Answer, accepted, refused}
 use Rattle.strings.specs.Sums.{byteAt}
-use Rattle.equations.specs.Equations.{errorOf}
+use Rattle.equations.specs.Equations.{keyError}
 use Rattle.equations.proofs.EquationsMeaning.{first-fails, first-refutes, none-solves}
 use Rattle.questions.specs.Solved.{ErrorsAs, SolvedAs}
 
 module _ (key x : List ℕ) (spare : spareZero x (shapeOf key .n) ≡ true) (errors : List ℕ) (long : length errors ≡ shapeOf key .m)
-    (are : (i : ℕ) → i < length errors → byteAt errors i ≡ errorOf (shapeOf key .n) (sectionA bits256 (shapeOf key) key) (sectionB bits256 (shapeOf key) key) (sectionY bits256 (shapeOf key) key) x i) where
+    (are : (i : ℕ) → i < length errors → byteAt errors i ≡ keyError (shapeOf key .n) (sectionA bits256 (shapeOf key) key) (sectionB bits256 (shapeOf key) key) (sectionY bits256 (shapeOf key) key) x i) where
   -- the answer of the errors at a witness is the answer to question 11
   pub solved-as : (a : Answer) → ErrorsAs errors a → SolvedAs key x a
   solved-as accepted f = none-solves gf256 (shapeOf key) key x spare errors long are f

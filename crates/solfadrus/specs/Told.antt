@@ -2,7 +2,7 @@
 --   Told reply r == r is the word of an answer that `reply` allows
 --   Writes reply before after string r == the same, and the output holds `string` after an accepted call, and else what
 --     it held before
---   CommitWritten .. before after a, HashWritten, BatchWritten, ProveWritten == after the answer a the output holds the
+--   CommitOutput .. before after a, HashOutput, BatchOutput, ProveOutput == after the answer a the output holds the
 --     call's bytes where it is accepted, and else what it held before
 -- Assumes nothing.
 use mathlib.Core.Path.{_≡_}
@@ -19,14 +19,14 @@ abbrev pub Writes : (Answer → Type 0) → List ℕ → List ℕ → List ℕ �
 Writes reply before after string r = (a : Answer) × ((r ≡ word a) × reply a × (after ≡ written a before string))
 
 module _ (key leaves : List ℕ) where
-  abbrev pub CommitWritten : List ℕ → List ℕ → List ℕ → Answer → Type 0
-  CommitWritten x before after a = after ≡ written a before (commitBytes bits256 key leaves x)
+  abbrev pub CommitOutput : List ℕ → List ℕ → List ℕ → Answer → Type 0
+  CommitOutput x before after a = after ≡ written a before (commitBytes bits256 key leaves x)
 
-  abbrev pub HashWritten : List ℕ → List ℕ → List ℕ → Answer → Type 0
-  HashWritten H′ before after a = after ≡ written a before (hashBytes bits256 key leaves H′)
+  abbrev pub HashOutput : List ℕ → List ℕ → List ℕ → Answer → Type 0
+  HashOutput H′ before after a = after ≡ written a before (hashBytes bits256 key leaves H′)
 
-  abbrev pub BatchWritten : List ℕ → List ℕ → List ℕ → List ℕ → Answer → Type 0
-  BatchWritten x χ before after a = after ≡ written a before (batchBytes bits256 key leaves x χ)
+  abbrev pub BatchOutput : List ℕ → List ℕ → List ℕ → List ℕ → Answer → Type 0
+  BatchOutput x χ before after a = after ≡ written a before (batchBytes bits256 key leaves x χ)
 
-  abbrev pub ProveWritten : List ℕ → List ℕ → List ℕ → List ℕ → List ℕ → Answer → Type 0
-  ProveWritten x H′ χ before after a = after ≡ written a before (proofOf bits256 key leaves x H′ χ)
+  abbrev pub ProveOutput : List ℕ → List ℕ → List ℕ → List ℕ → List ℕ → Answer → Type 0
+  ProveOutput x H′ χ before after a = after ≡ written a before (proofOf bits256 key leaves x H′ χ)

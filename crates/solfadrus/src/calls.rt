@@ -4,7 +4,7 @@ ghost use mathlib.Core.Path.{_≡_};
 ghost use Rattle.protocol.specs.Binary.{bits256};
 ghost use Rattle.protocol.specs.Calls.{hashAnswer, TestReply, CommitReply, BatchReply, ProveReply};
 ghost use Rattle.format.specs.Verdict.{answerOf};
-ghost use Rattle.solfadrus.specs.Told.{CommitWritten, HashWritten, BatchWritten, ProveWritten};
+ghost use Rattle.solfadrus.specs.Told.{CommitOutput, HashOutput, BatchOutput, ProveOutput};
 use format::Verdict;
 use format::sizes::sizes_of;
 use questions::witness::solved;
@@ -12,7 +12,7 @@ use questions::witness::solved;
 // The second step (01): hash with H′. It takes no witness, and writes the sections ũ and Ṽ.
 pub fn hash(key: &[u8], leaves: &[u8], matrix: &[u8], out: &mut [u8]) -> Verdict
     ensures { λ r. ⌜ answerOf r ≡ hashAnswer bits256 (now (key .entry)) (now (leaves .entry)) (now (matrix .entry)) (now (out .entry)) ⌝ }
-    ensures { λ r. ⌜ HashWritten (now (key .entry)) (now (leaves .entry)) (now (matrix .entry)) (now (out .entry)) (now (out .exit)) (answerOf r) ⌝ }
+    ensures { λ r. ⌜ HashOutput (now (key .entry)) (now (leaves .entry)) (now (matrix .entry)) (now (out .entry)) (now (out .exit)) (answerOf r) ⌝ }
 {
     let s = sizes_of(key);
     let form = questions::calls::hash_form(key, leaves, matrix, out.len(), s);
@@ -38,7 +38,7 @@ pub fn test(key: &[u8], witness: &[u8]) -> Verdict
 // The first step (01): commit. It takes the witness, and writes the sections C and d.
 pub fn commit(key: &[u8], leaves: &[u8], witness: &[u8], out: &mut [u8]) -> Verdict
     ensures { λ r. ⌜ CommitReply bits256 (now (key .entry)) (now (leaves .entry)) (now (witness .entry)) (now (out .entry)) (answerOf r) ⌝ }
-    ensures { λ r. ⌜ CommitWritten (now (key .entry)) (now (leaves .entry)) (now (witness .entry)) (now (out .entry)) (now (out .exit)) (answerOf r) ⌝ }
+    ensures { λ r. ⌜ CommitOutput (now (key .entry)) (now (leaves .entry)) (now (witness .entry)) (now (out .entry)) (now (out .exit)) (answerOf r) ⌝ }
 {
     let s = sizes_of(key);
     let form = questions::calls::commit_form(key, leaves, witness, out.len(), s);
@@ -56,7 +56,7 @@ pub fn commit(key: &[u8], leaves: &[u8], witness: &[u8], out: &mut [u8]) -> Verd
 // The third step (01): batch. It takes the witness, and writes the sections QS0 and QS1.
 pub fn batch(key: &[u8], leaves: &[u8], witness: &[u8], batching: &[u8], out: &mut [u8]) -> Verdict
     ensures { λ r. ⌜ BatchReply bits256 (now (key .entry)) (now (leaves .entry)) (now (witness .entry)) (now (batching .entry)) (now (out .entry)) (answerOf r) ⌝ }
-    ensures { λ r. ⌜ BatchWritten (now (key .entry)) (now (leaves .entry)) (now (witness .entry)) (now (batching .entry)) (now (out .entry)) (now (out .exit)) (answerOf r) ⌝ }
+    ensures { λ r. ⌜ BatchOutput (now (key .entry)) (now (leaves .entry)) (now (witness .entry)) (now (batching .entry)) (now (out .entry)) (now (out .exit)) (answerOf r) ⌝ }
 {
     let s = sizes_of(key);
     let form = questions::calls::batch_form(key, leaves, witness, batching, out.len(), s);
@@ -81,7 +81,7 @@ pub fn prove(
     out: &mut [u8],
 ) -> Verdict
     ensures { λ r. ⌜ ProveReply bits256 (now (key .entry)) (now (leaves .entry)) (now (witness .entry)) (now (matrix .entry)) (now (batching .entry)) (now (out .entry)) (answerOf r) ⌝ }
-    ensures { λ r. ⌜ ProveWritten (now (key .entry)) (now (leaves .entry)) (now (witness .entry)) (now (matrix .entry)) (now (batching .entry)) (now (out .entry)) (now (out .exit)) (answerOf r) ⌝ }
+    ensures { λ r. ⌜ ProveOutput (now (key .entry)) (now (leaves .entry)) (now (witness .entry)) (now (matrix .entry)) (now (batching .entry)) (now (out .entry)) (now (out .exit)) (answerOf r) ⌝ }
 {
     let s = sizes_of(key);
     let form = questions::calls::prove_form(key, leaves, witness, matrix, batching, out.len(), s);

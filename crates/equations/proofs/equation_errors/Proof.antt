@@ -13,12 +13,12 @@ use Rattle.protocol.specs.Lists.{blockAt}
 use Rattle.protocol.specs.Strings.{bytesFor}
 use Rattle.strings.proofs.Elementwise.{changed, changed-more, changed-all}
 use Rattle.strings.proofs.Rows.{row-end}
-use Rattle.equations.specs.Equations.{errorOf}
+use Rattle.equations.specs.Equations.{keyError}
 use Rattle.equations.proofs.equation_errors.Statement.{statement}
 use Rattle.equations.proofs.equation_errors.Tie as tie
 
 abbrev change : List ℕ → List ℕ → List ℕ → List ℕ → ℕ → ℕ → ℕ → ℕ
-change a b y x n k e = errorOf n a b y x k
+change a b y x n k e = keyError n a b y x k
 
 abbrev Inv-loop : tie.InvT-loop
 Inv-loop errors₀ a b y x n width size i₀ errors i = (i ≤ length errors₀) × (length errors ≡ length errors₀) × (errors ≡ changed (change a b y x n) errors₀ i)
@@ -68,7 +68,7 @@ loop-less : tie.Need-loop-less Inv-loop μ-loop
 loop-less c = search needs
 
 loop-again : tie.Need-loop-again Inv-loop μ-loop
-unfolding errorOf
+unfolding keyError
 loop-again c =
     let pre = c .before .before .before .before .before .before .before .before .before .before .before .pre in
     let a = c .before .before .before .before .before .before .before .before .before .before .before .args in

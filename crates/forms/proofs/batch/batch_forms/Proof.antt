@@ -68,7 +68,7 @@ returns c =
     let bytes : (k : ℕ) → byteAt T k < 256 = λ k. c .before .before .before .before .before .before .before .before .before .before .before .before .before .before .before .before .before .shared-slice-known5 .given k .fits in (
       (λ e h. formed .ensures .0 χ e small (chosen .ensures) h ∙ ap (bitXor (byteAt (now (a .quad)) e)) (form-is (a .d .n) (a .d .m) e (now (a .a)) T χ)),
       (λ e h.
-          formed .ensures .1 χ e small (chosen .ensures) h
+          formed .ensures .1 .0 χ e small (chosen .ensures) h
           ∙ ap₂ (λ (u v : ℕ). bitXor (bitXor (byteAt (now (a .lin)) e) u) v) (polar-is (a .d .n) (a .d .m) e (now (a .a)) T χ bytes (byteAt (now (a .xs))) (pre .10)) (lines-are (a .d .n) (a .d .m) e (now (a .a)) T χ (now (a .b)) (lines .last .0) (lines .ensures))
           ∙ middle-is (a .d .n) (a .d .m) e (now (a .a)) T χ bytes (byteAt (now (a .xs))) (pre .10) (now (a .b)) (byteAt (now (a .lin)) e)),
     )

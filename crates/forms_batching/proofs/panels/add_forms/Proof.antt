@@ -223,19 +223,21 @@ returns c =
     let added : (i k : ℕ) → i < a .s .m → k < a .s .n → Added (a .s .width) (a .s .n * a .s .width) A x L (l .lines) i k =
     λ i k hi hk. all-added (a .polar) (a .s .width) (a .s .n * a .s .width) A (now (a .xs)) L (l .lines) i k (λ on. l .inv .14 on i k hi hk (omega (arith, enough, hk))) (l .inv .16) (pre .15) in (
       (λ χ e small chosen he. l .inv .7 χ e small chosen he ∙ ap (bitXor (byteAt (now (a .quad)) e)) (form-is (l .panel) (a .s .n) (a .s .width) (a .s .m) A χ e enough (λ k. laneAt T k e) (gone e))),
-      (λ χ e small chosen he.
-          let y : ℕ → ℕ = λ k. laneAt T k e in
-          let columns = xorSum (l .panel) (half (a .s .n) (a .s .width) (a .s .m) A T (now (a .xs)) χ e) in
-          let given = xorSum (a .s .n) (λ k. byteProduct (y k) (lineSum L (a .s .m) χ e k)) in
-          let added-left = xorSum (l .panel) (λ J. xorSum 16 (λ s. byteProduct (y (J * 16 + s)) (leftSum (a .s .width) (a .s .n * a .s .width) (a .s .m) A χ e x J (J * 16 + s)))) in
-          c .before .before .before .add-lines .ensures χ e small chosen he
-          ∙ ap₂ bitXor (l .inv .8 χ e small chosen he)
-          (sum-same mostVariables _ (λ k. byteProduct (y k) (lineSum (l .lines) (a .s .m) χ e k)) (λ k h. ap (λ (v : ℕ). byteProduct v (lineSum (l .lines) (a .s .m) χ e k)) (l .inv .5 e k he h))
-          ∙ sum-short (a .s .n) mostVariables (λ k. byteProduct (y k) (lineSum (l .lines) (a .s .m) χ e k)) (pre .4) (λ k h b. ap (λ (v : ℕ). byteProduct v (lineSum (l .lines) (a .s .m) χ e k)) (gone e k h) ∙ product-zero _)
-          ∙ lines-added (a .s .width) (a .s .n * a .s .width) (a .s .m) A χ e small x (pre .13) (l .panel) (a .s .n) enough y (gone e) L (l .lines) added)
-          ∙ both-halves (byteAt (now (a .mid)) e) given added-left columns
-          ∙ ap (λ (v : ℕ). bitXor (bitXor (byteAt (now (a .mid)) e) v) given) (polar-is (l .panel) (a .s .n) (a .s .width) (a .s .m) A χ e enough y (gone e) x (pre .14))),
-      added,
+      (
+        (λ χ e small chosen he.
+            let y : ℕ → ℕ = λ k. laneAt T k e in
+            let columns = xorSum (l .panel) (half (a .s .n) (a .s .width) (a .s .m) A T (now (a .xs)) χ e) in
+            let given = xorSum (a .s .n) (λ k. byteProduct (y k) (lineSum L (a .s .m) χ e k)) in
+            let added-left = xorSum (l .panel) (λ J. xorSum 16 (λ s. byteProduct (y (J * 16 + s)) (leftSum (a .s .width) (a .s .n * a .s .width) (a .s .m) A χ e x J (J * 16 + s)))) in
+            c .before .before .before .add-lines .ensures χ e small chosen he
+            ∙ ap₂ bitXor (l .inv .8 χ e small chosen he)
+            (sum-same mostVariables _ (λ k. byteProduct (y k) (lineSum (l .lines) (a .s .m) χ e k)) (λ k h. ap (λ (v : ℕ). byteProduct v (lineSum (l .lines) (a .s .m) χ e k)) (l .inv .5 e k he h))
+            ∙ sum-short (a .s .n) mostVariables (λ k. byteProduct (y k) (lineSum (l .lines) (a .s .m) χ e k)) (pre .4) (λ k h b. ap (λ (v : ℕ). byteProduct v (lineSum (l .lines) (a .s .m) χ e k)) (gone e k h) ∙ product-zero _)
+            ∙ lines-added (a .s .width) (a .s .n * a .s .width) (a .s .m) A χ e small x (pre .13) (l .panel) (a .s .n) enough y (gone e) L (l .lines) added)
+            ∙ both-halves (byteAt (now (a .mid)) e) given added-left columns
+            ∙ ap (λ (v : ℕ). bitXor (bitXor (byteAt (now (a .mid)) e) v) given) (polar-is (l .panel) (a .s .n) (a .s .width) (a .s .m) A χ e enough y (gone e) x (pre .14))),
+        added,
+      ),
     )
 
 pub add-forms-spec : {M : Type 1} → statement M

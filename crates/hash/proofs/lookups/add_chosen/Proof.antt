@@ -44,7 +44,7 @@ returns c =
     let k = a .b * 32 + 16 + a .x / 16 in (
       c .add-lanes2 .ensures .0,
       (λ e h.
-          (rw (high .ensures) at (c .add-lanes2 .ensures .1)) e h ∙ ap (λ (x : ℕ). bitXor x (laneAt (now (a .sums)) k e)) ((rw (low .ensures) at (first .ensures .1)) e h)
+          (rw (high .ensures .0) at (c .add-lanes2 .ensures .1)) e h ∙ ap (λ (x : ℕ). bitXor x (laneAt (now (a .sums)) k e)) ((rw (low .ensures .0) at (first .ensures .1)) e h)
           ∙ xor-assoc (byteAt (now (a .dst)) e) _ _),
     )
 

@@ -12,7 +12,7 @@ use Rattle.protocol.specs.Shape.{Shape, shapeOf}
 use Rattle.protocol.specs.Key.{sectionA, sectionB, sectionY}
 use Rattle.format.specs.Verdict.{answerOf}
 use Rattle.format.proofs.SizeLaws.{in-limits}
-use Rattle.equations.specs.Equations.{errorOf}
+use Rattle.equations.specs.Equations.{keyError}
 use Rattle.equations.proofs.BlockLaws.{bytes-enough}
 use Rattle.questions.proofs.SolvedLaws.{solved-as}
 use borrow.Author.Needs.{needs}
@@ -53,9 +53,9 @@ returns c =
     let x = now (c .before .before .before .before .before .before .before .before .before .before .before .before .args .witness) in
     let e = c .before .before .before .before .before .before .before .before .before .before .before .before .pre .0 (c .before .before .before .before .before .before .before .before .before .before .before .before .pre .1 .of-key .header) in
     let p = c .before .before .before .before .equation-errors in
-    let same : (i : ℕ) → errorOf (c .before .before .before .before .before .before .before .before .before .before .before .before .args .s .n) (now (c .before .before .before .before .before .before .before .section-a .result)) (now (c .before .before .before .before .before .before .section-b .result)) (now (c .before .before .before .before .before .section-y .result)) x i
-    ≡ errorOf (shapeOf key .n) (sectionA bits256 (shapeOf key) key) (sectionB bits256 (shapeOf key) key) (sectionY bits256 (shapeOf key) key) x i =
-    λ i. rw (c .before .before .before .before .before .before .before .section-a .ensures .0, c .before .before .before .before .before .before .section-b .ensures .0, c .before .before .before .before .before .section-y .ensures .0) (ap (λ (z : Shape). errorOf (z .n) (sectionA bits256 z key) (sectionB bits256 z key) (sectionY bits256 z key) x i) e) in
+    let same : (i : ℕ) → keyError (c .before .before .before .before .before .before .before .before .before .before .before .before .args .s .n) (now (c .before .before .before .before .before .before .before .section-a .result)) (now (c .before .before .before .before .before .before .section-b .result)) (now (c .before .before .before .before .before .section-y .result)) x i
+    ≡ keyError (shapeOf key .n) (sectionA bits256 (shapeOf key) key) (sectionB bits256 (shapeOf key) key) (sectionY bits256 (shapeOf key) key) x i =
+    λ i. rw (c .before .before .before .before .before .before .before .section-a .ensures .0, c .before .before .before .before .before .before .section-b .ensures .0, c .before .before .before .before .before .section-y .ensures .0) (ap (λ (z : Shape). keyError (z .n) (sectionA bits256 z key) (sectionB bits256 z key) (sectionY bits256 z key) x i) e) in
     solved-as key x (subst (λ (z : Shape). spareZero x (z .n) ≡ true) e (c .before .before .before .before .before .before .before .before .before .before .before .before .pre .1 .of-witness .witness-spare)) (p .last .0) (p .kept .0 ∙ c .before .before .before .before .before .before .before .before .before .before .before .before .pre .2 ∙ ap (λ (z : Shape). z .m) e) (λ i h. p .ensures i (rw (p .kept .0) at h) ∙ same i) (answerOf (c .answer .result)) (c .answer .ensures)
 
 pub test-equations-spec : {M : Type 1} → statement M

@@ -81,7 +81,7 @@ loop-again c =
       simp (length-append, length-drop) (omega (arith, kept-u)),
       simp (length-append, length-drop) (omega (arith, kept-planes)),
       lanes-more (λ e d. wByte (now (a .opened)) (now (a .corrections)) (a .w) e (byteAt (now (a .delta)) e) d) (a .w) (l .e) (l .table) (call .last .0) (omega arith) (l .inv .4)
-          (λ d h. (rw long at (call .ensures .0)) d h ∙ ap (λ δ. wByte (now (a .opened)) (now (a .corrections)) (a .w) (l .e) δ d) (value .ensures))
+          (λ d h. (rw long at (call .ensures .0)) d h ∙ ap (λ δ. wByte (now (a .opened)) (now (a .corrections)) (a .w) (l .e) δ d) (value .ensures .0))
           (call .ensures .1),
     )
 
