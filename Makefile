@@ -5,13 +5,13 @@ help: ## this list
 	@sed -n 's/^\([a-z ]*\):.*## /\1|/p' $(MAKEFILE_LIST) | while IFS='|' read -r name what; do \
 		printf '  make %-18s %s\n' "$$name" "$$what"; done
 
-demo: ## the main job on a built-in example; the library is proved and built first, once (about 12 minutes)
+demo: ## the main job on a built-in example; the library is proved and built first, once (about 5 minutes)
 	@sh tests/demo.sh
 
 lib: ## the library: target/staticlib/libsolfadrus.a, proved and built where a source has changed
 	@. tests/need.sh; lib=$$(library) && echo "$$lib/libsolfadrus.a"
 
-test: ## every proof and every test, from nothing each time (about 20 minutes on two cores)
+test: ## every proof and every test, from nothing each time (about 25 minutes on two cores)
 	@sh tests/run.sh
 
 compare: ## the library against the Rust rendering; words for the comparison in ARGS

@@ -103,7 +103,7 @@ library() {
     mkdir -p target
     if [ ! -f target/staticlib/libsolfadrus.a ] || [ "$(cat target/built-from 2>/dev/null)" != "$(built_from)" ]; then
         crates=$(($(sed -n 's/^solfadrus: *//p' crates.txt | wc -w) + 1))
-        echo "The library is proved and built: $crates crates, about 12 minutes on two cores." \
+        echo "The library is proved and built: $crates crates, about 5 minutes on two cores." \
             "An unchanged crate is not proved again." >&2
         rm -f target/built-from
         with_progress "$crates" target/staticlib.log rt staticlib solfadrus >&2 || {
