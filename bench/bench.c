@@ -271,7 +271,8 @@ static void print_reading(const struct made *c, int repetitions, struct times ti
     free(t.taken);
 }
 
-/* Date and commit, the shape, and for each call that takes a witness or a proof whole the median's ratio to C and the rendering's to it. */
+/* Date and commit, the shape, and for each call that takes a witness or a proof whole the median's ratio to C and the
+   rendering's to it. */
 static void keep(FILE *history, const char *stamp, struct sizes s, struct times times[PROGRAMS][CALLS])
 {
     const int calls[] = { TEST, PROVE, VERIFY };

@@ -5,7 +5,7 @@
 --   out n == n bytes to write on
 --   proofWith ũ Ṽ q == the proof with that ũ, Ṽ and QS1;  proof == as the prover writes it
 --   proofQS1, proofũ, proofṼ == with QS1 changed to 05, ũ changed to 00, Ṽ changed to 02
---   answerWith k δ p == what the verifier's call answers at Δ = δ, lent the key k, H′, χ, the leaves opened at δ and the
+--   answerWith k δ p == what verify answers at Δ = δ, lent the key k, H′, χ, the leaves opened at δ and the
 --     proof p
 -- Assumes nothing.
 use mathlib.Core.List.{List, [], _∷_, _++_}

@@ -2,9 +2,9 @@
 //!
 //! server PROGRAM [SEED] [--requests R]
 //!
-//! Requests are for all six calls. All expected words and outputs are the rendering's, made before the server is started;
-//! this program does not link the library. While it runs, the server's memory is looked at: once it has met a quarter of
-//! the requests, it must not grow.
+//! Requests are for all six calls. All expected words and outputs are the rendering's, made before the server is
+//! started; this program does not link the library. While it runs, the server's memory is looked at: once it has met a
+//! quarter of the requests, it must not grow.
 
 mod calls;
 mod pool;
