@@ -44,7 +44,8 @@ fn fill_next(sums: &mut [u8], w: usize, base: usize, count: usize, row: &[u8])
 // Adds row c of the table, whose rows are as long as dst. Rows from n on are 0.
 fn add_row(dst: &mut [u8], c: usize, n: usize, table: &[u8])
     requires { ⌜ length (now table) ≡ n * length (now dst) ⌝ }
-    ensures { λ _. ⌜ ((f : ℕ) → f < length (now (dst .entry)) → byteAt (now (dst .exit)) f ≡ bitXor (byteAt (now (dst .entry)) f) (byteAt (now (table .entry)) (c * length (now (dst .entry)) + f))) ⌝ }
+    ensures { λ _. ⌜ ((f : ℕ) → f < length (now (dst .entry)) → byteAt (now (dst .exit)) f
+        ≡ bitXor (byteAt (now (dst .entry)) f) (byteAt (now (table .entry)) (c * length (now (dst .entry)) + f))) ⌝ }
 {
     let w = dst.len();
     if c < n {

@@ -90,7 +90,8 @@ pub fn batch_forms(
 
 // Adds the masks: A*₀ of each repetition to qs0, and A*₁, the same for all, to qs1.
 fn add_masks(qs0: &mut [u8], qs1: &mut [u8], table: &[u8], u: &[u8], n: usize)
-    requires { ⌜ (length (now qs0) ≡ lanes) × (length (now qs1) ≡ lanes) × ((n + gf256 .degree) * lanes ≤ length (now table)) × (n + gf256 .degree ≤ length (now u) * 8) × (n ≤ mostVariables) ⌝ }
+    requires { ⌜ (length (now qs0) ≡ lanes) × (length (now qs1) ≡ lanes) × ((n + gf256 .degree) * lanes ≤ length (now table))
+        × (n + gf256 .degree ≤ length (now u) * 8) × (n ≤ mostVariables) ⌝ }
     ensures { λ _. ⌜ ((e : ℕ) → e < lanes → byteAt (now (qs0 .exit)) e ≡ bitXor (byteAt (now (qs0 .entry)) e) (maskLane (now (table .entry)) n e)) ⌝ }
     ensures { λ _. ⌜ ((e : ℕ) → e < lanes → byteAt (now (qs1 .exit)) e ≡ bitXor (byteAt (now (qs1 .entry)) e) (maskBits (now (u .entry)) n)) ⌝ }
 {

@@ -101,7 +101,8 @@ pub fn add_left(
     bits: &[u8],
     polar: bool,
 )
-    requires { ⌜ (m * chunk ≤ length (now lines)) × PanelCells m panel (now cells) × (panel < 10) × (m ≤ mostEquations) × (length (now bits) ≡ mostVariables) × (m * chunk ≤ length (now sums)) ⌝ }
+    requires { ⌜ (m * chunk ≤ length (now lines)) × PanelCells m panel (now cells) × (panel < 10) × (m ≤ mostEquations)
+        × (length (now bits) ≡ mostVariables) × (m * chunk ≤ length (now sums)) ⌝ }
     ensures { λ _. ⌜ (polar ≡ true → LeftAdded m panel (now (bits .entry)) (now (cells .entry)) (now (lines .entry)) (now (lines .exit))) ⌝ }
     ensures { λ _. ⌜ LinesBeside panel (now (lines .entry)) (now (lines .exit)) ⌝ }
     ensures { λ _. ⌜ (polar ≡ false → now (lines .exit) ≡ now (lines .entry)) ⌝ }
@@ -167,7 +168,8 @@ fn turn_half(elements: &mut [u8], h: usize, planes: &[u8])
 // The batched line of repetition e times its vector.
 fn line_product(words: &[u64], e: usize, groups: usize, sums: &[u8], vectors: &[u8]) -> u8
     requires { ⌜ ((e * 8 + 8) * 4 ≤ length (now words)) × (e < lanes) × InWords groups × (mostSums ≤ length (now sums)) × (e * mostVariables + mostVariables ≤ length (now vectors)) ⌝ }
-    ensures { λ r. ⌜ ((S : List ℕ) (χ : ℕ → ℕ) (m : ℕ) → Weighed S χ m (now (sums .entry)) (now (words .entry)) groups (e * 8) → r ≡ lineProduct (now (vectors .entry)) e (weighedLine S χ m)) ⌝ }
+    ensures { λ r. ⌜ ((S : List ℕ) (χ : ℕ → ℕ) (m : ℕ) → Weighed S χ m (now (sums .entry)) (now (words .entry)) groups (e * 8) → r
+        ≡ lineProduct (now (vectors .entry)) e (weighedLine S χ m)) ⌝ }
 {
     let mut planes = [0u8; ELEMENT_PLANES];
     let mut elements = [0u8; ELEMENTS];

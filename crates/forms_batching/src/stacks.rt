@@ -78,7 +78,8 @@ fn fill_halves(v: &mut [u8], src: &[u8], from: usize)
 // bits the words hold.
 fn absorb(t: &mut [u8], words: &[u64], base: usize, groups: usize, sums: &[u8], masks: &[u8])
     requires { ⌜ (length (now t) ≡ planes * chunk) × ((base + 8) * 4 ≤ length (now words)) × InWords groups × (mostSums ≤ length (now sums)) × (length (now masks) ≡ 8 * chunk) ⌝ }
-    ensures { λ _. ⌜ ((S v : List ℕ) (χ : ℕ → ℕ) (m f z : ℕ) → Weighed S χ m (now (sums .entry)) (now (words .entry)) groups base → Masks v (now (masks .entry)) → byteAt v f < 256 → f < chunk
+    ensures { λ _. ⌜ ((S v : List ℕ) (χ : ℕ → ℕ) (m f z : ℕ) → Weighed S χ m (now (sums .entry)) (now (words .entry)) groups base
+        → Masks v (now (masks .entry)) → byteAt v f < 256 → f < chunk
         → stackAt (now (t .exit)) f z ≡ bitXor (stackAt (now (t .entry)) f z) (byteProduct (byteAt v f) (weighedBit S χ m f z))) ⌝ }
 {
     let mut k = 0;

@@ -29,7 +29,8 @@ const BYTES: usize = MOST_EQUATIONS + TAKEN;
 // Four numbers, five bits to each.
 fn four_at(picks: &[u8], at: usize) -> u64
     requires { ⌜ at + 4 ≤ length (now picks) ⌝ }
-    ensures { λ r. ⌜ r ≡ byteAt (now (picks .entry)) at + byteAt (now (picks .entry)) (at + 1) * 32 + byteAt (now (picks .entry)) (at + 2) * 1024 + byteAt (now (picks .entry)) (at + 3) * 32768 ⌝ }
+    ensures { λ r. ⌜ r ≡ byteAt (now (picks .entry)) at + byteAt (now (picks .entry)) (at + 1) * 32 + byteAt (now (picks .entry)) (at + 2) * 1024 +
+        byteAt (now (picks .entry)) (at + 3) * 32768 ⌝ }
     ensures { λ r. ⌜ r < 16777216 ⌝ }
 {
     word(picks[at])

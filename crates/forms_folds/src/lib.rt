@@ -131,7 +131,8 @@ fn load_matrix(
 // nothing is put for it. The kernels read a panel in the order of the cells: sixteen rows, then a matrix, then each of
 // its two columns of bytes.
 pub fn load_set(cells: &mut [u8], a: &[u8], n: usize, width: usize, m: usize, first: usize)
-    requires { ⌜ (width ≡ bytesFor n) × (n ≤ mostVariables) × (m ≤ mostEquations) × (first % 4 ≡ 0) × (first * 16 < n) × (length (now a) ≡ m * (n * width)) × CellsFit m (now cells) ⌝ }
+    requires { ⌜ (width ≡ bytesFor n) × (n ≤ mostVariables) × (m ≤ mostEquations) × (first % 4 ≡ 0) × (first * 16 < n)
+        × (length (now a) ≡ m * (n * width)) × CellsFit m (now cells) ⌝ }
     ensures { λ _. ⌜ FoldedSet n width m (now (a .entry)) first (now (cells .exit)) ⌝ }
 {
     let mut turned = [0u8; TURNED];

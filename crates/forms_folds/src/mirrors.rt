@@ -20,7 +20,8 @@ const MOST_SIXTEENS: usize = MOST_VARIABLES / SIXTEEN;
 // Bytes at, .., at + 127 of row k of `turned`.
 fn turn_part(turned: &mut [u8], k: usize, at: usize, src: &[u8], from: usize, width: usize)
     requires { ⌜ (k * mostVariables + at + 128 ≤ length (now turned)) × (from + 7 * width + 16 ≤ length (now src)) ⌝ }
-    ensures { λ _. ⌜ ((r z : ℕ) → r < 128 → z < 8 → bitOf (byteAt (now (turned .exit)) (k * mostVariables + at + r)) z ≡ bitOf (byteAt (now (src .entry)) (from + z * width + r / 8)) (r % 8)) ⌝ }
+    ensures { λ _. ⌜ ((r z : ℕ) → r < 128 → z < 8 → bitOf (byteAt (now (turned .exit)) (k * mostVariables + at + r)) z
+        ≡ bitOf (byteAt (now (src .entry)) (from + z * width + r / 8)) (r % 8)) ⌝ }
     ensures { λ _. ⌜ ((x : ℕ) → x < k * mostVariables + at → byteAt (now (turned .exit)) x ≡ byteAt (now (turned .entry)) x) ⌝ }
     ensures { λ _. ⌜ ((x : ℕ) → byteAt (now (turned .exit)) (k * mostVariables + at + (128 + x)) ≡ byteAt (now (turned .entry)) (k * mostVariables + at + (128 + x))) ⌝ }
 {

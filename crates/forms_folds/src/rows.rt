@@ -66,7 +66,8 @@ fn put_panel(
 )
     requires { ⌜ (first % 4 ≡ 0) × (p < 4) × (first < end) × (end ≤ 10) × (i < m) × (m ≤ mostEquations) × CellsFit m (now cells)
         × (length (now made) ≡ 128) × TurnedFits (now turned) ⌝ }
-    ensures { λ _. ⌜ (q ≤ first + p → first + p < end → (e : ℕ) → e < chunk → cellAt (now (cells .exit)) (chunkPlace first p q m i) e ≡ summed (now (made .entry)) (now (turned .entry)) q p e) ⌝ }
+    ensures { λ _. ⌜ (q ≤ first + p → first + p < end → (e : ℕ) → e < chunk → cellAt (now (cells .exit)) (chunkPlace first p q m i) e
+        ≡ summed (now (made .entry)) (now (turned .entry)) q p e) ⌝ }
     ensures { λ _. ⌜ ((at e : ℕ) → (q ≤ first + p → at ≡ chunkPlace first p q m i → ⊥) → e < chunk → cellAt (now (cells .exit)) at e ≡ cellAt (now (cells .entry)) at e) ⌝ }
 {
     if q <= first + p {

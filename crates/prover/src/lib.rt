@@ -85,7 +85,8 @@ fn rest_into(
     s: Sizes,
 )
     requires { ⌜ RestReady (shapeFor s) (now key) (now witness) (now matrix) (now batching) (now table) (now sums) (now out) ⌝ }
-    ensures { λ _. ⌜ RestWritten (shapeFor s) (now (key .entry)) (now (witness .entry)) (now (matrix .entry)) (now (batching .entry)) (now (table .entry)) (now (sums .entry)) (now (out .exit)) ⌝ }
+    ensures { λ _. ⌜ RestWritten (shapeFor s) (now (key .entry)) (now (witness .entry)) (now (matrix .entry)) (now (batching .entry))
+        (now (table .entry)) (now (sums .entry)) (now (out .exit)) ⌝ }
 {
     let split = hash_bytes(s);
     hash_into(&mut out[..split], matrix, table, sums, s);

@@ -81,7 +81,8 @@ pub fn prove(
     out: &mut [u8],
 ) -> Verdict
     ensures { λ r. ⌜ ProveReply bits256 (now (key .entry)) (now (leaves .entry)) (now (witness .entry)) (now (matrix .entry)) (now (batching .entry)) (now (out .entry)) (answerOf r) ⌝ }
-    ensures { λ r. ⌜ ProveOutput (now (key .entry)) (now (leaves .entry)) (now (witness .entry)) (now (matrix .entry)) (now (batching .entry)) (now (out .entry)) (now (out .exit)) (answerOf r) ⌝ }
+    ensures { λ r. ⌜ ProveOutput (now (key .entry)) (now (leaves .entry)) (now (witness .entry)) (now (matrix .entry)) (now (batching .entry))
+        (now (out .entry)) (now (out .exit)) (answerOf r) ⌝ }
 {
     let s = sizes_of(key);
     let form = questions::calls::prove_form(key, leaves, witness, matrix, batching, out.len(), s);

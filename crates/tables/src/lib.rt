@@ -93,7 +93,8 @@ fn load_tree(
     e: usize,
     w: usize,
 )
-    requires { ⌜ (length (now table) ≡ 8 * w * lanes) × (length (now planes) ≡ 8 * w) × (e < lanes) × (e * w + w ≤ length (now sums)) × (e * (256 * w) + 256 * w ≤ length (now leaves)) ⌝ }
+    requires { ⌜ (length (now table) ≡ 8 * w * lanes) × (length (now planes) ≡ 8 * w) × (e < lanes) × (e * w + w ≤ length (now sums))
+        × (e * (256 * w) + 256 * w ≤ length (now leaves)) ⌝ }
     ensures { λ _. ⌜ ((b : ℕ) → b < w → byteAt (now (sums .exit)) (e * w + b) ≡ uByte (now (leaves .entry)) w e b) ⌝ }
     ensures { λ _. ⌜ LaneIs e (8 * w) (vByte (now (leaves .entry)) w e) (now (table .exit)) ⌝ }
     ensures { λ _. ⌜ RowsKept w e (now (sums .entry)) (now (sums .exit)) ⌝ }

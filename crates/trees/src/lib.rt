@@ -47,7 +47,8 @@ pub fn opened_leaf(tree: &[u8], w: usize, delta: usize, j: usize) -> &[u8]
 // Adds leaf j to u, and nothing for the leaf that is left out.
 fn add_leaf(u: &mut [u8], tree: &[u8], delta: usize, j: usize)
     requires { ⌜ ((j ≡ delta → ⊥) → place delta j * length (now u) + length (now u) ≤ length (now tree)) ⌝ }
-    ensures { λ _. ⌜ ((b : ℕ) → b < length (now (u .entry)) → byteAt (now (u .exit)) b ≡ bitXor (byteAt (now (u .entry)) b) (leafByte (now (tree .entry)) (length (now (u .entry))) delta j b)) ⌝ }
+    ensures { λ _. ⌜ ((b : ℕ) → b < length (now (u .entry)) → byteAt (now (u .exit)) b
+        ≡ bitXor (byteAt (now (u .entry)) b) (leafByte (now (tree .entry)) (length (now (u .entry))) delta j b)) ⌝ }
 {
     let w = u.len();
     if j != delta {
