@@ -3,6 +3,7 @@
 --     bytes of two chunks
 --   Masks v masks == masks holds eight masks: byte f of mask b is 255 where bit b of byte f of v is set, and 0
 --     elsewhere
+--   mostBlock == the most equations that go through the kernels of the forms at once
 -- Assumes nothing.
 use mathlib.Core.Path.{_≡_}
 use mathlib.Core.List.{List}
@@ -14,6 +15,9 @@ chunk = 32
 
 abbrev pub pair : ℕ
 pair = 64
+
+abbrev pub mostBlock : ℕ
+mostBlock = 160
 
 abbrev pub cellAt : List ℕ → ℕ → ℕ → ℕ
 cellAt S i f = byteAt S (i * chunk + f)
