@@ -3,22 +3,26 @@ ghost use mathlib.Core.Path.{_≡_};
 ghost use mathlib.Core.Bool.{true};
 ghost use Prim.Native.Nat.{_+_, _*_, _<_, _≤_, _^_};
 ghost use Rattle.protocol.specs.Strings.{bytesFor};
-ghost use Rattle.protocol.specs.Binary.{bits256};
 ghost use Rattle.protocol.specs.Shape.{within, limits, kOf, lOf, wOf};
 ghost use Rattle.protocol.specs.Key.{keyLengths};
 ghost use Rattle.protocol.specs.Sections.{lengths, commitLengths, hashLengths, batchLengths};
-ghost use Rattle.format.specs.Sizes.{shapeFor, SizesOf};
+ghost use Rattle.format.specs.Sizes.{alphabetFor, shapeFor, SizesOf};
 use super::numbers::number2;
 use field::Gf256;
 use strings::BITS;
 
-// n variables, m equations, τ repetitions, t hash rows.
+// n variables, m equations, τ repetitions, t hash rows; the degree of the field, and the symbols of the alphabet.
 pub struct Sizes {
     pub n: usize,
     pub m: usize,
     pub tau: usize,
     pub t: usize,
+    pub degree: usize,
+    pub alphabet: usize,
 }
+
+// The symbols of the one alphabet that is served: bits.
+pub const BINARY: usize = 2;
 
 // The limits of 01, in one place.
 pub const MOST_VARIABLES: usize = 160;
@@ -47,6 +51,8 @@ pub fn sizes_of(key: &[u8]) -> Sizes
             m: 0,
             tau: 0,
             t: 0,
+            degree: Gf256::DEGREE,
+            alphabet: BINARY,
         };
     }
     Sizes {
@@ -54,6 +60,8 @@ pub fn sizes_of(key: &[u8]) -> Sizes
         m: number2(key, 2),
         tau: number2(key, 4),
         t: number2(key, 6),
+        degree: Gf256::DEGREE,
+        alphabet: BINARY,
     }
 }
 
@@ -88,7 +96,7 @@ pub fn bytes_for(bits: usize) -> usize
 // k = n + 8: the coordinates that a row of H′ covers.
 pub fn hashed_bits(s: Sizes) -> usize
     requires { ⌜ limits (shapeFor s) ≡ true ⌝ }
-    ensures { λ r. ⌜ r ≡ kOf bits256 (shapeFor s) ⌝ }
+    ensures { λ r. ⌜ r ≡ kOf (alphabetFor s) (shapeFor s) ⌝ }
 {
     s.n + Gf256::DEGREE
 }
@@ -96,7 +104,7 @@ pub fn hashed_bits(s: Sizes) -> usize
 // L = k + t: the coordinates of a leaf.
 pub fn leaf_bits(s: Sizes) -> usize
     requires { ⌜ limits (shapeFor s) ≡ true ⌝ }
-    ensures { λ r. ⌜ r ≡ lOf bits256 (shapeFor s) ⌝ }
+    ensures { λ r. ⌜ r ≡ lOf (alphabetFor s) (shapeFor s) ⌝ }
 {
     hashed_bits(s) + s.t
 }
@@ -104,7 +112,7 @@ pub fn leaf_bits(s: Sizes) -> usize
 // w = ⌈L/8⌉: the bytes of a leaf.
 pub fn leaf_bytes(s: Sizes) -> usize
     requires { ⌜ limits (shapeFor s) ≡ true ⌝ }
-    ensures { λ r. ⌜ r ≡ wOf bits256 (shapeFor s) ⌝ }
+    ensures { λ r. ⌜ r ≡ wOf (alphabetFor s) (shapeFor s) ⌝ }
 {
     bytes_for(leaf_bits(s))
 }
@@ -121,7 +129,7 @@ pub fn witness_bytes(s: Sizes) -> usize
 // The bytes of H′: t rows of k bits.
 pub fn hash_matrix_bytes(s: Sizes) -> usize
     requires { ⌜ limits (shapeFor s) ≡ true ⌝ }
-    ensures { λ r. ⌜ r ≡ s .t * bytesFor (kOf bits256 (shapeFor s)) ⌝ }
+    ensures { λ r. ⌜ r ≡ s .t * bytesFor (kOf (alphabetFor s) (shapeFor s)) ⌝ }
 {
     s.t * bytes_for(hashed_bits(s))
 }
@@ -137,7 +145,7 @@ pub fn batching_bytes(s: Sizes) -> usize
 // The bytes of so many leaves for each repetition: 256 for the prover, 255 for the verifier.
 pub fn leaves_bytes(s: Sizes, per: usize) -> usize
     requires { ⌜ (limits (shapeFor s) ≡ true) × (per ≤ 256) ⌝ }
-    ensures { λ r. ⌜ r ≡ s .tau * per * wOf bits256 (shapeFor s) ⌝ }
+    ensures { λ r. ⌜ r ≡ s .tau * per * wOf (alphabetFor s) (shapeFor s) ⌝ }
 {
     s.tau * per * leaf_bytes(s)
 }
@@ -145,7 +153,7 @@ pub fn leaves_bytes(s: Sizes, per: usize) -> usize
 // The lengths of the key's sections A, b, y.
 pub fn key_lengths(s: Sizes) -> [usize; 3]
     requires { ⌜ limits (shapeFor s) ≡ true ⌝ }
-    ensures { λ r. ⌜ r ≡ keyLengths bits256 (shapeFor s) ⌝ }
+    ensures { λ r. ⌜ r ≡ keyLengths (alphabetFor s) (shapeFor s) ⌝ }
 {
     let m = s.m;
     let row = witness_bytes(s);
@@ -155,7 +163,7 @@ pub fn key_lengths(s: Sizes) -> [usize; 3]
 // The lengths of the sections that the first step writes: C, d.
 pub fn commit_lengths(s: Sizes) -> [usize; 2]
     requires { ⌜ limits (shapeFor s) ≡ true ⌝ }
-    ensures { λ r. ⌜ r ≡ commitLengths bits256 (shapeFor s) ⌝ }
+    ensures { λ r. ⌜ r ≡ commitLengths (alphabetFor s) (shapeFor s) ⌝ }
 {
     [(s.tau - 1) * leaf_bytes(s), witness_bytes(s)]
 }
@@ -163,7 +171,7 @@ pub fn commit_lengths(s: Sizes) -> [usize; 2]
 // The lengths of the sections that the second step writes: ũ, Ṽ.
 pub fn hash_lengths(s: Sizes) -> [usize; 2]
     requires { ⌜ limits (shapeFor s) ≡ true ⌝ }
-    ensures { λ r. ⌜ r ≡ hashLengths bits256 (shapeFor s) ⌝ }
+    ensures { λ r. ⌜ r ≡ hashLengths (alphabetFor s) (shapeFor s) ⌝ }
 {
     let t = s.t;
     [bytes_for(t), s.tau * t]
@@ -172,7 +180,7 @@ pub fn hash_lengths(s: Sizes) -> [usize; 2]
 // The lengths of the sections that the third step writes: QS0, QS1.
 pub fn batch_lengths(s: Sizes) -> [usize; 2]
     requires { ⌜ limits (shapeFor s) ≡ true ⌝ }
-    ensures { λ r. ⌜ r ≡ batchLengths bits256 (shapeFor s) ⌝ }
+    ensures { λ r. ⌜ r ≡ batchLengths (alphabetFor s) (shapeFor s) ⌝ }
 {
     [s.tau, s.tau]
 }
@@ -180,7 +188,7 @@ pub fn batch_lengths(s: Sizes) -> [usize; 2]
 // The lengths of a proof's six sections.
 pub fn proof_lengths(s: Sizes) -> [usize; 6]
     requires { ⌜ limits (shapeFor s) ≡ true ⌝ }
-    ensures { λ r. ⌜ r ≡ lengths bits256 (shapeFor s) ⌝ }
+    ensures { λ r. ⌜ r ≡ lengths (alphabetFor s) (shapeFor s) ⌝ }
 {
     let first = commit_lengths(s);
     let second = hash_lengths(s);

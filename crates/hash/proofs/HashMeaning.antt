@@ -90,6 +90,6 @@ module _ (s : Shape) (H′ table : List ℕ) (f : ℕ → F) (ρ e : ℕ) (exact
       ap₂ bitXor selected-is (is (k + ρ) identity-in) ∙ sym (bits256 .K .byte-add _ (f (k + ρ))) ∙ ap byteOf (sym (hash-split bits256 s H′ ρ f l))
 
 -- H′ of the right form has its rows
-pub hash-length : (s : Shape) (H′ : List ℕ) → HashForm s H′ → length H′ ≡ s .t * bytesFor (kOf bits256 s)
+pub hash-length : (s : Shape) (H′ : List ℕ) → HashForm bits256 s H′ → length H′ ≡ s .t * bytesFor (kOf bits256 s)
 unfolding hExact
 hash-length s H′ f = eqb-eq (length H′) (s .t * bytesFor (kOf bits256 s)) (f .hash-exact)

@@ -4,11 +4,10 @@ ghost use mathlib.Core.Bool.{true};
 ghost use Prim.Native.Nat.{ℕ, _+_, _*_, _<_, _≤_};
 ghost use lib.ListN.{length};
 ghost use Rattle.protocol.specs.Strings.{bytesFor};
-ghost use Rattle.protocol.specs.Binary.{bits256};
 ghost use Rattle.protocol.specs.Shape.{limits, kOf, wOf};
 ghost use Rattle.strings.specs.Sums.{byteAt};
 ghost use Rattle.lanes.specs.Lanes.{lanes};
-ghost use Rattle.format.specs.Sizes.{shapeFor};
+ghost use Rattle.format.specs.Sizes.{alphabetFor, shapeFor};
 ghost use Rattle.hash.specs.Hashed.{rowHashed, RowFits, FrontTabled, HashFits, Hashed};
 ghost use Rattle.questions.specs.Facts.{HashForm};
 use super::lookups::PER_BYTE;
@@ -74,8 +73,8 @@ fn hash_lanes(
 
 // The sums of each four coordinates that a row of H′ can select.
 fn fill_entries(entries: &mut [u8], table: &[u8], s: Sizes)
-    requires { ⌜ (limits (shapeFor s) ≡ true) × (length (now table) ≡ 8 * wOf bits256 (shapeFor s) * lanes) × (bytesFor (kOf bits256 (shapeFor s)) * 32 * lanes ≤ length (now entries)) ⌝ }
-    ensures { λ _. ⌜ FrontTabled (bytesFor (kOf bits256 (shapeFor s))) (now (table .entry)) (now (entries .exit)) ⌝ }
+    requires { ⌜ (limits (shapeFor s) ≡ true) × (length (now table) ≡ 8 * wOf (alphabetFor s) (shapeFor s) * lanes) × (bytesFor (kOf (alphabetFor s) (shapeFor s)) * 32 * lanes ≤ length (now entries)) ⌝ }
+    ensures { λ _. ⌜ FrontTabled (bytesFor (kOf (alphabetFor s) (shapeFor s))) (now (table .entry)) (now (entries .exit)) ⌝ }
 {
     let width = format::sizes::bytes_for(format::sizes::hashed_bits(s));
     let rows = width * BITS;
@@ -85,8 +84,8 @@ fn fill_entries(entries: &mut [u8], table: &[u8], s: Sizes)
 // Byte e·t + ρ is row ρ of H·v_e, for the vectors v_e of the table (the verifier's are W_e). The table of sums is
 // needed here only, and so is off the stack when the batch step, the deepest, begins.
 pub fn hash_all(out: &mut [u8], matrix: &[u8], table: &[u8], s: Sizes)
-    requires { ⌜ (limits (shapeFor s) ≡ true) × HashForm (shapeFor s) (now matrix) × (length (now table) ≡ 8 * wOf bits256 (shapeFor s) * lanes) × (length (now out) ≡ s .tau * s .t) ⌝ }
-    ensures { λ _. ⌜ Hashed (now (matrix .entry)) (bytesFor (kOf bits256 (shapeFor s))) (kOf bits256 (shapeFor s)) (s .t) (s .tau) (now (table .entry)) (now (out .exit)) ⌝ }
+    requires { ⌜ (limits (shapeFor s) ≡ true) × HashForm (alphabetFor s) (shapeFor s) (now matrix) × (length (now table) ≡ 8 * wOf (alphabetFor s) (shapeFor s) * lanes) × (length (now out) ≡ s .tau * s .t) ⌝ }
+    ensures { λ _. ⌜ Hashed (now (matrix .entry)) (bytesFor (kOf (alphabetFor s) (shapeFor s))) (kOf (alphabetFor s) (shapeFor s)) (s .t) (s .tau) (now (table .entry)) (now (out .exit)) ⌝ }
 {
     let k = format::sizes::hashed_bits(s);
     let width = format::sizes::bytes_for(k);

@@ -25,7 +25,7 @@ use Rattle.questions.specs.Facts.{HashForm}
 use Rattle.strings.proofs.TableLaws.{rows-table}
 use Rattle.hash.proofs.HashMeaning.{hash-lane-is}
 
-pub hashed-are : (s : Shape) (leaves H′ tab out : List ℕ) → HashForm s H′ → TableIs tab leaves (s .τ) (wOf bits256 s) → length out ≡ s .τ * s .t
+pub hashed-are : (s : Shape) (leaves H′ tab out : List ℕ) → HashForm bits256 s H′ → TableIs tab leaves (s .τ) (wOf bits256 s) → length out ≡ s .τ * s .t
     → ((e r : ℕ) → e < s .τ → r < s .t → byteAt out (e * s .t + r) ≡ hashLane H′ (bytesFor (kOf bits256 s)) (kOf bits256 s) tab r e)
     → out ≡ ṼSection bits256 s leaves H′
 unfolding ṼSection

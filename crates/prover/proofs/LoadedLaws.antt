@@ -22,7 +22,7 @@ use Rattle.questions.specs.Asking.{SizedKey}
 use Rattle.questions.specs.Facts.{KeyFacts, LeavesForm}
 use Rattle.prover.specs.Loaded.{Buffers}
 
-pub leaves-long : (s : Shape) (leaves : List ℕ) → LeavesForm s leaves → length leaves ≡ s .τ * 256 * wOf bits256 s
+pub leaves-long : (s : Shape) (leaves : List ℕ) → LeavesForm bits256 s leaves → length leaves ≡ s .τ * 256 * wOf bits256 s
 leaves-long s leaves f = leaves-length bits256 s leaves (f .leaves-exact) ∙ ap (λ (n : ℕ). s .τ * n * wOf bits256 s) per-tree
 
 -- what the first part of a buffer holds, the buffer holds
@@ -37,11 +37,11 @@ pub table-less : (tab leaves : List ℕ) (τ w : ℕ) → τ ≤ lanes → Table
 table-less tab leaves τ w few is e c l h = getD-take (8 * w * lanes) tab (c * lanes + e) 0 (omega (arith, row-end c (8 * w) lanes h)) ∙ is e c l h
 
 -- a key whose questions got a yes has its sections
-pub key-form : (s : Shape) (key : List ℕ) → KeyFacts s key → SizedKey s key
+pub key-form : (s : Shape) (key : List ℕ) → KeyFacts bits256 s key → SizedKey bits256 s key
 key-form s key f = record { header = f .header; sizes = f .in-range; exact = f .key-exact }
 
 -- the buffers of a call, made for the largest key, have room for this one
-pub buffers-of : (s : Shape) → limits s ≡ true → Buffers s (replicate 15744 0) (replicate 1968 0)
+pub buffers-of : (s : Shape) → limits s ≡ true → Buffers bits256 s (replicate 15744 0) (replicate 1968 0)
 buffers-of s h = record {
   table-room = rw (length-replicate {A = ℕ} 15744 0) (room s h .table-room);
   sums-room = rw (length-replicate {A = ℕ} 1968 0) (room s h .sums-room);

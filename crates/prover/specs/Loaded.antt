@@ -8,21 +8,21 @@ use mathlib.Core.Bool.{true}
 use mathlib.Core.List.{List}
 use Prim.Native.Nat.{ℕ, _*_, _≤_}
 use lib.ListN.{length}
-use Rattle.protocol.specs.Binary.{bits256}
+use Rattle.protocol.specs.Alphabet.{Alphabet}
 use Rattle.protocol.specs.Shape.{Shape, limits, wOf}
 use Rattle.lanes.specs.Lanes.{lanes}
 use Rattle.tables.specs.Sums.{SumsAre, TableIs}
 use Rattle.questions.specs.Facts.{LeavesForm}
 
-pub record Buffers (s : Shape) (table sums : List ℕ) : Type 0 where
-  pub table-room : 8 * wOf bits256 s * lanes ≤ length table
-  pub sums-room : s .τ * wOf bits256 s ≤ length sums
+pub record Buffers (A : Alphabet) (s : Shape) (table sums : List ℕ) : Type 0 where
+  pub table-room : 8 * wOf A s * lanes ≤ length table
+  pub sums-room : s .τ * wOf A s ≤ length sums
 
-abbrev pub LoadReady : Shape → List ℕ → List ℕ → List ℕ → Type 0
-LoadReady s leaves table sums = (limits s ≡ true) × LeavesForm s leaves × Buffers s table sums
+abbrev pub LoadReady : Alphabet → Shape → List ℕ → List ℕ → List ℕ → Type 0
+LoadReady A s leaves table sums = (limits s ≡ true) × LeavesForm A s leaves × Buffers A s table sums
 
-pub record Loaded (s : Shape) (leaves table sums : List ℕ) : Type 0 where
-  pub leaves-form : LeavesForm s leaves
-  pub buffers : Buffers s table sums
-  pub sums-are : SumsAre sums leaves (s .τ) (wOf bits256 s)
-  pub table-is : TableIs table leaves (s .τ) (wOf bits256 s)
+pub record Loaded (A : Alphabet) (s : Shape) (leaves table sums : List ℕ) : Type 0 where
+  pub leaves-form : LeavesForm A s leaves
+  pub buffers : Buffers A s table sums
+  pub sums-are : SumsAre sums leaves (s .τ) (wOf A s)
+  pub table-is : TableIs table leaves (s .τ) (wOf A s)

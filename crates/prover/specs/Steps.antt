@@ -14,7 +14,7 @@ use Prim.Native.Nat.{ℕ, _+_, _*_, _-_, _≤_}
 use lib.ListN.{length, take}
 use Rattle.protocol.specs.Strings.{bytesFor}
 use Rattle.protocol.specs.Frames.{frame}
-use Rattle.protocol.specs.Binary.{bits256}
+use Rattle.protocol.specs.Alphabet.{Alphabet}
 use Rattle.protocol.specs.Shape.{Shape, limits, wOf}
 use Rattle.protocol.specs.Sections.{bytesOf}
 use Rattle.protocol.specs.Prover.{cSection, dSection, ũSection, ṼSection, qs0Section, qs1Section, sectionsOf}
@@ -22,69 +22,69 @@ use Rattle.lanes.specs.Lanes.{lanes}
 use Rattle.questions.specs.Facts.{KeyFacts, WitnessForm, HashForm}
 use Rattle.prover.specs.Loaded.{Buffers, Loaded}
 
-module _ (s : Shape) where
+module _ (A : Alphabet) (s : Shape) where
   abbrev pub commitFrame : (leaves x : List ℕ) → List ℕ
-  commitFrame leaves x = frame (cSection bits256 s leaves ∷ dSection bits256 s leaves x ∷ [])
+  commitFrame leaves x = frame (cSection A s leaves ∷ dSection A s leaves x ∷ [])
 
   abbrev pub hashFrame : (leaves H′ : List ℕ) → List ℕ
-  hashFrame leaves H′ = frame (ũSection bits256 s leaves H′ ∷ ṼSection bits256 s leaves H′ ∷ [])
+  hashFrame leaves H′ = frame (ũSection A s leaves H′ ∷ ṼSection A s leaves H′ ∷ [])
 
   abbrev pub batchFrame : (leaves key x χ : List ℕ) → List ℕ
-  batchFrame leaves key x χ = frame (qs0Section bits256 s leaves key χ ∷ qs1Section bits256 s leaves key x χ ∷ [])
+  batchFrame leaves key x χ = frame (qs0Section A s leaves key χ ∷ qs1Section A s leaves key x χ ∷ [])
 
   abbrev pub restFrame : (leaves key x H′ χ : List ℕ) → List ℕ
-  restFrame leaves key x H′ χ = frame (ũSection bits256 s leaves H′ ∷ ṼSection bits256 s leaves H′ ∷ qs0Section bits256 s leaves key χ ∷ qs1Section bits256 s leaves key x χ ∷ [])
+  restFrame leaves key x H′ χ = frame (ũSection A s leaves H′ ∷ ṼSection A s leaves H′ ∷ qs0Section A s leaves key χ ∷ qs1Section A s leaves key x χ ∷ [])
 
   abbrev pub proofFrame : (leaves key x H′ χ : List ℕ) → List ℕ
-  proofFrame leaves key x H′ χ = bytesOf (sectionsOf bits256 s leaves key x H′ χ)
+  proofFrame leaves key x H′ χ = bytesOf (sectionsOf A s leaves key x H′ χ)
 
   pub record CommitReady (x sums out : List ℕ) : Type 0 where
     pub in-range : limits s ≡ true
     pub witness-length : length x ≡ bytesFor (s .n)
-    pub sums-room : s .τ * wOf bits256 s ≤ length sums
-    pub out-length : length out ≡ 8 + (s .τ - 1) * wOf bits256 s + bytesFor (s .n)
+    pub sums-room : s .τ * wOf A s ≤ length sums
+    pub out-length : length out ≡ 8 + (s .τ - 1) * wOf A s + bytesFor (s .n)
 
   abbrev pub CommitWritten : (x sums out : List ℕ) → Type 0
-  CommitWritten x sums out = (leaves table : List ℕ) → Loaded s leaves table sums → out ≡ commitFrame leaves x
+  CommitWritten x sums out = (leaves table : List ℕ) → Loaded A s leaves table sums → out ≡ commitFrame leaves x
 
   pub record HashReady (H′ table sums out : List ℕ) : Type 0 where
     pub in-range : limits s ≡ true
-    pub hash-form : HashForm s H′
-    pub buffers : Buffers s table sums
+    pub hash-form : HashForm A s H′
+    pub buffers : Buffers A s table sums
     pub out-length : length out ≡ 8 + bytesFor (s .t) + s .τ * s .t
 
   abbrev pub HashWritten : (H′ table sums out : List ℕ) → Type 0
-  HashWritten H′ table sums out = (leaves : List ℕ) → Loaded s leaves table sums → out ≡ hashFrame leaves H′
+  HashWritten H′ table sums out = (leaves : List ℕ) → Loaded A s leaves table sums → out ≡ hashFrame leaves H′
 
   pub record BatchReady (key x χ table sums out : List ℕ) : Type 0 where
-    pub key-facts : KeyFacts s key
-    pub witness-form : WitnessForm s x
+    pub key-facts : KeyFacts A s key
+    pub witness-form : WitnessForm A s x
     pub batching-length : length χ ≡ s .τ * s .m
-    pub buffers : Buffers s table sums
+    pub buffers : Buffers A s table sums
     pub out-length : length out ≡ 8 + s .τ + s .τ
 
   abbrev pub BatchWritten : (key x χ table sums out : List ℕ) → Type 0
-  BatchWritten key x χ table sums out = (leaves : List ℕ) → Loaded s leaves table sums → out ≡ batchFrame leaves key x χ
+  BatchWritten key x χ table sums out = (leaves : List ℕ) → Loaded A s leaves table sums → out ≡ batchFrame leaves key x χ
 
   pub record FormsReady (key x χ table sums qs0 qs1 : List ℕ) : Type 0 where
-    pub key-facts : KeyFacts s key
-    pub witness-form : WitnessForm s x
+    pub key-facts : KeyFacts A s key
+    pub witness-form : WitnessForm A s x
     pub batching-length : length χ ≡ s .τ * s .m
-    pub buffers : Buffers s table sums
+    pub buffers : Buffers A s table sums
     pub qs0-lanes : length qs0 ≡ lanes
     pub qs1-lanes : length qs1 ≡ lanes
 
   abbrev pub FormsWritten : (key x χ table sums qs0 qs1 : List ℕ) → Type 0
   FormsWritten key x χ table sums qs0 qs1 =
-      (leaves : List ℕ) → Loaded s leaves table sums → (take (s .τ) qs0 ≡ qs0Section bits256 s leaves key χ) × (take (s .τ) qs1 ≡ qs1Section bits256 s leaves key x χ)
+      (leaves : List ℕ) → Loaded A s leaves table sums → (take (s .τ) qs0 ≡ qs0Section A s leaves key χ) × (take (s .τ) qs1 ≡ qs1Section A s leaves key x χ)
 
   pub record RestReady (key x H′ χ table sums out : List ℕ) : Type 0 where
-    pub key-facts : KeyFacts s key
-    pub hash-form : HashForm s H′
-    pub witness-form : WitnessForm s x
+    pub key-facts : KeyFacts A s key
+    pub hash-form : HashForm A s H′
+    pub witness-form : WitnessForm A s x
     pub batching-length : length χ ≡ s .τ * s .m
-    pub buffers : Buffers s table sums
+    pub buffers : Buffers A s table sums
     pub out-length : length out ≡ 16 + bytesFor (s .t) + s .τ * s .t + s .τ + s .τ
 
   abbrev pub RestWritten : (key x H′ χ table sums out : List ℕ) → Type 0
-  RestWritten key x H′ χ table sums out = (leaves : List ℕ) → Loaded s leaves table sums → out ≡ restFrame leaves key x H′ χ
+  RestWritten key x H′ χ table sums out = (leaves : List ℕ) → Loaded A s leaves table sums → out ≡ restFrame leaves key x H′ χ

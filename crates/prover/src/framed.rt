@@ -1,5 +1,5 @@
 // The sections C, d, ũ and Ṽ, each after its count, written where the output has them.
-ghost use Rattle.format.specs.Sizes.{shapeFor};
+ghost use Rattle.format.specs.Sizes.{alphabetFor, shapeFor};
 ghost use Rattle.prover.specs.Framed.{CReady, CWritten, DReady, DWritten, UReady, UWritten, VReady, VWritten};
 use super::vole::write_corrections;
 use super::vole::write_difference;
@@ -16,8 +16,8 @@ use strings::row_at;
 
 // C, from the u_e.
 pub fn write_c(out: &mut [u8], sums: &[u8], s: Sizes)
-    requires { ⌜ CReady (shapeFor s) (now sums) (now out) ⌝ }
-    ensures { λ _. ⌜ CWritten (shapeFor s) (now (sums .entry)) (now (out .exit)) ⌝ }
+    requires { ⌜ CReady (alphabetFor s) (shapeFor s) (now sums) (now out) ⌝ }
+    ensures { λ _. ⌜ CWritten (alphabetFor s) (shapeFor s) (now (sums .entry)) (now (out .exit)) ⌝ }
 {
     let w = leaf_bytes(s);
     let tau = s.tau;
@@ -27,8 +27,8 @@ pub fn write_c(out: &mut [u8], sums: &[u8], s: Sizes)
 
 // d, from u_0 and the witness.
 pub fn write_d(out: &mut [u8], witness: &[u8], sums: &[u8], s: Sizes)
-    requires { ⌜ DReady (shapeFor s) (now witness) (now sums) (now out) ⌝ }
-    ensures { λ _. ⌜ DWritten (shapeFor s) (now (witness .entry)) (now (sums .entry)) (now (out .exit)) ⌝ }
+    requires { ⌜ DReady (alphabetFor s) (shapeFor s) (now witness) (now sums) (now out) ⌝ }
+    ensures { λ _. ⌜ DWritten (alphabetFor s) (shapeFor s) (now (witness .entry)) (now (sums .entry)) (now (out .exit)) ⌝ }
 {
     let w = leaf_bytes(s);
     let n = s.n;
@@ -38,8 +38,8 @@ pub fn write_d(out: &mut [u8], witness: &[u8], sums: &[u8], s: Sizes)
 
 // ũ, from u_0 and H′.
 pub fn write_u(out: &mut [u8], matrix: &[u8], sums: &[u8], s: Sizes)
-    requires { ⌜ UReady (shapeFor s) (now matrix) (now sums) (now out) ⌝ }
-    ensures { λ _. ⌜ UWritten (shapeFor s) (now (matrix .entry)) (now (sums .entry)) (now (out .exit)) ⌝ }
+    requires { ⌜ UReady (alphabetFor s) (shapeFor s) (now matrix) (now sums) (now out) ⌝ }
+    ensures { λ _. ⌜ UWritten (alphabetFor s) (shapeFor s) (now (matrix .entry)) (now (sums .entry)) (now (out .exit)) ⌝ }
 {
     let w = leaf_bytes(s);
     let k = hashed_bits(s);
@@ -50,8 +50,8 @@ pub fn write_u(out: &mut [u8], matrix: &[u8], sums: &[u8], s: Sizes)
 
 // Ṽ, from the v_e and H′.
 pub fn write_v(out: &mut [u8], matrix: &[u8], table: &[u8], s: Sizes)
-    requires { ⌜ VReady (shapeFor s) (now matrix) (now table) (now out) ⌝ }
-    ensures { λ _. ⌜ VWritten (shapeFor s) (now (matrix .entry)) (now (table .entry)) (now (out .exit)) ⌝ }
+    requires { ⌜ VReady (alphabetFor s) (shapeFor s) (now matrix) (now table) (now out) ⌝ }
+    ensures { λ _. ⌜ VWritten (alphabetFor s) (shapeFor s) (now (matrix .entry)) (now (table .entry)) (now (out .exit)) ⌝ }
 {
     let w = leaf_bytes(s);
     put_count(&mut out[..COUNT], s.tau * s.t);

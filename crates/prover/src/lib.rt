@@ -4,7 +4,7 @@ pub mod steps;
 pub mod vole;
 
 ghost use mathlib.Core.Path.{_≡_};
-ghost use Rattle.format.specs.Sizes.{shapeFor};
+ghost use Rattle.format.specs.Sizes.{alphabetFor, shapeFor};
 ghost use Rattle.prover.specs.Loaded.{LoadReady, Loaded};
 ghost use Rattle.questions.specs.Facts.{CommitFacts, HashFacts, BatchFacts, ProveFacts};
 ghost use Rattle.prover.specs.Steps.{commitFrame, hashFrame, batchFrame, proofFrame, RestReady, RestWritten};
@@ -26,8 +26,8 @@ const SUMS_ROOM: usize = LANES * MOST_LEAF;
 
 // The sums of all trees: u_e and v_e of every repetition.
 fn load(table: &mut [u8], sums: &mut [u8], leaves: &[u8], s: Sizes)
-    requires { ⌜ LoadReady (shapeFor s) (now leaves) (now table) (now sums) ⌝ }
-    ensures { λ _. ⌜ Loaded (shapeFor s) (now (leaves .entry)) (now (table .exit)) (now (sums .exit)) ⌝ }
+    requires { ⌜ LoadReady (alphabetFor s) (shapeFor s) (now leaves) (now table) (now sums) ⌝ }
+    ensures { λ _. ⌜ Loaded (alphabetFor s) (shapeFor s) (now (leaves .entry)) (now (table .exit)) (now (sums .exit)) ⌝ }
 {
     let w = leaf_bytes(s);
     let tau = s.tau;
@@ -42,8 +42,8 @@ fn load(table: &mut [u8], sums: &mut [u8], leaves: &[u8], s: Sizes)
 
 // The first step (01): the sections C and d.
 pub fn commit(out: &mut [u8], leaves: &[u8], witness: &[u8], s: Sizes)
-    requires { ⌜ CommitFacts (shapeFor s) (now leaves) (now witness) (now out) ⌝ }
-    ensures { λ _. ⌜ now (out .exit) ≡ commitFrame (shapeFor s) (now (leaves .entry)) (now (witness .entry)) ⌝ }
+    requires { ⌜ CommitFacts (alphabetFor s) (shapeFor s) (now leaves) (now witness) (now out) ⌝ }
+    ensures { λ _. ⌜ now (out .exit) ≡ commitFrame (alphabetFor s) (shapeFor s) (now (leaves .entry)) (now (witness .entry)) ⌝ }
 {
     let mut table = [0u8; TABLE_ROOM];
     let mut sums = [0u8; SUMS_ROOM];
@@ -53,8 +53,8 @@ pub fn commit(out: &mut [u8], leaves: &[u8], witness: &[u8], s: Sizes)
 
 // The second step (01): the sections ũ and Ṽ.
 pub fn hash(out: &mut [u8], leaves: &[u8], matrix: &[u8], s: Sizes)
-    requires { ⌜ HashFacts (shapeFor s) (now leaves) (now matrix) (now out) ⌝ }
-    ensures { λ _. ⌜ now (out .exit) ≡ hashFrame (shapeFor s) (now (leaves .entry)) (now (matrix .entry)) ⌝ }
+    requires { ⌜ HashFacts (alphabetFor s) (shapeFor s) (now leaves) (now matrix) (now out) ⌝ }
+    ensures { λ _. ⌜ now (out .exit) ≡ hashFrame (alphabetFor s) (shapeFor s) (now (leaves .entry)) (now (matrix .entry)) ⌝ }
 {
     let mut table = [0u8; TABLE_ROOM];
     let mut sums = [0u8; SUMS_ROOM];
@@ -64,8 +64,8 @@ pub fn hash(out: &mut [u8], leaves: &[u8], matrix: &[u8], s: Sizes)
 
 // The third step (01): the sections QS0 and QS1.
 pub fn batch(out: &mut [u8], key: &[u8], leaves: &[u8], witness: &[u8], batching: &[u8], s: Sizes)
-    requires { ⌜ BatchFacts (shapeFor s) (now key) (now leaves) (now witness) (now batching) (now out) ⌝ }
-    ensures { λ _. ⌜ now (out .exit) ≡ batchFrame (shapeFor s) (now (leaves .entry)) (now (key .entry)) (now (witness .entry)) (now (batching .entry)) ⌝ }
+    requires { ⌜ BatchFacts (alphabetFor s) (shapeFor s) (now key) (now leaves) (now witness) (now batching) (now out) ⌝ }
+    ensures { λ _. ⌜ now (out .exit) ≡ batchFrame (alphabetFor s) (shapeFor s) (now (leaves .entry)) (now (key .entry)) (now (witness .entry)) (now (batching .entry)) ⌝ }
 {
     let mut table = [0u8; TABLE_ROOM];
     let mut sums = [0u8; SUMS_ROOM];
@@ -84,8 +84,8 @@ fn rest_into(
     sums: &[u8],
     s: Sizes,
 )
-    requires { ⌜ RestReady (shapeFor s) (now key) (now witness) (now matrix) (now batching) (now table) (now sums) (now out) ⌝ }
-    ensures { λ _. ⌜ RestWritten (shapeFor s) (now (key .entry)) (now (witness .entry)) (now (matrix .entry)) (now (batching .entry))
+    requires { ⌜ RestReady (alphabetFor s) (shapeFor s) (now key) (now witness) (now matrix) (now batching) (now table) (now sums) (now out) ⌝ }
+    ensures { λ _. ⌜ RestWritten (alphabetFor s) (shapeFor s) (now (key .entry)) (now (witness .entry)) (now (matrix .entry)) (now (batching .entry))
         (now (table .entry)) (now (sums .entry)) (now (out .exit)) ⌝ }
 {
     let split = hash_bytes(s);
@@ -103,8 +103,8 @@ pub fn prove(
     batching: &[u8],
     s: Sizes,
 )
-    requires { ⌜ ProveFacts (shapeFor s) (now key) (now leaves) (now witness) (now matrix) (now batching) (now out) ⌝ }
-    ensures { λ _. ⌜ now (out .exit) ≡ proofFrame (shapeFor s) (now (leaves .entry)) (now (key .entry)) (now (witness .entry)) (now (matrix .entry)) (now (batching .entry)) ⌝ }
+    requires { ⌜ ProveFacts (alphabetFor s) (shapeFor s) (now key) (now leaves) (now witness) (now matrix) (now batching) (now out) ⌝ }
+    ensures { λ _. ⌜ now (out .exit) ≡ proofFrame (alphabetFor s) (shapeFor s) (now (leaves .entry)) (now (key .entry)) (now (witness .entry)) (now (matrix .entry)) (now (batching .entry)) ⌝ }
 {
     let mut table = [0u8; TABLE_ROOM];
     let mut sums = [0u8; SUMS_ROOM];

@@ -1,5 +1,5 @@
 // The three steps of a proof, each from the sums and the table of the call's trees into its own part of the output.
-ghost use Rattle.format.specs.Sizes.{shapeFor};
+ghost use Rattle.format.specs.Sizes.{alphabetFor, shapeFor};
 ghost use Rattle.prover.specs.Steps.{CommitReady, CommitWritten, HashReady, HashWritten, BatchReady, BatchWritten, FormsReady, FormsWritten};
 use super::framed::write_c;
 use super::framed::write_d;
@@ -15,8 +15,8 @@ use sections::frames::put_two;
 
 // C and d.
 pub fn commit_into(out: &mut [u8], witness: &[u8], sums: &[u8], s: Sizes)
-    requires { ⌜ CommitReady (shapeFor s) (now witness) (now sums) (now out) ⌝ }
-    ensures { λ _. ⌜ CommitWritten (shapeFor s) (now (witness .entry)) (now (sums .entry)) (now (out .exit)) ⌝ }
+    requires { ⌜ CommitReady (alphabetFor s) (shapeFor s) (now witness) (now sums) (now out) ⌝ }
+    ensures { λ _. ⌜ CommitWritten (alphabetFor s) (shapeFor s) (now (witness .entry)) (now (sums .entry)) (now (out .exit)) ⌝ }
 {
     let split = COUNT + (s.tau - 1) * leaf_bytes(s);
     write_c(&mut out[..split], sums, s);
@@ -25,8 +25,8 @@ pub fn commit_into(out: &mut [u8], witness: &[u8], sums: &[u8], s: Sizes)
 
 // ũ and Ṽ.
 pub fn hash_into(out: &mut [u8], matrix: &[u8], table: &[u8], sums: &[u8], s: Sizes)
-    requires { ⌜ HashReady (shapeFor s) (now matrix) (now table) (now sums) (now out) ⌝ }
-    ensures { λ _. ⌜ HashWritten (shapeFor s) (now (matrix .entry)) (now (table .entry)) (now (sums .entry)) (now (out .exit)) ⌝ }
+    requires { ⌜ HashReady (alphabetFor s) (shapeFor s) (now matrix) (now table) (now sums) (now out) ⌝ }
+    ensures { λ _. ⌜ HashWritten (alphabetFor s) (shapeFor s) (now (matrix .entry)) (now (table .entry)) (now (sums .entry)) (now (out .exit)) ⌝ }
 {
     let split = COUNT + bytes_for(s.t);
     write_u(&mut out[..split], matrix, sums, s);
@@ -44,8 +44,8 @@ fn fill_forms(
     sums: &[u8],
     s: Sizes,
 )
-    requires { ⌜ FormsReady (shapeFor s) (now key) (now witness) (now batching) (now table) (now sums) (now qs0) (now qs1) ⌝ }
-    ensures { λ _. ⌜ FormsWritten (shapeFor s) (now (key .entry)) (now (witness .entry)) (now (batching .entry)) (now (table .entry)) (now (sums .entry)) (now (qs0 .exit)) (now (qs1 .exit)) ⌝ }
+    requires { ⌜ FormsReady (alphabetFor s) (shapeFor s) (now key) (now witness) (now batching) (now table) (now sums) (now qs0) (now qs1) ⌝ }
+    ensures { λ _. ⌜ FormsWritten (alphabetFor s) (shapeFor s) (now (key .entry)) (now (witness .entry)) (now (batching .entry)) (now (table .entry)) (now (sums .entry)) (now (qs0 .exit)) (now (qs1 .exit)) ⌝ }
 {
     let w = leaf_bytes(s);
     let n = s.n;
@@ -74,8 +74,8 @@ pub fn batch_into(
     sums: &[u8],
     s: Sizes,
 )
-    requires { ⌜ BatchReady (shapeFor s) (now key) (now witness) (now batching) (now table) (now sums) (now out) ⌝ }
-    ensures { λ _. ⌜ BatchWritten (shapeFor s) (now (key .entry)) (now (witness .entry)) (now (batching .entry)) (now (table .entry)) (now (sums .entry)) (now (out .exit)) ⌝ }
+    requires { ⌜ BatchReady (alphabetFor s) (shapeFor s) (now key) (now witness) (now batching) (now table) (now sums) (now out) ⌝ }
+    ensures { λ _. ⌜ BatchWritten (alphabetFor s) (shapeFor s) (now (key .entry)) (now (witness .entry)) (now (batching .entry)) (now (table .entry)) (now (sums .entry)) (now (out .exit)) ⌝ }
 {
     let mut qs0 = [0u8; LANES];
     let mut qs1 = [0u8; LANES];

@@ -23,26 +23,26 @@ use Rattle.sections.proofs.SectionLaws.{framed-length}
 pub rest-is : (key : List ℕ) (at : ℕ) → take (length key - at) (drop at key) ≡ drop at key
 rest-is key at = take-all (length key - at) (drop at key) (omega (arith, length-drop at key))
 
-pub sections-length : (s : Shape) (key : List ℕ) → SizedKey s key → length (drop 8 key) ≡ framedLength (keyLengths bits256 s)
+pub sections-length : (s : Shape) (key : List ℕ) → SizedKey bits256 s key → length (drop 8 key) ≡ framedLength (keyLengths bits256 s)
 unfolding keyExact
 sections-length s key f = framed-length (keyLengths bits256 s) (drop 8 key) (f .exact)
 
-pub facts-sized : (s : Shape) (key : List ℕ) → KeyFacts s key → SizedKey s key
+pub facts-sized : (s : Shape) (key : List ℕ) → KeyFacts bits256 s key → SizedKey bits256 s key
 facts-sized s key f = record { header = f .header; sizes = f .in-range; exact = f .key-exact }
 
 -- sizes that are those in the header
-pub sized-key : (s : Shape) (key : List ℕ) → s ≡ shapeOf key → KeyForm key → SizedKey s key
-sized-key s key e f = subst (λ (z : Shape). SizedKey z key) (sym e) f
+pub sized-key : (s : Shape) (key : List ℕ) → s ≡ shapeOf key → KeyForm bits256 key → SizedKey bits256 s key
+sized-key s key e f = subst (λ (z : Shape). SizedKey bits256 z key) (sym e) f
 
 -- from the acceptance of the questions on the key
-pub key-facts : (key : List ℕ) → ask (keyQuestions key) ≡ accepted → KeyFacts (shapeOf key) key
+pub key-facts : (key : List ℕ) → ask (keyQuestions bits256 key) ≡ accepted → KeyFacts bits256 (shapeOf key) key
 key-facts key h =
-    let y = all-yes (keyQuestions key) (ask-accepts (keyQuestions key) .0 h) in
+    let y = all-yes (keyQuestions bits256 key) (ask-accepts (keyQuestions bits256 key) .0 h) in
     record { header = leb-le 8 (length key) (y .0); in-range = y .1 .0; key-exact = y .1 .1 .0; key-spare = y .1 .1 .1 .0 }
 
 -- what holds by the sizes in the header holds by those that were read from it
 pub by-sizes : (P : Shape → Type 0) (s : Sizes) (key : List ℕ) → SizesOf key s → 8 ≤ length key → P (shapeOf key) → P (shapeFor s)
-by-sizes P s key of h f = subst P (sym (of h)) f
+by-sizes P s key of h f = subst P (sym (of .0 h)) f
 
-pub key-sized : (s : Sizes) (key : List ℕ) → SizesOf key s → ask (keyQuestions key) ≡ accepted → KeyFacts (shapeFor s) key
-key-sized s key of h = by-sizes (λ z. KeyFacts z key) s key of (key-facts key h .header) (key-facts key h)
+pub key-sized : (s : Sizes) (key : List ℕ) → SizesOf key s → ask (keyQuestions bits256 key) ≡ accepted → KeyFacts bits256 (shapeFor s) key
+key-sized s key of h = by-sizes (λ z. KeyFacts bits256 z key) s key of (key-facts key h .header) (key-facts key h)

@@ -19,6 +19,6 @@ use Rattle.questions.specs.Solved.{ErrorsAs, SolvedAs}
 module _ (key x : List ℕ) (spare : spareZero x (shapeOf key .n) ≡ true) (errors : List ℕ) (long : length errors ≡ shapeOf key .m)
     (are : (i : ℕ) → i < length errors → byteAt errors i ≡ keyError (shapeOf key .n) (sectionA bits256 (shapeOf key) key) (sectionB bits256 (shapeOf key) key) (sectionY bits256 (shapeOf key) key) x i) where
   -- the answer of the errors at a witness is the answer to question 11
-  pub solved-as : (a : Answer) → ErrorsAs errors a → SolvedAs key x a
+  pub solved-as : (a : Answer) → ErrorsAs errors a → SolvedAs bits256 key x a
   solved-as accepted f = none-solves gf256 (shapeOf key) key x spare errors long are f
   solved-as (refused i p) f = (f .0, first-refutes gf256 (shapeOf key) key x spare errors long are p (f .1), first-fails gf256 (shapeOf key) key x spare errors long are p (f .1))

@@ -16,7 +16,7 @@ use Prim.Native.Nat.{ℕ, _≤_}
 use lib.Dec.{eqb}
 use lib.ListN.{length}
 use Rattle.protocol.specs.Frames.{framedLength}
-use Rattle.protocol.specs.Binary.{bits256}
+use Rattle.protocol.specs.Alphabet.{Alphabet}
 use Rattle.protocol.specs.Shape.{Shape, shapeOf, limits, perTree, perOpened}
 use Rattle.protocol.specs.Sections.{lengths, commitLengths, hashLengths, batchLengths}
 use Rattle.protocol.specs.Key.{keyExact}
@@ -24,58 +24,58 @@ use Rattle.protocol.specs.Answers.{Answer, Question, question, ask}
 use Rattle.protocol.specs.Calls.{commitQuestions, hashQuestions, batchQuestions, proveQuestions}
 use Rattle.protocol.specs.Questions.{ΔExact, hExact, χExact, q1, q2, q3, q4, q5, q6, q7, q8, q9, q12, q13}
 
-abbrev pub keyQuestions : List ℕ → List Question
-keyQuestions key =
-    q1 bits256 (shapeOf key) key ∷ q2 bits256 (shapeOf key) ∷ q3 bits256 (shapeOf key) key ∷ q4 bits256 (shapeOf key) key ∷ []
+abbrev pub keyQuestions : Alphabet → List ℕ → List Question
+keyQuestions A key =
+    q1 A (shapeOf key) key ∷ q2 A (shapeOf key) ∷ q3 A (shapeOf key) key ∷ q4 A (shapeOf key) key ∷ []
 
 abbrev pub outputQuestion : List ℕ → ℕ → Question
 outputQuestion ls n = question (eqb n (framedLength ls)) 10 0
 
-module _ (s : Shape) where
+module _ (A : Alphabet) (s : Shape) where
   abbrev pub commitInputs : List ℕ → List ℕ → ℕ → List Question
   commitInputs leaves x n =
-      q7 bits256 s (perTree bits256) leaves ∷ q8 bits256 s (perTree bits256) leaves ∷ q9 bits256 s x ∷ outputQuestion (commitLengths bits256 s) n ∷ []
+      q7 A s (perTree A) leaves ∷ q8 A s (perTree A) leaves ∷ q9 A s x ∷ outputQuestion (commitLengths A s) n ∷ []
 
   abbrev pub hashInputs : List ℕ → List ℕ → ℕ → List Question
   hashInputs leaves H′ n =
-      q5 bits256 s (hExact bits256 s H′ ∷ []) ∷ q6 bits256 s H′ ∷ q7 bits256 s (perTree bits256) leaves ∷ q8 bits256 s (perTree bits256) leaves
-      ∷ outputQuestion (hashLengths bits256 s) n ∷ []
+      q5 A s (hExact A s H′ ∷ []) ∷ q6 A s H′ ∷ q7 A s (perTree A) leaves ∷ q8 A s (perTree A) leaves
+      ∷ outputQuestion (hashLengths A s) n ∷ []
 
   abbrev pub batchInputs : List ℕ → List ℕ → List ℕ → ℕ → List Question
   batchInputs leaves x χ n =
-      q5 bits256 s (χExact bits256 s χ ∷ []) ∷ q7 bits256 s (perTree bits256) leaves ∷ q8 bits256 s (perTree bits256) leaves ∷ q9 bits256 s x
-      ∷ outputQuestion (batchLengths bits256 s) n ∷ []
+      q5 A s (χExact A s χ ∷ []) ∷ q7 A s (perTree A) leaves ∷ q8 A s (perTree A) leaves ∷ q9 A s x
+      ∷ outputQuestion (batchLengths A s) n ∷ []
 
   abbrev pub proveInputs : List ℕ → List ℕ → List ℕ → List ℕ → ℕ → List Question
   proveInputs leaves x H′ χ n =
-      q5 bits256 s (hExact bits256 s H′ ∷ χExact bits256 s χ ∷ []) ∷ q6 bits256 s H′ ∷ q7 bits256 s (perTree bits256) leaves
-      ∷ q8 bits256 s (perTree bits256) leaves ∷ q9 bits256 s x ∷ outputQuestion (lengths bits256 s) n ∷ []
+      q5 A s (hExact A s H′ ∷ χExact A s χ ∷ []) ∷ q6 A s H′ ∷ q7 A s (perTree A) leaves
+      ∷ q8 A s (perTree A) leaves ∷ q9 A s x ∷ outputQuestion (lengths A s) n ∷ []
 
   abbrev pub verifyInputs : List ℕ → List ℕ → List ℕ → List ℕ → List Question
   verifyInputs Δ H′ χ opened =
-      q5 bits256 s (ΔExact bits256 s Δ ∷ hExact bits256 s H′ ∷ χExact bits256 s χ ∷ []) ∷ q6 bits256 s H′ ∷ q7 bits256 s (perOpened bits256) opened
-      ∷ q8 bits256 s (perOpened bits256) opened ∷ []
+      q5 A s (ΔExact A s Δ ∷ hExact A s H′ ∷ χExact A s χ ∷ []) ∷ q6 A s H′ ∷ q7 A s (perOpened A) opened
+      ∷ q8 A s (perOpened A) opened ∷ []
 
   abbrev pub proofQuestions : List ℕ → List Question
-  proofQuestions proof = q12 bits256 s proof ∷ q13 bits256 s proof ∷ []
+  proofQuestions proof = q12 A s proof ∷ q13 A s proof ∷ []
 
-module _ (key : List ℕ) where
+module _ (A : Alphabet) (key : List ℕ) where
   abbrev pub CommitAsked : List ℕ → List ℕ → ℕ → Answer → Type 0
-  CommitAsked leaves x n a = (out : List ℕ) → length out ≡ n → a ≡ ask (commitQuestions bits256 key leaves x out)
+  CommitAsked leaves x n a = (out : List ℕ) → length out ≡ n → a ≡ ask (commitQuestions A key leaves x out)
 
   abbrev pub HashAsked : List ℕ → List ℕ → ℕ → Answer → Type 0
-  HashAsked leaves H′ n a = (out : List ℕ) → length out ≡ n → a ≡ ask (hashQuestions bits256 key leaves H′ out)
+  HashAsked leaves H′ n a = (out : List ℕ) → length out ≡ n → a ≡ ask (hashQuestions A key leaves H′ out)
 
   abbrev pub BatchAsked : List ℕ → List ℕ → List ℕ → ℕ → Answer → Type 0
-  BatchAsked leaves x χ n a = (out : List ℕ) → length out ≡ n → a ≡ ask (batchQuestions bits256 key leaves x χ out)
+  BatchAsked leaves x χ n a = (out : List ℕ) → length out ≡ n → a ≡ ask (batchQuestions A key leaves x χ out)
 
   abbrev pub ProveAsked : List ℕ → List ℕ → List ℕ → List ℕ → ℕ → Answer → Type 0
-  ProveAsked leaves x H′ χ n a = (out : List ℕ) → length out ≡ n → a ≡ ask (proveQuestions bits256 key leaves x H′ χ out)
+  ProveAsked leaves x H′ χ n a = (out : List ℕ) → length out ≡ n → a ≡ ask (proveQuestions A key leaves x H′ χ out)
 
-pub record SizedKey (s : Shape) (key : List ℕ) : Type 0 where
+pub record SizedKey (A : Alphabet) (s : Shape) (key : List ℕ) : Type 0 where
   pub header : 8 ≤ length key
   pub sizes : limits s ≡ true
-  pub exact : keyExact bits256 s key ≡ true
+  pub exact : keyExact A s key ≡ true
 
-abbrev pub KeyForm : List ℕ → Type 0
-KeyForm key = SizedKey (shapeOf key) key
+abbrev pub KeyForm : Alphabet → List ℕ → Type 0
+KeyForm A key = SizedKey A (shapeOf key) key

@@ -6,7 +6,7 @@ use mathlib.Core.Path.{_≡_}
 use mathlib.Core.Bool.{true, false}
 use mathlib.Core.List.{List}
 use Prim.Native.Nat.{ℕ}
-use Rattle.protocol.specs.Binary.{bits256}
+use Rattle.protocol.specs.Alphabet.{Alphabet}
 use Rattle.protocol.specs.Shape.{shapeOf}
 use Rattle.protocol.specs.Answers.{Answer, accepted, refused}
 use Rattle.protocol.specs.Questions.{solves, namesFailing}
@@ -17,6 +17,6 @@ abbrev pub ErrorsAs : List ℕ → Answer → Type 0
 ErrorsAs errors accepted = FirstIn errors Nothing
 ErrorsAs errors (refused i p) = (i ≡ 11) × FirstIn errors (At p)
 
-abbrev pub SolvedAs : List ℕ → List ℕ → Answer → Type 0
-SolvedAs key x accepted = solves bits256 (shapeOf key) key x ≡ true
-SolvedAs key x (refused i p) = (i ≡ 11) × (solves bits256 (shapeOf key) key x ≡ false) × namesFailing bits256 (shapeOf key) key x p
+abbrev pub SolvedAs : Alphabet → List ℕ → List ℕ → Answer → Type 0
+SolvedAs A key x accepted = solves A (shapeOf key) key x ≡ true
+SolvedAs A key x (refused i p) = (i ≡ 11) × (solves A (shapeOf key) key x ≡ false) × namesFailing A (shapeOf key) key x p

@@ -1,11 +1,10 @@
 // The questions on form of each call, in 01's order: all of its questions but 11 to 15.
 ghost use mathlib.Core.Path.{_≡_};
 ghost use mathlib.Core.Bool.{true};
-ghost use Rattle.protocol.specs.Binary.{bits256};
 ghost use Rattle.protocol.specs.Shape.{limits};
 ghost use Rattle.protocol.specs.Answers.{ask};
 ghost use Rattle.protocol.specs.Calls.{testQuestions};
-ghost use Rattle.format.specs.Sizes.{shapeFor, SizesOf};
+ghost use Rattle.format.specs.Sizes.{alphabetFor, shapeFor, SizesOf};
 ghost use Rattle.format.specs.Verdict.{answerOf};
 ghost use Rattle.questions.specs.Asking.{commitInputs, hashInputs, batchInputs, proveInputs, verifyInputs, CommitAsked, HashAsked, BatchAsked, ProveAsked};
 use super::inputs::batching_exact;
@@ -27,7 +26,7 @@ use sections::outputs::proof_bytes;
 
 fn commit_inputs(leaves: &[u8], witness: &[u8], out_len: usize, s: Sizes) -> Verdict
     requires { ⌜ limits (shapeFor s) ≡ true ⌝ }
-    ensures { λ r. ⌜ answerOf r ≡ ask (commitInputs (shapeFor s) (now (leaves .entry)) (now (witness .entry)) «out_len») ⌝ }
+    ensures { λ r. ⌜ answerOf r ≡ ask (commitInputs (alphabetFor s) (shapeFor s) (now (leaves .entry)) (now (witness .entry)) «out_len») ⌝ }
 {
     let asked = leaves_form(Verdict::Accepted, leaves, s, Gf256::SIZE);
     let asked = witness_form(asked, witness, s);
@@ -36,7 +35,7 @@ fn commit_inputs(leaves: &[u8], witness: &[u8], out_len: usize, s: Sizes) -> Ver
 
 fn hash_inputs(leaves: &[u8], hash_matrix: &[u8], out_len: usize, s: Sizes) -> Verdict
     requires { ⌜ limits (shapeFor s) ≡ true ⌝ }
-    ensures { λ r. ⌜ answerOf r ≡ ask (hashInputs (shapeFor s) (now (leaves .entry)) (now («hash_matrix» .entry)) «out_len») ⌝ }
+    ensures { λ r. ⌜ answerOf r ≡ ask (hashInputs (alphabetFor s) (shapeFor s) (now (leaves .entry)) (now («hash_matrix» .entry)) «out_len») ⌝ }
 {
     let exact = hash_matrix_exact(hash_matrix, s);
     let asked = hash_matrix_form(exact, hash_matrix, s);
@@ -46,7 +45,7 @@ fn hash_inputs(leaves: &[u8], hash_matrix: &[u8], out_len: usize, s: Sizes) -> V
 
 fn batch_inputs(leaves: &[u8], witness: &[u8], batching: &[u8], out_len: usize, s: Sizes) -> Verdict
     requires { ⌜ limits (shapeFor s) ≡ true ⌝ }
-    ensures { λ r. ⌜ answerOf r ≡ ask (batchInputs (shapeFor s) (now (leaves .entry)) (now (witness .entry)) (now (batching .entry)) «out_len») ⌝ }
+    ensures { λ r. ⌜ answerOf r ≡ ask (batchInputs (alphabetFor s) (shapeFor s) (now (leaves .entry)) (now (witness .entry)) (now (batching .entry)) «out_len») ⌝ }
 {
     let exact = batching_exact(batching, s);
     let asked = also(Verdict::Accepted, exact, Reason::ChallengeLength);
@@ -64,7 +63,7 @@ fn prove_inputs(
     s: Sizes,
 ) -> Verdict
     requires { ⌜ limits (shapeFor s) ≡ true ⌝ }
-    ensures { λ r. ⌜ answerOf r ≡ ask (proveInputs (shapeFor s) (now (leaves .entry)) (now (witness .entry)) (now («hash_matrix» .entry)) (now (batching .entry)) «out_len») ⌝ }
+    ensures { λ r. ⌜ answerOf r ≡ ask (proveInputs (alphabetFor s) (shapeFor s) (now (leaves .entry)) (now (witness .entry)) (now («hash_matrix» .entry)) (now (batching .entry)) «out_len») ⌝ }
 {
     let exact = hash_matrix_exact(hash_matrix, s) & batching_exact(batching, s);
     let asked = hash_matrix_form(exact, hash_matrix, s);
@@ -82,7 +81,7 @@ pub fn verify_inputs(
     s: Sizes,
 ) -> Verdict
     requires { ⌜ limits (shapeFor s) ≡ true ⌝ }
-    ensures { λ r. ⌜ answerOf r ≡ ask (verifyInputs (shapeFor s) (now (delta .entry)) (now («hash_matrix» .entry)) (now (batching .entry)) (now (opened .entry))) ⌝ }
+    ensures { λ r. ⌜ answerOf r ≡ ask (verifyInputs (alphabetFor s) (shapeFor s) (now (delta .entry)) (now («hash_matrix» .entry)) (now (batching .entry)) (now (opened .entry))) ⌝ }
 {
     let exact = challenge_exact(delta, s)
         & hash_matrix_exact(hash_matrix, s)
@@ -94,7 +93,7 @@ pub fn verify_inputs(
 // The call that tests a key and a witness: questions 1 to 4, 9.
 pub fn test_form(key: &[u8], witness: &[u8], s: Sizes) -> Verdict
     requires { ⌜ SizesOf (now key) s ⌝ }
-    ensures { λ r. ⌜ answerOf r ≡ ask (testQuestions bits256 (now (key .entry)) (now (witness .entry))) ⌝ }
+    ensures { λ r. ⌜ answerOf r ≡ ask (testQuestions (alphabetFor s) (now (key .entry)) (now (witness .entry))) ⌝ }
 {
     let asked = key_form(key, s);
     let Verdict::Accepted = asked else {
@@ -106,7 +105,7 @@ pub fn test_form(key: &[u8], witness: &[u8], s: Sizes) -> Verdict
 // The first step: questions 1 to 4, 7 to 10. Of the output only its length is asked.
 pub fn commit_form(key: &[u8], leaves: &[u8], witness: &[u8], out_len: usize, s: Sizes) -> Verdict
     requires { ⌜ SizesOf (now key) s ⌝ }
-    ensures { λ r. ⌜ CommitAsked (now (key .entry)) (now (leaves .entry)) (now (witness .entry)) «out_len» (answerOf r) ⌝ }
+    ensures { λ r. ⌜ CommitAsked (alphabetFor s) (now (key .entry)) (now (leaves .entry)) (now (witness .entry)) «out_len» (answerOf r) ⌝ }
 {
     let asked = key_form(key, s);
     let Verdict::Accepted = asked else {
@@ -118,7 +117,7 @@ pub fn commit_form(key: &[u8], leaves: &[u8], witness: &[u8], out_len: usize, s:
 // The second step: questions 1 to 8, 10.
 pub fn hash_form(key: &[u8], leaves: &[u8], hash_matrix: &[u8], out_len: usize, s: Sizes) -> Verdict
     requires { ⌜ SizesOf (now key) s ⌝ }
-    ensures { λ r. ⌜ HashAsked (now (key .entry)) (now (leaves .entry)) (now («hash_matrix» .entry)) «out_len» (answerOf r) ⌝ }
+    ensures { λ r. ⌜ HashAsked (alphabetFor s) (now (key .entry)) (now (leaves .entry)) (now («hash_matrix» .entry)) «out_len» (answerOf r) ⌝ }
 {
     let asked = key_form(key, s);
     let Verdict::Accepted = asked else {
@@ -137,7 +136,7 @@ pub fn batch_form(
     s: Sizes,
 ) -> Verdict
     requires { ⌜ SizesOf (now key) s ⌝ }
-    ensures { λ r. ⌜ BatchAsked (now (key .entry)) (now (leaves .entry)) (now (witness .entry)) (now (batching .entry)) «out_len» (answerOf r) ⌝ }
+    ensures { λ r. ⌜ BatchAsked (alphabetFor s) (now (key .entry)) (now (leaves .entry)) (now (witness .entry)) (now (batching .entry)) «out_len» (answerOf r) ⌝ }
 {
     let asked = key_form(key, s);
     let Verdict::Accepted = asked else {
@@ -157,7 +156,7 @@ pub fn prove_form(
     s: Sizes,
 ) -> Verdict
     requires { ⌜ SizesOf (now key) s ⌝ }
-    ensures { λ r. ⌜ ProveAsked (now (key .entry)) (now (leaves .entry)) (now (witness .entry)) (now («hash_matrix» .entry)) (now (batching .entry)) «out_len» (answerOf r) ⌝ }
+    ensures { λ r. ⌜ ProveAsked (alphabetFor s) (now (key .entry)) (now (leaves .entry)) (now (witness .entry)) (now («hash_matrix» .entry)) (now (batching .entry)) «out_len» (answerOf r) ⌝ }
 {
     let asked = key_form(key, s);
     let Verdict::Accepted = asked else {

@@ -4,11 +4,10 @@ ghost use mathlib.Core.Path.{_≡_};
 ghost use mathlib.Core.Bool.{true};
 ghost use mathlib.Core.List.{[], _∷_};
 ghost use Prim.Native.Nat.{_≤_};
-ghost use Rattle.protocol.specs.Binary.{bits256};
 ghost use Rattle.protocol.specs.Shape.{limits};
 ghost use Rattle.protocol.specs.Answers.{question, ask};
 ghost use Rattle.protocol.specs.Questions.{ΔExact, hExact, χExact, q6, q7, q8, q9};
-ghost use Rattle.format.specs.Sizes.{shapeFor};
+ghost use Rattle.format.specs.Sizes.{alphabetFor, shapeFor};
 ghost use Rattle.format.specs.Verdict.{answerOf, andThen};
 use format::Reason;
 use format::Verdict;
@@ -25,7 +24,7 @@ use sections::spare::rows_spare;
 
 // Has Δ a byte for each repetition?
 pub fn challenge_exact(delta: &[u8], s: Sizes) -> bool
-    ensures { λ r. ⌜ r ≡ ΔExact bits256 (shapeFor s) (now (delta .entry)) ⌝ }
+    ensures { λ r. ⌜ r ≡ ΔExact (alphabetFor s) (shapeFor s) (now (delta .entry)) ⌝ }
 {
     delta.len() == s.tau
 }
@@ -33,7 +32,7 @@ pub fn challenge_exact(delta: &[u8], s: Sizes) -> bool
 // Has H′ its t rows?
 pub fn hash_matrix_exact(hash_matrix: &[u8], s: Sizes) -> bool
     requires { ⌜ limits (shapeFor s) ≡ true ⌝ }
-    ensures { λ r. ⌜ r ≡ hExact bits256 (shapeFor s) (now («hash_matrix» .entry)) ⌝ }
+    ensures { λ r. ⌜ r ≡ hExact (alphabetFor s) (shapeFor s) (now («hash_matrix» .entry)) ⌝ }
 {
     hash_matrix.len() == hash_matrix_bytes(s)
 }
@@ -41,7 +40,7 @@ pub fn hash_matrix_exact(hash_matrix: &[u8], s: Sizes) -> bool
 // Has χ its columns?
 pub fn batching_exact(batching: &[u8], s: Sizes) -> bool
     requires { ⌜ limits (shapeFor s) ≡ true ⌝ }
-    ensures { λ r. ⌜ r ≡ χExact bits256 (shapeFor s) (now (batching .entry)) ⌝ }
+    ensures { λ r. ⌜ r ≡ χExact (alphabetFor s) (shapeFor s) (now (batching .entry)) ⌝ }
 {
     batching.len() == batching_bytes(s)
 }
@@ -49,8 +48,8 @@ pub fn batching_exact(batching: &[u8], s: Sizes) -> bool
 // Questions 5 and 6 of a call that takes H′: `exact` is what question 5 asks, of H′ and of the call's other
 // challenges.
 pub fn hash_matrix_form(exact: bool, hash_matrix: &[u8], s: Sizes) -> Verdict
-    requires { ⌜ (limits (shapeFor s) ≡ true) × (exact ≡ true → hExact bits256 (shapeFor s) (now «hash_matrix») ≡ true) ⌝ }
-    ensures { λ r. ⌜ answerOf r ≡ ask (question exact 5 0 ∷ q6 bits256 (shapeFor s) (now («hash_matrix» .entry)) ∷ []) ⌝ }
+    requires { ⌜ (limits (shapeFor s) ≡ true) × (exact ≡ true → hExact (alphabetFor s) (shapeFor s) (now «hash_matrix») ≡ true) ⌝ }
+    ensures { λ r. ⌜ answerOf r ≡ ask (question exact 5 0 ∷ q6 (alphabetFor s) (shapeFor s) (now («hash_matrix» .entry)) ∷ []) ⌝ }
 {
     if !exact {
         return refuse(Reason::ChallengeLength, 0);
@@ -65,7 +64,7 @@ pub fn hash_matrix_form(exact: bool, hash_matrix: &[u8], s: Sizes) -> Verdict
 // Questions 7 and 8, of so many leaves for each repetition.
 pub fn leaves_form(so_far: Verdict, leaves: &[u8], s: Sizes, per: usize) -> Verdict
     requires { ⌜ (limits (shapeFor s) ≡ true) × (per ≤ 256) ⌝ }
-    ensures { λ r. ⌜ answerOf r ≡ andThen (answerOf «so_far») (ask (q7 bits256 (shapeFor s) per (now (leaves .entry)) ∷ q8 bits256 (shapeFor s) per (now (leaves .entry)) ∷ [])) ⌝ }
+    ensures { λ r. ⌜ answerOf r ≡ andThen (answerOf «so_far») (ask (q7 (alphabetFor s) (shapeFor s) per (now (leaves .entry)) ∷ q8 (alphabetFor s) (shapeFor s) per (now (leaves .entry)) ∷ [])) ⌝ }
 {
     let Verdict::Accepted = so_far else {
         return so_far;
@@ -82,7 +81,7 @@ pub fn leaves_form(so_far: Verdict, leaves: &[u8], s: Sizes, per: usize) -> Verd
 // Question 9.
 pub fn witness_form(so_far: Verdict, witness: &[u8], s: Sizes) -> Verdict
     requires { ⌜ limits (shapeFor s) ≡ true ⌝ }
-    ensures { λ r. ⌜ answerOf r ≡ andThen (answerOf «so_far») (ask (q9 bits256 (shapeFor s) (now (witness .entry)) ∷ [])) ⌝ }
+    ensures { λ r. ⌜ answerOf r ≡ andThen (answerOf «so_far») (ask (q9 (alphabetFor s) (shapeFor s) (now (witness .entry)) ∷ [])) ⌝ }
 {
     let Verdict::Accepted = so_far else {
         return so_far;

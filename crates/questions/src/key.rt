@@ -5,11 +5,10 @@ ghost use Prim.Native.Nat.{_+_, _*_, _<_};
 ghost use lib.ListN.{length, getD, drop};
 ghost use Rattle.protocol.specs.Strings.{bytesFor};
 ghost use Rattle.protocol.specs.Frames.{sectionNo, framedLength};
-ghost use Rattle.protocol.specs.Binary.{bits256};
 ghost use Rattle.protocol.specs.Shape.{limits};
 ghost use Rattle.protocol.specs.Key.{keyLengths, keySpare, sectionA, sectionB, sectionY};
 ghost use Rattle.protocol.specs.Answers.{ask};
-ghost use Rattle.format.specs.Sizes.{shapeFor, SizesOf};
+ghost use Rattle.format.specs.Sizes.{alphabetFor, shapeFor, SizesOf};
 ghost use Rattle.format.specs.Verdict.{answerOf};
 ghost use Rattle.questions.specs.Asking.{keyQuestions, SizedKey};
 use format::Reason;
@@ -29,7 +28,7 @@ use sections::spare::rows_spare;
 // The bytes of a key of these sizes.
 pub fn key_bytes(s: Sizes) -> usize
     requires { ⌜ limits (shapeFor s) ≡ true ⌝ }
-    ensures { λ r. ⌜ r ≡ 8 + framedLength (keyLengths bits256 (shapeFor s)) ⌝ }
+    ensures { λ r. ⌜ r ≡ 8 + framedLength (keyLengths (alphabetFor s) (shapeFor s)) ⌝ }
 {
     let lengths = key_lengths(s);
     HEADER + framed_length(&lengths)
@@ -37,8 +36,8 @@ pub fn key_bytes(s: Sizes) -> usize
 
 // Section i of a key whose sections are exact, as part of it.
 fn key_section(key: &[u8], s: Sizes, i: usize) -> &[u8]
-    requires { ⌜ SizedKey (shapeFor s) (now key) × (i < 3) ⌝ }
-    ensures { λ r. ⌜ (now r ≡ sectionNo (keyLengths bits256 (shapeFor s)) i (drop 8 (now (key .entry)))) × (length (now r) ≡ getD (keyLengths bits256 (shapeFor s)) i 0) ⌝ }
+    requires { ⌜ SizedKey (alphabetFor s) (shapeFor s) (now key) × (i < 3) ⌝ }
+    ensures { λ r. ⌜ (now r ≡ sectionNo (keyLengths (alphabetFor s) (shapeFor s)) i (drop 8 (now (key .entry)))) × (length (now r) ≡ getD (keyLengths (alphabetFor s) (shapeFor s)) i 0) ⌝ }
 {
     let lengths = key_lengths(s);
     section_no(&key[HEADER..], &lengths, i)
@@ -46,32 +45,32 @@ fn key_section(key: &[u8], s: Sizes, i: usize) -> &[u8]
 
 // The matrices A.
 pub fn section_a(key: &[u8], s: Sizes) -> &[u8]
-    requires { ⌜ SizedKey (shapeFor s) (now key) ⌝ }
-    ensures { λ r. ⌜ (now r ≡ sectionA bits256 (shapeFor s) (now (key .entry))) × (length (now r) ≡ s .m * s .n * bytesFor (s .n)) ⌝ }
+    requires { ⌜ SizedKey (alphabetFor s) (shapeFor s) (now key) ⌝ }
+    ensures { λ r. ⌜ (now r ≡ sectionA (alphabetFor s) (shapeFor s) (now (key .entry))) × (length (now r) ≡ s .m * s .n * bytesFor (s .n)) ⌝ }
 {
     key_section(key, s, 0)
 }
 
 // The linear parts b.
 pub fn section_b(key: &[u8], s: Sizes) -> &[u8]
-    requires { ⌜ SizedKey (shapeFor s) (now key) ⌝ }
-    ensures { λ r. ⌜ (now r ≡ sectionB bits256 (shapeFor s) (now (key .entry))) × (length (now r) ≡ s .m * bytesFor (s .n)) ⌝ }
+    requires { ⌜ SizedKey (alphabetFor s) (shapeFor s) (now key) ⌝ }
+    ensures { λ r. ⌜ (now r ≡ sectionB (alphabetFor s) (shapeFor s) (now (key .entry))) × (length (now r) ≡ s .m * bytesFor (s .n)) ⌝ }
 {
     key_section(key, s, 1)
 }
 
 // The right sides y.
 pub fn section_y(key: &[u8], s: Sizes) -> &[u8]
-    requires { ⌜ SizedKey (shapeFor s) (now key) ⌝ }
-    ensures { λ r. ⌜ (now r ≡ sectionY bits256 (shapeFor s) (now (key .entry))) × (length (now r) ≡ bytesFor (s .m)) ⌝ }
+    requires { ⌜ SizedKey (alphabetFor s) (shapeFor s) (now key) ⌝ }
+    ensures { λ r. ⌜ (now r ≡ sectionY (alphabetFor s) (shapeFor s) (now (key .entry))) × (length (now r) ≡ bytesFor (s .m)) ⌝ }
 {
     key_section(key, s, 2)
 }
 
 // Question 4: are the key's spare bits 0?
 pub fn key_spare(key: &[u8], s: Sizes) -> bool
-    requires { ⌜ SizedKey (shapeFor s) (now key) ⌝ }
-    ensures { λ r. ⌜ r ≡ keySpare bits256 (shapeFor s) (now (key .entry)) ⌝ }
+    requires { ⌜ SizedKey (alphabetFor s) (shapeFor s) (now key) ⌝ }
+    ensures { λ r. ⌜ r ≡ keySpare (alphabetFor s) (shapeFor s) (now (key .entry)) ⌝ }
 {
     let n = s.n;
     let m = s.m;
@@ -83,7 +82,7 @@ pub fn key_spare(key: &[u8], s: Sizes) -> bool
 // Questions 1 to 4.
 pub fn key_form(key: &[u8], s: Sizes) -> Verdict
     requires { ⌜ SizesOf (now key) s ⌝ }
-    ensures { λ r. ⌜ answerOf r ≡ ask (keyQuestions (now (key .entry))) ⌝ }
+    ensures { λ r. ⌜ answerOf r ≡ ask (keyQuestions (alphabetFor s) (now (key .entry))) ⌝ }
 {
     if key.len() < HEADER {
         return refuse(Reason::ShortHeader, 0);

@@ -2,11 +2,10 @@
 ghost use mathlib.Core.Path.{_≡_};
 ghost use mathlib.Core.Bool.{true};
 ghost use Prim.Native.Nat.{_<_};
-ghost use Rattle.protocol.specs.Binary.{bits256};
 ghost use Rattle.protocol.specs.Shape.{Shape, limits};
 ghost use Rattle.protocol.specs.Sections.{sectionsIn};
 ghost use Rattle.protocol.specs.Questions.{proofSpare};
-ghost use Rattle.format.specs.Sizes.{shapeFor};
+ghost use Rattle.format.specs.Sizes.{alphabetFor, shapeFor};
 ghost use Rattle.sections.specs.Moved.{PlacesIn};
 ghost use Rattle.questions.specs.Facts.{ProofForm, PlacesOf, SectionIs, ProofAsked};
 use format::Reason;
@@ -39,7 +38,7 @@ pub const QS1: usize = 5;
 // where it stood.
 pub fn proof_section<'a>(proof: &'a [u8], places: Places, i: usize) -> &'a [u8]
     requires { ⌜ PlacesIn (now proof) places × (i < 6) ⌝ }
-    ensures { λ r. ⌜ ((s : Shape) → ProofForm s (now (proof .entry)) → SectionIs s (now (proof .entry)) i (now r)) ⌝ }
+    ensures { λ r. ⌜ ((s : Sizes) → ProofForm (alphabetFor s) (shapeFor s) (now (proof .entry)) → SectionIs (alphabetFor s) (shapeFor s) (now (proof .entry)) i (now r)) ⌝ }
 {
     let at = places.at[i];
     section_from(proof, at)
@@ -47,8 +46,8 @@ pub fn proof_section<'a>(proof: &'a [u8], places: Places, i: usize) -> &'a [u8]
 
 // Question 13: are the spare bits of C, d, ũ 0?
 pub fn proof_spare(proof: &[u8], places: Places, s: Sizes) -> bool
-    requires { ⌜ (limits (shapeFor s) ≡ true) × PlacesOf (shapeFor s) (now proof) places ⌝ }
-    ensures { λ r. ⌜ r ≡ proofSpare bits256 (shapeFor s) (sectionsIn bits256 (shapeFor s) (now (proof .entry))) ⌝ }
+    requires { ⌜ (limits (shapeFor s) ≡ true) × PlacesOf (alphabetFor s) (shapeFor s) (now proof) places ⌝ }
+    ensures { λ r. ⌜ r ≡ proofSpare (alphabetFor s) (shapeFor s) (sectionsIn (alphabetFor s) (shapeFor s) (now (proof .entry))) ⌝ }
 {
     let n = s.n;
     let t = s.t;
@@ -60,7 +59,7 @@ pub fn proof_spare(proof: &[u8], places: Places, s: Sizes) -> bool
 // Questions 12 and 13: the whole of 12 comes before 13. Where both get a yes, it tells where each section stands.
 pub fn proof_form(proof: &[u8], s: Sizes) -> Walk
     requires { ⌜ limits (shapeFor s) ≡ true ⌝ }
-    ensures { λ r. ⌜ ProofAsked (shapeFor s) (now (proof .entry)) r ⌝ }
+    ensures { λ r. ⌜ ProofAsked (alphabetFor s) (shapeFor s) (now (proof .entry)) r ⌝ }
 {
     let expected = proof_lengths(s);
     let walk = read_sections(proof, &expected);

@@ -3,7 +3,7 @@
 ghost use mathlib.Core.Path.{_≡_};
 ghost use Prim.Native.Nat.{_≤_};
 ghost use lib.ListN.{length};
-ghost use Rattle.format.specs.Sizes.{shapeFor, SizesOf};
+ghost use Rattle.format.specs.Sizes.{alphabetFor, shapeFor, SizesOf};
 ghost use Rattle.format.specs.Verdict.{answerOf};
 ghost use Rattle.questions.specs.Facts.{TestFacts};
 ghost use Rattle.questions.specs.Solved.{ErrorsAs, SolvedAs};
@@ -26,8 +26,8 @@ fn answer(errors: &[u8]) -> Verdict
 }
 
 fn test_equations(errors: &mut [u8], key: &[u8], witness: &[u8], s: Sizes) -> Verdict
-    requires { ⌜ SizesOf (now key) s × TestFacts (shapeFor s) (now key) (now witness) × (length (now errors) ≡ s .m) ⌝ }
-    ensures { λ r. ⌜ SolvedAs (now (key .entry)) (now (witness .entry)) (answerOf r) ⌝ }
+    requires { ⌜ SizesOf (now key) s × TestFacts (alphabetFor s) (shapeFor s) (now key) (now witness) × (length (now errors) ≡ s .m) ⌝ }
+    ensures { λ r. ⌜ SolvedAs (alphabetFor s) (now (key .entry)) (now (witness .entry)) (answerOf r) ⌝ }
 {
     let n = s.n;
     equations::equation_errors(
@@ -43,8 +43,8 @@ fn test_equations(errors: &mut [u8], key: &[u8], witness: &[u8], s: Sizes) -> Ve
 
 // Accepted, or refused 11 with an equation that fails.
 pub fn solved(key: &[u8], witness: &[u8], s: Sizes) -> Verdict
-    requires { ⌜ SizesOf (now key) s × TestFacts (shapeFor s) (now key) (now witness) ⌝ }
-    ensures { λ r. ⌜ SolvedAs (now (key .entry)) (now (witness .entry)) (answerOf r) ⌝ }
+    requires { ⌜ SizesOf (now key) s × TestFacts (alphabetFor s) (shapeFor s) (now key) (now witness) ⌝ }
+    ensures { λ r. ⌜ SolvedAs (alphabetFor s) (now (key .entry)) (now (witness .entry)) (answerOf r) ⌝ }
 {
     let m = s.m;
     let mut errors = [0u8; MOST_EQUATIONS];

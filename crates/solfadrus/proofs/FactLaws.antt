@@ -22,7 +22,7 @@ use Rattle.protocol.proofs.AnswerLaws.{ask-accepts, all-yes}
 use Rattle.format.proofs.FitLaws.{batching-of}
 use Rattle.questions.specs.Facts.{KeyFacts, WitnessForm, TestFacts, CommitFacts, HashFacts, BatchFacts, ProveFacts}
 
-witness-of : (s : Shape) (x : List ℕ) → witnessForm bits256 s x ≡ true → WitnessForm s x
+witness-of : (s : Shape) (x : List ℕ) → witnessForm bits256 s x ≡ true → WitnessForm bits256 s x
 unfolding witnessForm
 witness-of s x h =
     record {
@@ -51,12 +51,12 @@ module _ (key : List ℕ) where
   abbrev s : Shape
   s = shapeOf key
 
-  pub test-facts : (x : List ℕ) → ask (testQuestions bits256 key x) ≡ accepted → TestFacts (shapeOf key) key x
+  pub test-facts : (x : List ℕ) → ask (testQuestions bits256 key x) ≡ accepted → TestFacts bits256 (shapeOf key) key x
   test-facts x h =
       let t = all-yes (testQuestions bits256 key x) (ask-accepts (testQuestions bits256 key x) .0 h) in
       record { of-key = record { header = leb-le _ _ (t .0); in-range = t .1 .0; key-exact = t .1 .1 .0; key-spare = t .1 .1 .1 .0 }; of-witness = witness-of s x (t .1 .1 .1 .1 .0) }
 
-  pub commit-facts : (leaves x out : List ℕ) → ask (commitQuestions bits256 key leaves x out) ≡ accepted → KeyFacts (shapeOf key) key × CommitFacts (shapeOf key) leaves x out
+  pub commit-facts : (leaves x out : List ℕ) → ask (commitQuestions bits256 key leaves x out) ≡ accepted → KeyFacts bits256 (shapeOf key) key × CommitFacts bits256 (shapeOf key) leaves x out
   commit-facts leaves x out h =
       let t = all-yes (commitQuestions bits256 key leaves x out) (ask-accepts (commitQuestions bits256 key leaves x out) .0 h) in
       let r = t .1 .1 .1 .1 in (
@@ -69,7 +69,7 @@ module _ (key : List ℕ) where
         },
       )
 
-  pub hash-facts : (leaves H′ out : List ℕ) → ask (hashQuestions bits256 key leaves H′ out) ≡ accepted → KeyFacts (shapeOf key) key × HashFacts (shapeOf key) leaves H′ out
+  pub hash-facts : (leaves H′ out : List ℕ) → ask (hashQuestions bits256 key leaves H′ out) ≡ accepted → KeyFacts bits256 (shapeOf key) key × HashFacts bits256 (shapeOf key) leaves H′ out
   hash-facts leaves H′ out h =
       let t = all-yes (hashQuestions bits256 key leaves H′ out) (ask-accepts (hashQuestions bits256 key leaves H′ out) .0 h) in
       let r = t .1 .1 .1 .1 in
@@ -83,7 +83,7 @@ module _ (key : List ℕ) where
         },
       )
 
-  pub batch-facts : (leaves x χ out : List ℕ) → ask (batchQuestions bits256 key leaves x χ out) ≡ accepted → BatchFacts (shapeOf key) key leaves x χ out
+  pub batch-facts : (leaves x χ out : List ℕ) → ask (batchQuestions bits256 key leaves x χ out) ≡ accepted → BatchFacts bits256 (shapeOf key) key leaves x χ out
   batch-facts leaves x χ out h =
       let t = all-yes (batchQuestions bits256 key leaves x χ out) (ask-accepts (batchQuestions bits256 key leaves x χ out) .0 h) in
       let r = t .1 .1 .1 .1 in
@@ -96,7 +96,7 @@ module _ (key : List ℕ) where
         of-out = batch-out s out (r .1 .1 .1 .1 .0);
       }
 
-  pub prove-facts : (leaves x H′ χ out : List ℕ) → ask (proveQuestions bits256 key leaves x H′ χ out) ≡ accepted → ProveFacts (shapeOf key) key leaves x H′ χ out
+  pub prove-facts : (leaves x H′ χ out : List ℕ) → ask (proveQuestions bits256 key leaves x H′ χ out) ≡ accepted → ProveFacts bits256 (shapeOf key) key leaves x H′ χ out
   prove-facts leaves x H′ χ out h =
       let t = all-yes (proveQuestions bits256 key leaves x H′ χ out) (ask-accepts (proveQuestions bits256 key leaves x H′ χ out) .0 h) in
       let r = t .1 .1 .1 .1 in

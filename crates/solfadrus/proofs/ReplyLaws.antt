@@ -23,7 +23,7 @@ refused-not i p h = subst Refuses h tt
 
 module _ (key x : List ℕ) (form : List Question) (answer : ℕ → Answer)
     (is : (p : ℕ) → answer p ≡ ask (form ++ (record { yes? = solves bits256 (shapeOf key) key x; number = 11; place = p } ∷ []))) where
-  solved-reply : ask form ≡ accepted → (a : Answer) → SolvedAs key x a → Reply answer (namesFailing bits256 (shapeOf key) key x) a
+  solved-reply : ask form ≡ accepted → (a : Answer) → SolvedAs bits256 key x a → Reply answer (namesFailing bits256 (shapeOf key) key x) a
   solved-reply h accepted s = reply-accepted form _ answer is _ h s
   solved-reply h (refused i p) s =
       subst (λ j. Reply answer (namesFailing bits256 (shapeOf key) key x) (refused j p)) (sym (s .0)) (reply-eleven form _ answer is _ h (s .1) p (s .2))
@@ -39,7 +39,7 @@ module _ (key x : List ℕ) where
   pub test-form-reply : (a : Answer) → a ≡ ask (testQuestions bits256 key x) → a ≢ accepted → TestReply bits256 key x a
   test-form-reply = reply-form (testQuestions bits256 key x) _ (testAnswer bits256 key x) test-is _ test-without
 
-  pub test-solved-reply : ask (testQuestions bits256 key x) ≡ accepted → (a : Answer) → SolvedAs key x a → TestReply bits256 key x a
+  pub test-solved-reply : ask (testQuestions bits256 key x) ≡ accepted → (a : Answer) → SolvedAs bits256 key x a → TestReply bits256 key x a
   test-solved-reply = solved-reply key x (testQuestions bits256 key x) (testAnswer bits256 key x) test-is
 
 module _ (key leaves x out : List ℕ) where
@@ -53,7 +53,7 @@ module _ (key leaves x out : List ℕ) where
   pub commit-form-reply : (a : Answer) → a ≡ ask (commitQuestions bits256 key leaves x out) → a ≢ accepted → CommitReply bits256 key leaves x out a
   commit-form-reply = reply-form (commitQuestions bits256 key leaves x out) _ (commitAnswer bits256 key leaves x out) commit-is _ commit-without
 
-  pub commit-solved-reply : ask (commitQuestions bits256 key leaves x out) ≡ accepted → (a : Answer) → SolvedAs key x a → CommitReply bits256 key leaves x out a
+  pub commit-solved-reply : ask (commitQuestions bits256 key leaves x out) ≡ accepted → (a : Answer) → SolvedAs bits256 key x a → CommitReply bits256 key leaves x out a
   commit-solved-reply = solved-reply key x (commitQuestions bits256 key leaves x out) (commitAnswer bits256 key leaves x out) commit-is
 
 module _ (key leaves x χ out : List ℕ) where
@@ -67,7 +67,7 @@ module _ (key leaves x χ out : List ℕ) where
   pub batch-form-reply : (a : Answer) → a ≡ ask (batchQuestions bits256 key leaves x χ out) → a ≢ accepted → BatchReply bits256 key leaves x χ out a
   batch-form-reply = reply-form (batchQuestions bits256 key leaves x χ out) _ (batchAnswer bits256 key leaves x χ out) batch-is _ batch-without
 
-  pub batch-solved-reply : ask (batchQuestions bits256 key leaves x χ out) ≡ accepted → (a : Answer) → SolvedAs key x a → BatchReply bits256 key leaves x χ out a
+  pub batch-solved-reply : ask (batchQuestions bits256 key leaves x χ out) ≡ accepted → (a : Answer) → SolvedAs bits256 key x a → BatchReply bits256 key leaves x χ out a
   batch-solved-reply = solved-reply key x (batchQuestions bits256 key leaves x χ out) (batchAnswer bits256 key leaves x χ out) batch-is
 
 module _ (key leaves x H′ χ out : List ℕ) where
@@ -81,5 +81,5 @@ module _ (key leaves x H′ χ out : List ℕ) where
   pub prove-form-reply : (a : Answer) → a ≡ ask (proveQuestions bits256 key leaves x H′ χ out) → a ≢ accepted → ProveReply bits256 key leaves x H′ χ out a
   prove-form-reply = reply-form (proveQuestions bits256 key leaves x H′ χ out) _ (proveAnswer bits256 key leaves x H′ χ out) prove-is _ prove-without
 
-  pub prove-solved-reply : ask (proveQuestions bits256 key leaves x H′ χ out) ≡ accepted → (a : Answer) → SolvedAs key x a → ProveReply bits256 key leaves x H′ χ out a
+  pub prove-solved-reply : ask (proveQuestions bits256 key leaves x H′ χ out) ≡ accepted → (a : Answer) → SolvedAs bits256 key x a → ProveReply bits256 key leaves x H′ χ out a
   prove-solved-reply = solved-reply key x (proveQuestions bits256 key leaves x H′ χ out) (proveAnswer bits256 key leaves x H′ χ out) prove-is

@@ -10,6 +10,7 @@ ghost use Rattle.protocol.specs.Sections.{lengths, commitLengths, hashLengths, 
 ghost use Rattle.solfadrus.specs.Sized.{shape, sized};
 use field::Gf256;
 use format::Sizes;
+use format::sizes::BINARY;
 
 // All leaves of a tree but one.
 const OPENED: usize = Gf256::SIZE - 1;
@@ -18,7 +19,14 @@ const OPENED: usize = Gf256::SIZE - 1;
 pub extern "C" fn mq_key_size(n: usize, m: usize, tau: usize, t: usize) -> usize
     ensures { λ r. ⌜ r ≡ sized (shape n m tau t) (λ z. 8 + framedLength (keyLengths bits256 z)) ⌝ }
 {
-    let s = Sizes { n, m, tau, t };
+    let s = Sizes {
+        n,
+        m,
+        tau,
+        t,
+        degree: Gf256::DEGREE,
+        alphabet: BINARY,
+    };
     if format::sizes::in_limits(s) {
         questions::key::key_bytes(s)
     } else {
@@ -30,7 +38,14 @@ pub extern "C" fn mq_key_size(n: usize, m: usize, tau: usize, t: usize) -> usize
 pub extern "C" fn mq_witness_size(n: usize, m: usize, tau: usize, t: usize) -> usize
     ensures { λ r. ⌜ r ≡ sized (shape n m tau t) (λ z. bytesFor (z .n)) ⌝ }
 {
-    let s = Sizes { n, m, tau, t };
+    let s = Sizes {
+        n,
+        m,
+        tau,
+        t,
+        degree: Gf256::DEGREE,
+        alphabet: BINARY,
+    };
     if format::sizes::in_limits(s) {
         format::sizes::witness_bytes(s)
     } else {
@@ -42,7 +57,14 @@ pub extern "C" fn mq_witness_size(n: usize, m: usize, tau: usize, t: usize) -> u
 pub extern "C" fn mq_leaves_size(n: usize, m: usize, tau: usize, t: usize) -> usize
     ensures { λ r. ⌜ r ≡ sized (shape n m tau t) (λ z. z .τ * 256 * wOf bits256 z) ⌝ }
 {
-    let s = Sizes { n, m, tau, t };
+    let s = Sizes {
+        n,
+        m,
+        tau,
+        t,
+        degree: Gf256::DEGREE,
+        alphabet: BINARY,
+    };
     if format::sizes::in_limits(s) {
         format::sizes::leaves_bytes(s, Gf256::SIZE)
     } else {
@@ -54,7 +76,14 @@ pub extern "C" fn mq_leaves_size(n: usize, m: usize, tau: usize, t: usize) -> us
 pub extern "C" fn mq_opened_size(n: usize, m: usize, tau: usize, t: usize) -> usize
     ensures { λ r. ⌜ r ≡ sized (shape n m tau t) (λ z. z .τ * 255 * wOf bits256 z) ⌝ }
 {
-    let s = Sizes { n, m, tau, t };
+    let s = Sizes {
+        n,
+        m,
+        tau,
+        t,
+        degree: Gf256::DEGREE,
+        alphabet: BINARY,
+    };
     if format::sizes::in_limits(s) {
         format::sizes::leaves_bytes(s, OPENED)
     } else {
@@ -66,7 +95,14 @@ pub extern "C" fn mq_opened_size(n: usize, m: usize, tau: usize, t: usize) -> us
 pub extern "C" fn mq_hash_matrix_size(n: usize, m: usize, tau: usize, t: usize) -> usize
     ensures { λ r. ⌜ r ≡ sized (shape n m tau t) (λ z. z .t * bytesFor (kOf bits256 z)) ⌝ }
 {
-    let s = Sizes { n, m, tau, t };
+    let s = Sizes {
+        n,
+        m,
+        tau,
+        t,
+        degree: Gf256::DEGREE,
+        alphabet: BINARY,
+    };
     if format::sizes::in_limits(s) {
         format::sizes::hash_matrix_bytes(s)
     } else {
@@ -78,7 +114,14 @@ pub extern "C" fn mq_hash_matrix_size(n: usize, m: usize, tau: usize, t: usize) 
 pub extern "C" fn mq_batching_size(n: usize, m: usize, tau: usize, t: usize) -> usize
     ensures { λ r. ⌜ r ≡ sized (shape n m tau t) (λ z. z .τ * z .m) ⌝ }
 {
-    let s = Sizes { n, m, tau, t };
+    let s = Sizes {
+        n,
+        m,
+        tau,
+        t,
+        degree: Gf256::DEGREE,
+        alphabet: BINARY,
+    };
     if format::sizes::in_limits(s) {
         format::sizes::batching_bytes(s)
     } else {
@@ -90,7 +133,14 @@ pub extern "C" fn mq_batching_size(n: usize, m: usize, tau: usize, t: usize) -> 
 pub extern "C" fn mq_delta_size(n: usize, m: usize, tau: usize, t: usize) -> usize
     ensures { λ r. ⌜ r ≡ sized (shape n m tau t) (λ z. z .τ) ⌝ }
 {
-    let s = Sizes { n, m, tau, t };
+    let s = Sizes {
+        n,
+        m,
+        tau,
+        t,
+        degree: Gf256::DEGREE,
+        alphabet: BINARY,
+    };
     if format::sizes::in_limits(s) {
         s.tau
     } else {
@@ -102,7 +152,14 @@ pub extern "C" fn mq_delta_size(n: usize, m: usize, tau: usize, t: usize) -> usi
 pub extern "C" fn mq_commit_size(n: usize, m: usize, tau: usize, t: usize) -> usize
     ensures { λ r. ⌜ r ≡ sized (shape n m tau t) (λ z. framedLength (commitLengths bits256 z)) ⌝ }
 {
-    let s = Sizes { n, m, tau, t };
+    let s = Sizes {
+        n,
+        m,
+        tau,
+        t,
+        degree: Gf256::DEGREE,
+        alphabet: BINARY,
+    };
     if format::sizes::in_limits(s) {
         sections::outputs::commit_bytes(s)
     } else {
@@ -114,7 +171,14 @@ pub extern "C" fn mq_commit_size(n: usize, m: usize, tau: usize, t: usize) -> us
 pub extern "C" fn mq_hash_size(n: usize, m: usize, tau: usize, t: usize) -> usize
     ensures { λ r. ⌜ r ≡ sized (shape n m tau t) (λ z. framedLength (hashLengths bits256 z)) ⌝ }
 {
-    let s = Sizes { n, m, tau, t };
+    let s = Sizes {
+        n,
+        m,
+        tau,
+        t,
+        degree: Gf256::DEGREE,
+        alphabet: BINARY,
+    };
     if format::sizes::in_limits(s) {
         sections::outputs::hash_bytes(s)
     } else {
@@ -126,7 +190,14 @@ pub extern "C" fn mq_hash_size(n: usize, m: usize, tau: usize, t: usize) -> usiz
 pub extern "C" fn mq_batch_size(n: usize, m: usize, tau: usize, t: usize) -> usize
     ensures { λ r. ⌜ r ≡ sized (shape n m tau t) (λ z. framedLength (batchLengths bits256 z)) ⌝ }
 {
-    let s = Sizes { n, m, tau, t };
+    let s = Sizes {
+        n,
+        m,
+        tau,
+        t,
+        degree: Gf256::DEGREE,
+        alphabet: BINARY,
+    };
     if format::sizes::in_limits(s) {
         sections::outputs::batch_bytes(s)
     } else {
@@ -138,7 +209,14 @@ pub extern "C" fn mq_batch_size(n: usize, m: usize, tau: usize, t: usize) -> usi
 pub extern "C" fn mq_proof_size(n: usize, m: usize, tau: usize, t: usize) -> usize
     ensures { λ r. ⌜ r ≡ sized (shape n m tau t) (λ z. framedLength (lengths bits256 z)) ⌝ }
 {
-    let s = Sizes { n, m, tau, t };
+    let s = Sizes {
+        n,
+        m,
+        tau,
+        t,
+        degree: Gf256::DEGREE,
+        alphabet: BINARY,
+    };
     if format::sizes::in_limits(s) {
         sections::outputs::proof_bytes(s)
     } else {

@@ -74,7 +74,7 @@ same-bytes a b =
     (λ h. eqb-same (byteOf a) (byteOf b) (ap byteOf (bits256 .K .base .eqb-sound a b h)))
 
 module _ (s : Shape) (p : Sections) (e δ : ℕ) (small : δ < 256) (w : ℕ → F) where
-  pub consistent-is : (H′ T hashed : List ℕ) → HashForm s H′ → ((c : ℕ) → c < lOf bits256 s → laneAt T c e ≡ byteOf (w c))
+  pub consistent-is : (H′ T hashed : List ℕ) → HashForm bits256 s H′ → ((c : ℕ) → c < lOf bits256 s → laneAt T c e ≡ byteOf (w c))
       → ((ρ : ℕ) → ρ < s .t → byteAt hashed (e * s .t + ρ) ≡ hashLane H′ (bytesFor (kOf bits256 s)) (kOf bits256 s) T ρ e)
       → ((i : ℕ) → byteAt (p .Ṽ) i < 256)
       → rowConsistent (blockAt hashed (s .t) e) (blockAt (p .Ṽ) (s .t) e) (p .ũ) δ (s .t) ≡ consistent bits256 s H′ p e (elem δ) w

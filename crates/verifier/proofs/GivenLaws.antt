@@ -32,9 +32,9 @@ unfolding leavesExact perOpened perTree
 opened-of s opened h = eqb-eq _ _ h
 
 -- from the facts of the key, and the acceptance of the questions on the other inputs
-pub verify-facts : (s : Shape) (key Δ H′ χ opened proof : List ℕ) → KeyFacts s key → ask (verifyInputs s Δ H′ χ opened) ≡ accepted → ProofForm s proof → VerifyFacts s key Δ H′ χ opened proof
+pub verify-facts : (s : Shape) (key Δ H′ χ opened proof : List ℕ) → KeyFacts bits256 s key → ask (verifyInputs bits256 s Δ H′ χ opened) ≡ accepted → ProofForm bits256 s proof → VerifyFacts bits256 s key Δ H′ χ opened proof
 verify-facts s key Δ H′ χ opened proof facts h form =
-    let t = all-yes (verifyInputs s Δ H′ χ opened) (ask-accepts (verifyInputs s Δ H′ χ opened) .0 h) in
+    let t = all-yes (verifyInputs bits256 s Δ H′ χ opened) (ask-accepts (verifyInputs bits256 s Δ H′ χ opened) .0 h) in
     let q = all-true (ΔExact bits256 s Δ ∷ hExact bits256 s H′ ∷ χExact bits256 s χ ∷ []) (t .0) in
     record {
       of-key = facts;
@@ -47,19 +47,19 @@ verify-facts s key Δ H′ χ opened proof facts h form =
 
 -- the questions on the key, on the other inputs, on the proof, and the checks, each only where all before got a yes:
 -- the verifier's answer
-pub all-asked : (s : Shape) (key Δ H′ χ opened proof : List ℕ) → s ≡ shapeOf key → {a b c d : Answer} → a ≡ ask (keyQuestions key) → b ≡ ask (verifyInputs s Δ H′ χ opened)
-    → c ≡ ask (proofQuestions s proof) → d ≡ ask (checkQuestions s key Δ H′ χ opened proof) → andThen a (andThen b (andThen c d)) ≡ verifyAnswer bits256 key Δ H′ χ opened proof
+pub all-asked : (s : Shape) (key Δ H′ χ opened proof : List ℕ) → s ≡ shapeOf key → {a b c d : Answer} → a ≡ ask (keyQuestions bits256 key) → b ≡ ask (verifyInputs bits256 s Δ H′ χ opened)
+    → c ≡ ask (proofQuestions bits256 s proof) → d ≡ ask (checkQuestions bits256 s key Δ H′ χ opened proof) → andThen a (andThen b (andThen c d)) ≡ verifyAnswer bits256 key Δ H′ χ opened proof
 unfolding verifyAnswer
 all-asked s key Δ H′ χ opened proof e {a} {b} {c} {d} of-key of-inputs of-proof checked =
     let z = shapeOf key in
-    then-ask (keyQuestions key) _ of-key
+    then-ask (keyQuestions bits256 key) _ of-key
     (ap (andThen a)
-    (then-ask (verifyInputs z Δ H′ χ opened) _ (of-inputs ∙ ap (λ (z : Shape). ask (verifyInputs z Δ H′ χ opened)) e)
+    (then-ask (verifyInputs bits256 z Δ H′ χ opened) _ (of-inputs ∙ ap (λ (z : Shape). ask (verifyInputs bits256 z Δ H′ χ opened)) e)
     (ap (andThen b)
-    (then-ask (proofQuestions z proof) (checkQuestions z key Δ H′ χ opened proof) (of-proof ∙ ap (λ (z : Shape). ask (proofQuestions z proof)) e)
-    (ap (andThen c) (checked ∙ ap (λ (z : Shape). ask (checkQuestions z key Δ H′ χ opened proof)) e))))))
+    (then-ask (proofQuestions bits256 z proof) (checkQuestions bits256 z key Δ H′ χ opened proof) (of-proof ∙ ap (λ (z : Shape). ask (proofQuestions bits256 z proof)) e)
+    (ap (andThen c) (checked ∙ ap (λ (z : Shape). ask (checkQuestions bits256 z key Δ H′ χ opened proof)) e))))))
 
 -- over a width that is w, and corrections that are C
 pub opened-is : (s : Shape) (Δ opened proof T C : List ℕ) (w : ℕ) → w ≡ wOf bits256 s → C ≡ sectionsIn bits256 s proof .C → length T ≡ 8 * wOf bits256 s * lanes
-    → OpenedTableIs T opened Δ C (s .τ) w → Opened s Δ opened proof T
+    → OpenedTableIs T opened Δ C (s .τ) w → Opened bits256 s Δ opened proof T
 opened-is s Δ opened proof T C w e f long is = record { table-length = long; table-is = rw (e, f) at is }

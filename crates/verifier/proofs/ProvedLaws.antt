@@ -52,7 +52,7 @@ pub section-lengths : (s : Shape) → SectionLengths s
 unfolding lengths
 section-lengths s = record { c-length = refl; d-length = refl; u-length = refl; v-length = refl; qs0-length = refl; qs1-length = refl }
 
-module _ (s : Shape) (Δ opened proof T : List ℕ) (is : Opened s Δ opened proof T) (long : length Δ ≡ s .τ) (challenges : (i : ℕ) → byteAt Δ i < 256) where
+module _ (s : Shape) (Δ opened proof T : List ℕ) (is : Opened bits256 s Δ opened proof T) (long : length Δ ≡ s .τ) (challenges : (i : ℕ) → byteAt Δ i < 256) where
   abbrev p : Sections
   p = sectionsIn bits256 s proof
 
@@ -62,7 +62,7 @@ module _ (s : Shape) (Δ opened proof T : List ℕ) (is : Opened s Δ opened pro
   holds : (e c : ℕ) → e < s .τ → c < lOf bits256 s → laneAt T c e ≡ byteOf (w e c)
   holds e c l h = table-w s p opened c T Δ (s .τ) e (is .table-is) l (in-width s c h) (challenges e)
 
-  pub first-inconsistent-is : (H′ hashed : List ℕ) → HashForm s H′ → ((i : ℕ) → byteAt (p .Ṽ) i < 256)
+  pub first-inconsistent-is : (H′ hashed : List ℕ) → HashForm bits256 s H′ → ((i : ℕ) → byteAt (p .Ṽ) i < 256)
       → ((e ρ : ℕ) → e < s .τ → ρ < s .t → byteAt hashed (e * s .t + ρ) ≡ hashLane H′ (bytesFor (kOf bits256 s)) (kOf bits256 s) T ρ e)
       → firstInconsistent hashed (p .Ṽ) (p .ũ) Δ (s .t) ≡ firstNot (s .τ) (consistentIn bits256 s Δ H′ opened proof)
   unfolding consistentIn consistentAt

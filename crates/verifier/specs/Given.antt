@@ -6,19 +6,19 @@ use mathlib.Core.Path.{_≡_}
 use mathlib.Core.List.{List, [], _∷_}
 use Prim.Native.Nat.{ℕ, _*_}
 use lib.ListN.{length}
-use Rattle.protocol.specs.Binary.{bits256}
+use Rattle.protocol.specs.Alphabet.{Alphabet}
 use Rattle.protocol.specs.Shape.{Shape, wOf}
 use Rattle.protocol.specs.Answers.{Question}
 use Rattle.protocol.specs.Questions.{q14, q15}
 use Rattle.questions.specs.Facts.{HashForm, KeyFacts, ProofForm}
 
-pub record VerifyFacts (s : Shape) (key Δ H′ χ opened proof : List ℕ) : Type 0 where
-  pub of-key : KeyFacts s key
+pub record VerifyFacts (A : Alphabet) (s : Shape) (key Δ H′ χ opened proof : List ℕ) : Type 0 where
+  pub of-key : KeyFacts A s key
   pub of-challenge : length Δ ≡ s .τ
-  pub of-hash : HashForm s H′
+  pub of-hash : HashForm A s H′
   pub of-batching : length χ ≡ s .τ * s .m
-  pub of-opened : length opened ≡ s .τ * 255 * wOf bits256 s
-  pub of-proof : ProofForm s proof
+  pub of-opened : length opened ≡ s .τ * 255 * wOf A s
+  pub of-proof : ProofForm A s proof
 
-abbrev pub checkQuestions : Shape → List ℕ → List ℕ → List ℕ → List ℕ → List ℕ → List ℕ → List Question
-checkQuestions s key Δ H′ χ opened proof = q14 bits256 s Δ H′ opened proof ∷ q15 bits256 s key Δ χ opened proof ∷ []
+abbrev pub checkQuestions : Alphabet → Shape → List ℕ → List ℕ → List ℕ → List ℕ → List ℕ → List ℕ → List Question
+checkQuestions A s key Δ H′ χ opened proof = q14 A s Δ H′ opened proof ∷ q15 A s key Δ χ opened proof ∷ []

@@ -10,19 +10,19 @@ use mathlib.Core.List.{List}
 use Prim.Native.Nat.{ℕ, _*_}
 use lib.ListN.{length}
 use Rattle.protocol.specs.Lists.{firstNot}
-use Rattle.protocol.specs.Binary.{bits256}
+use Rattle.protocol.specs.Alphabet.{Alphabet}
 use Rattle.protocol.specs.Shape.{Shape, wOf}
 use Rattle.protocol.specs.Sections.{sectionsIn}
 use Rattle.protocol.specs.Questions.{consistentIn, productIn}
 use Rattle.lanes.specs.Lanes.{lanes}
 use Rattle.tables.specs.Opened.{OpenedTableIs}
 
-pub record Opened (s : Shape) (Δ opened proof table : List ℕ) : Type 0 where
-  pub table-length : length table ≡ 8 * wOf bits256 s * lanes
-  pub table-is : OpenedTableIs table opened Δ (sectionsIn bits256 s proof .C) (s .τ) (wOf bits256 s)
+pub record Opened (A : Alphabet) (s : Shape) (Δ opened proof table : List ℕ) : Type 0 where
+  pub table-length : length table ≡ 8 * wOf A s * lanes
+  pub table-is : OpenedTableIs table opened Δ (sectionsIn A s proof .C) (s .τ) (wOf A s)
 
-abbrev pub FirstInconsistent : Shape → List ℕ → List ℕ → List ℕ → List ℕ → ℕ → Type 0
-FirstInconsistent s Δ H′ proof table r = (opened : List ℕ) → Opened s Δ opened proof table → r ≡ firstNot (s .τ) (consistentIn bits256 s Δ H′ opened proof)
+abbrev pub FirstInconsistent : Alphabet → Shape → List ℕ → List ℕ → List ℕ → List ℕ → ℕ → Type 0
+FirstInconsistent A s Δ H′ proof table r = (opened : List ℕ) → Opened A s Δ opened proof table → r ≡ firstNot (s .τ) (consistentIn A s Δ H′ opened proof)
 
-abbrev pub FirstDiffers : Shape → List ℕ → List ℕ → List ℕ → List ℕ → List ℕ → ℕ → Type 0
-FirstDiffers s key Δ χ proof table r = (opened : List ℕ) → Opened s Δ opened proof table → r ≡ firstNot (s .τ) (productIn bits256 s key Δ χ opened proof)
+abbrev pub FirstDiffers : Alphabet → Shape → List ℕ → List ℕ → List ℕ → List ℕ → List ℕ → ℕ → Type 0
+FirstDiffers A s key Δ χ proof table r = (opened : List ℕ) → Opened A s Δ opened proof table → r ≡ firstNot (s .τ) (productIn A s key Δ χ opened proof)

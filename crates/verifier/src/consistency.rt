@@ -5,10 +5,9 @@ ghost use mathlib.Core.List.{List};
 ghost use Prim.Native.Nat.{ℕ, _*_, _≤_};
 ghost use lib.Dec.{eqb};
 ghost use lib.ListN.{length};
-ghost use Rattle.protocol.specs.Binary.{bits256};
 ghost use Rattle.protocol.specs.Shape.{limits, wOf, mostHashRows};
 ghost use Rattle.lanes.specs.Lanes.{lanes};
-ghost use Rattle.format.specs.Sizes.{shapeFor};
+ghost use Rattle.format.specs.Sizes.{alphabetFor, shapeFor};
 ghost use Rattle.questions.specs.Facts.{HashForm, PlacesOf};
 ghost use Rattle.verifier.specs.Repetitions.{BitMasks, RowsOf, rowConsistent, firstInconsistent};
 ghost use Rattle.verifier.specs.Proved.{FirstInconsistent};
@@ -104,9 +103,9 @@ fn check_hashed(
     places: Places,
     s: Sizes,
 ) -> usize
-    requires { ⌜ (limits (shapeFor s) ≡ true) × HashForm (shapeFor s) (now matrix) × PlacesOf (shapeFor s) (now proof) places × (length (now delta) ≡ s .tau) ⌝ }
-    requires { ⌜ (length (now table) ≡ 8 * wOf bits256 (shapeFor s) * lanes) × (length (now hashed) ≡ s .tau * s .t) ⌝ }
-    ensures { λ r. ⌜ FirstInconsistent (shapeFor s) (now (delta .entry)) (now (matrix .entry)) (now (proof .entry)) (now (table .entry)) r ⌝ }
+    requires { ⌜ (limits (shapeFor s) ≡ true) × HashForm (alphabetFor s) (shapeFor s) (now matrix) × PlacesOf (alphabetFor s) (shapeFor s) (now proof) places × (length (now delta) ≡ s .tau) ⌝ }
+    requires { ⌜ (length (now table) ≡ 8 * wOf (alphabetFor s) (shapeFor s) * lanes) × (length (now hashed) ≡ s .tau * s .t) ⌝ }
+    ensures { λ r. ⌜ FirstInconsistent (alphabetFor s) (shapeFor s) (now (delta .entry)) (now (matrix .entry)) (now (proof .entry)) (now (table .entry)) r ⌝ }
 {
     let t = s.t;
     hash::vectors::hash_all(hashed, matrix, table, s);
@@ -128,9 +127,9 @@ pub fn check_consistency(
     places: Places,
     s: Sizes,
 ) -> usize
-    requires { ⌜ (limits (shapeFor s) ≡ true) × HashForm (shapeFor s) (now matrix) × PlacesOf (shapeFor s) (now proof) places × (length (now delta) ≡ s .tau) ⌝ }
-    requires { ⌜ length (now table) ≡ 8 * wOf bits256 (shapeFor s) * lanes ⌝ }
-    ensures { λ r. ⌜ FirstInconsistent (shapeFor s) (now (delta .entry)) (now (matrix .entry)) (now (proof .entry)) (now (table .entry)) r ⌝ }
+    requires { ⌜ (limits (shapeFor s) ≡ true) × HashForm (alphabetFor s) (shapeFor s) (now matrix) × PlacesOf (alphabetFor s) (shapeFor s) (now proof) places × (length (now delta) ≡ s .tau) ⌝ }
+    requires { ⌜ length (now table) ≡ 8 * wOf (alphabetFor s) (shapeFor s) * lanes ⌝ }
+    ensures { λ r. ⌜ FirstInconsistent (alphabetFor s) (shapeFor s) (now (delta .entry)) (now (matrix .entry)) (now (proof .entry)) (now (table .entry)) r ⌝ }
 {
     let tau = s.tau;
     let t = s.t;

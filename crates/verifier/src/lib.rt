@@ -11,7 +11,7 @@ ghost use Rattle.protocol.specs.Shape.{wOf};
 ghost use Rattle.protocol.specs.Answers.{ask};
 ghost use Rattle.protocol.specs.Calls.{verifyAnswer};
 ghost use Rattle.lanes.specs.Lanes.{lanes};
-ghost use Rattle.format.specs.Sizes.{shapeFor};
+ghost use Rattle.format.specs.Sizes.{alphabetFor, shapeFor};
 ghost use Rattle.format.specs.Verdict.{answerOf};
 ghost use Rattle.sections.specs.Moved.{PlacesIn};
 ghost use Rattle.verifier.specs.Given.{VerifyFacts, checkQuestions};
@@ -45,9 +45,9 @@ fn ask_checks(
     places: Places,
     s: Sizes,
 ) -> Verdict
-    requires { ⌜ VerifyFacts (shapeFor s) (now key) (now delta) (now matrix) (now batching) (now opened) (now proof) × PlacesIn (now proof) places ⌝ }
-    requires { ⌜ length (now table) ≡ 8 * wOf bits256 (shapeFor s) * lanes ⌝ }
-    ensures { λ r. ⌜ answerOf r ≡ ask (checkQuestions (shapeFor s) (now (key .entry)) (now (delta .entry)) (now (matrix .entry)) (now (batching .entry)) (now (opened .entry)) (now (proof .entry))) ⌝ }
+    requires { ⌜ VerifyFacts (alphabetFor s) (shapeFor s) (now key) (now delta) (now matrix) (now batching) (now opened) (now proof) × PlacesIn (now proof) places ⌝ }
+    requires { ⌜ length (now table) ≡ 8 * wOf (alphabetFor s) (shapeFor s) * lanes ⌝ }
+    ensures { λ r. ⌜ answerOf r ≡ ask (checkQuestions (alphabetFor s) (shapeFor s) (now (key .entry)) (now (delta .entry)) (now (matrix .entry)) (now (batching .entry)) (now (opened .entry)) (now (proof .entry))) ⌝ }
 {
     let tau = s.tau;
     let w = leaf_bytes(s);
@@ -79,8 +79,8 @@ fn both_checks(
     places: Places,
     s: Sizes,
 ) -> Verdict
-    requires { ⌜ VerifyFacts (shapeFor s) (now key) (now delta) (now matrix) (now batching) (now opened) (now proof) × PlacesIn (now proof) places ⌝ }
-    ensures { λ r. ⌜ answerOf r ≡ ask (checkQuestions (shapeFor s) (now (key .entry)) (now (delta .entry)) (now (matrix .entry)) (now (batching .entry)) (now (opened .entry)) (now (proof .entry))) ⌝ }
+    requires { ⌜ VerifyFacts (alphabetFor s) (shapeFor s) (now key) (now delta) (now matrix) (now batching) (now opened) (now proof) × PlacesIn (now proof) places ⌝ }
+    ensures { λ r. ⌜ answerOf r ≡ ask (checkQuestions (alphabetFor s) (shapeFor s) (now (key .entry)) (now (delta .entry)) (now (matrix .entry)) (now (batching .entry)) (now (opened .entry)) (now (proof .entry))) ⌝ }
 {
     let w = leaf_bytes(s);
     let mut table = [0u8; BITS * MOST_LEAF * LANES];

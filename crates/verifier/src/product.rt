@@ -6,11 +6,10 @@ ghost use lib.ListN.{length};
 ghost use lib.Bits.{bitXor};
 ghost use Rattle.field.specs.Gf256.{gf256};
 ghost use Rattle.protocol.specs.Strings.{bit};
-ghost use Rattle.protocol.specs.Binary.{bits256};
 ghost use Rattle.protocol.specs.Shape.{wOf};
 ghost use Rattle.strings.specs.Sums.{byteAt, xorSum};
 ghost use Rattle.lanes.specs.Lanes.{lanes, laneAt};
-ghost use Rattle.format.specs.Sizes.{shapeFor};
+ghost use Rattle.format.specs.Sizes.{alphabetFor, shapeFor};
 ghost use Rattle.questions.specs.Facts.{KeyFacts, PlacesOf};
 ghost use Rattle.verifier.specs.Product.{KeyLanes, EquationsOf, valueByte, LeftSides};
 ghost use Rattle.verifier.specs.Repetitions.{firstDiffering};
@@ -156,9 +155,9 @@ pub fn check_product(
     places: Places,
     s: Sizes,
 ) -> usize
-    requires { ⌜ KeyFacts (shapeFor s) (now key) × PlacesOf (shapeFor s) (now proof) places × (length (now delta) ≡ s .tau) ⌝ }
-    requires { ⌜ (length (now batching) ≡ s .tau * s .m) × (length (now table) ≡ 8 * wOf bits256 (shapeFor s) * lanes) ⌝ }
-    ensures { λ r. ⌜ FirstDiffers (shapeFor s) (now (key .entry)) (now (delta .entry)) (now (batching .entry)) (now (proof .entry)) (now (table .entry)) r ⌝ }
+    requires { ⌜ KeyFacts (alphabetFor s) (shapeFor s) (now key) × PlacesOf (alphabetFor s) (shapeFor s) (now proof) places × (length (now delta) ≡ s .tau) ⌝ }
+    requires { ⌜ (length (now batching) ≡ s .tau * s .m) × (length (now table) ≡ 8 * wOf (alphabetFor s) (shapeFor s) * lanes) ⌝ }
+    ensures { λ r. ⌜ FirstDiffers (alphabetFor s) (shapeFor s) (now (key .entry)) (now (delta .entry)) (now (batching .entry)) (now (proof .entry)) (now (table .entry)) r ⌝ }
 {
     let n = s.n;
     let mut challenge = [0u8; LANES];

@@ -36,19 +36,19 @@ load-opened-requires c κs =
       s .pre .1,
       facts .of-opened,
       facts .of-challenge,
-      c .proof-section .ensures shape (facts .of-proof) .1 ∙ section-lengths shape .c-length,
+      c .proof-section .ensures (s .args .s) (facts .of-proof) .1 ∙ section-lengths shape .c-length,
       in-limits shape (facts .of-key .in-range) .τ-most,
       omega (arith, w-most shape (facts .of-key .in-range)),
     )
 
 -- the table is then W_e of every repetition
-loaded : (c : tie.After-load-opened) → let a = c .before .before .before .before .before .before .before .before .before .before .before .args in Opened (shapeFor (a .s)) (now (a .delta)) (now (a .opened)) (now (a .proof)) (c .load-opened .last .0)
+loaded : (c : tie.After-load-opened) → let a = c .before .before .before .before .before .before .before .before .before .before .before .args in Opened bits256 (shapeFor (a .s)) (now (a .delta)) (now (a .opened)) (now (a .proof)) (c .load-opened .last .0)
 loaded c =
     let s = c .before .before .before .before .before .before .before .before .before .before .before in
     let a = s .args in
     let shape = shapeFor (a .s) in
     opened-is shape (now (a .delta)) (now (a .opened)) (now (a .proof)) (c .load-opened .last .0) (now (c .before .proof-section .result)) (c .before .before .before .leaf-bytes .result) (c .before .before .before .leaf-bytes .ensures)
-    (c .before .proof-section .ensures shape (s .pre .0 .0 .of-proof) .0) (c .load-opened .kept .0 ∙ s .pre .1) (c .load-opened .ensures)
+    (c .before .proof-section .ensures (a .s) (s .pre .0 .0 .of-proof) .0) (c .load-opened .kept .0 ∙ s .pre .1) (c .load-opened .ensures)
 
 check-consistency-requires : tie.Need-check-consistency-requires
 check-consistency-requires c κs =

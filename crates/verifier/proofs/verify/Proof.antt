@@ -4,6 +4,7 @@
 use borrow.Author.Needs.{needs}
 use mathlib.Core.Path.{refl, sym, ap, _∙_}
 use denote.Ref.{now}
+use Rattle.protocol.specs.Binary.{bits256}
 use Rattle.format.specs.Sizes.{shapeFor}
 use Rattle.format.specs.Verdict.{answerOf}
 use Rattle.format.proofs.AskLaws.{go-on, stop-at}
@@ -30,7 +31,7 @@ returns c =
     let a = c .before .before .before .before .before .before .before .before .before .before .args in
     stop-at _ (c .enum-told2 .given .1) ∙ all-asked _ (now (a .key)) (now (a .delta)) (now (a .matrix)) (now (a .batching)) (now (a .opened)) (now (a .proof)) refl (c .before .before .key-form .ensures) refl refl refl
 
-of-key : (c : tie.After-enum-told) → KeyFacts (shapeFor (c .before .before .before .sizes-of .result)) (now (c .before .before .before .before .before .before .before .before .before .before .args .key))
+of-key : (c : tie.After-enum-told) → KeyFacts bits256 (shapeFor (c .before .before .before .sizes-of .result)) (now (c .before .before .before .before .before .before .before .before .before .before .args .key))
 of-key c = key-sized (c .before .before .before .sizes-of .result) (now (c .before .before .before .before .before .before .before .before .before .before .args .key)) (c .before .before .before .sizes-of .ensures) (sym (c .before .before .key-form .ensures) ∙ ap answerOf (c .enum-told .given .1))
 
 verify-inputs-requires : tie.Need-verify-inputs-requires
@@ -45,7 +46,7 @@ enum-told-4 c = search needs
 returns-2 : tie.Need-returns-2
 returns-2 c =
     let a = c .before .before .before .before .before .before .before .before .before .before .before .before .before .args in
-    let e = c .before .before .before .before .before .before .sizes-of .ensures (of-key (c .before .before .before) .header) in
+    let e = c .before .before .before .before .before .before .sizes-of .ensures .0 (of-key (c .before .before .before) .header) in
     go-on (c .before .before .before .enum-told .given .1) (stop-at _ (c .enum-told4 .given .1)) ∙ all-asked _ (now (a .key)) (now (a .delta)) (now (a .matrix)) (now (a .batching)) (now (a .opened)) (now (a .proof)) e (c .before .before .before .before .before .key-form .ensures) (c .before .before .verify-inputs .ensures) refl refl
 
 proof-form-requires : tie.Need-proof-form-requires
@@ -60,7 +61,7 @@ enum-told-6 c = search needs
 returns-3 : tie.Need-returns-3
 returns-3 c =
     let a = c .before .before .before .before .before .before .before .before .before .before .before .before .before .before .before .before .args in
-    let e = c .before .before .before .before .before .before .before .before .before .sizes-of .ensures (of-key (c .before .before .before .before .before .before) .header) in
+    let e = c .before .before .before .before .before .before .before .before .before .sizes-of .ensures .0 (of-key (c .before .before .before .before .before .before) .header) in
     go-on (c .before .before .before .before .before .before .enum-told .given .1) (go-on (c .before .before .before .enum-told3 .given .1) (stop-at _ (c .enum-told6 .given .1)))
     ∙ all-asked _ (now (a .key)) (now (a .delta)) (now (a .matrix)) (now (a .batching)) (now (a .opened)) (now (a .proof)) e (c .before .before .before .before .before .before .before .before .key-form .ensures) (c .before .before .before .before .before .verify-inputs .ensures) (c .before .before .proof-form .ensures .0) refl
 
@@ -73,7 +74,7 @@ both-checks-requires c κs =
 returns-4 : tie.Need-returns-4
 returns-4 c =
     let a = c .before .before .before .before .before .before .before .before .before .before .before .before .before .before .before .before .before .before .args in
-    let e = c .before .before .before .before .before .before .before .before .before .before .before .sizes-of .ensures (of-key (c .before .before .before .before .before .before .before .before) .header) in
+    let e = c .before .before .before .before .before .before .before .before .before .before .before .sizes-of .ensures .0 (of-key (c .before .before .before .before .before .before .before .before) .header) in
     go-on (c .before .before .before .before .before .before .before .before .enum-told .given .1) (go-on (c .before .before .before .before .before .enum-told3 .given .1) (go-on (c .before .before .enum-told5 .given .1) refl))
     ∙ all-asked _ (now (a .key)) (now (a .delta)) (now (a .matrix)) (now (a .batching)) (now (a .opened)) (now (a .proof)) e (c .before .before .before .before .before .before .before .before .before .before .key-form .ensures) (c .before .before .before .before .before .before .before .verify-inputs .ensures) (c .before .before .before .before .proof-form .ensures .0) (c .both-checks .ensures)
 

@@ -24,7 +24,7 @@ enum-told c = search needs
 enum-told-2 : tie.Need-enum-told-2
 enum-told-2 c = search needs
 
-of-key : (c : tie.After-enum-told) → KeyFacts (shapeFor (c .before .before .before .before .before .args .s)) (now (c .before .before .before .before .before .args .key))
+of-key : (c : tie.After-enum-told) → KeyFacts bits256 (shapeFor (c .before .before .before .before .before .args .s)) (now (c .before .before .before .before .before .args .key))
 of-key c = key-sized (c .before .before .before .before .before .args .s) (now (c .before .before .before .before .before .args .key)) (c .before .before .before .before .before .pre) (sym (c .before .before .key-form .ensures) ∙ ap answerOf (c .enum-told .given .1))
 
 returns : tie.Need-returns
@@ -36,7 +36,7 @@ witness-form-requires c κs = of-key c .in-range
 returns-2 : tie.Need-returns-2
 returns-2 c =
     let x = now (c .before .before .before .before .before .before .args .witness) in
-    let e = c .before .before .before .before .before .before .pre (of-key (c .before) .header) in
+    let e = c .before .before .before .before .before .before .pre .0 (of-key (c .before) .header) in
     then-ask _ _ (c .before .before .before .key-form .ensures) (c .witness-form .ensures ∙ ap (λ S. andThen (answerOf (c .before .before .before .key-form .result)) (ask (q9 bits256 S x ∷ []))) e)
 
 pub test-form-spec : {M : Type 1} → statement M

@@ -23,7 +23,7 @@ use Rattle.questions.proofs.key.key_form.Tie as tie
 
 -- what the tests on the way have shown
 of : (c : tie.Else1) → shapeFor (c .before .before .args .s) ≡ shapeOf (now (c .before .before .args .key))
-of c = c .before .before .pre (c .if1 .left)
+of c = c .before .before .pre .0 (c .if1 .left)
 
 sized : (c : tie.Else2) → limits (shapeOf (now (c .before .before .before .before .args .key))) ≡ true
 sized c = yes-of (c .before .in-limits .ensures ∙ ap limits (of (c .before .before))) (c .if2 .left)
@@ -35,7 +35,7 @@ exact : (c : tie.After-sections-form) → answerOf (c .sections-form .result) �
 unfolding keyExact
 exact c = same-first 3 0 _ (ap (λ ls. framed ls (drop 8 (keyAt c))) (c .before .before .key-lengths .ensures ∙ ap (keyLengths bits256) (of (c .before .before .before .before .before)))) (c .sections-form .ensures)
 
-formed : (c : tie.After-enum-told) → KeyForm (keyAt (c .before .before))
+formed : (c : tie.After-enum-told) → KeyForm bits256 (keyAt (c .before .before))
 formed c = record { header = c .before .before .before .before .before .before .before .if1 .left; sizes = sized (c .before .before .before .before .before); exact = said-yes _ 3 0 (sym (exact (c .before .before)) ∙ ap answerOf (c .enum-told .given .1)) }
 
 refuse-requires : tie.Need-refuse-requires

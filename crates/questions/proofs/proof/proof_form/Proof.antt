@@ -40,7 +40,7 @@ returns c =
     let told = c .enum-told2 .given .1 in
     (then-ask _ _ (exact p) (stop-at _ told), λ h. absurd (refused-not (ap answerOf told) h))
 
-placed : (c : tie.After-enum-told) → PlacesOf (shapeFor (c .before .before .before .before .before .before .before .args .s)) (now (c .before .before .before .before .before .before .before .args .proof)) (c .before .before .before .read-sections .result .places)
+placed : (c : tie.After-enum-told) → PlacesOf bits256 (shapeFor (c .before .before .before .before .before .before .before .args .s)) (now (c .before .before .before .before .before .before .before .args .proof)) (c .before .before .before .read-sections .result .places)
 placed c =
     let p = c .before .before .before in
     let yes = ap answerOf (c .enum-told .given .1) in

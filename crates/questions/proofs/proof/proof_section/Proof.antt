@@ -10,6 +10,7 @@ use Rattle.protocol.specs.Frames.{sectionNo}
 use Rattle.protocol.specs.Binary.{bits256}
 use Rattle.protocol.specs.Shape.{Shape}
 use Rattle.protocol.specs.Sections.{lengths}
+use Rattle.format.specs.Sizes.{shapeFor}
 use Rattle.sections.specs.Taking.{bytesAt}
 use Rattle.sections.proofs.ReaderLaws.{section-taken, section-length}
 use Rattle.questions.proofs.proof.proof_section.Statement.{statement}
@@ -29,7 +30,8 @@ section-from-requires : tie.Need-section-from-requires
 section-from-requires c κs = search needs
 
 returns : tie.Need-returns
-returns c s form =
+returns c z form =
+    let s = shapeFor z in
     let start = c .before .before .before in
     let a = start .args in
     let ls = lengths bits256 s in

@@ -31,7 +31,7 @@ unfolding lengths wOf
 rows-spare-requires c κs =
     let a = c .before .before .before .before in
     let S = shapeFor (a .args .s) in
-    (c .before .before .proof-section .ensures S (a .pre .1 .0) .1 ∙ ap (λ k. (S .τ - 1) * bytesFor k) (sym (c .before .leaf-bits .ensures)), omega (arith, l-most S (a .pre .0)))
+    (c .before .before .proof-section .ensures (a .args .s) (a .pre .1 .0) .1 ∙ ap (λ k. (S .τ - 1) * bytesFor k) (sym (c .before .leaf-bits .ensures)), omega (arith, l-most S (a .pre .0)))
 
 proof-section-requires-2 : tie.Need-proof-section-requires-2
 proof-section-requires-2 c κs = search needs
@@ -40,7 +40,7 @@ row-spare-requires : tie.Need-row-spare-requires
 unfolding lengths
 row-spare-requires c κs =
     let a = c .before .before .before .before .before .before in
-    (c .proof-section2 .ensures (shapeFor (a .args .s)) (a .pre .1 .0) .1, omega (arith, in-limits (shapeFor (a .args .s)) (a .pre .0)))
+    (c .proof-section2 .ensures (a .args .s) (a .pre .1 .0) .1, omega (arith, in-limits (shapeFor (a .args .s)) (a .pre .0)))
 
 proof-section-requires-3 : tie.Need-proof-section-requires-3
 proof-section-requires-3 c κs = search needs
@@ -49,7 +49,7 @@ row-spare-requires-2 : tie.Need-row-spare-requires-2
 unfolding lengths
 row-spare-requires-2 c κs =
     let a = c .before .before .before .before .before .before .before .before in
-    (c .proof-section3 .ensures (shapeFor (a .args .s)) (a .pre .1 .0) .1, omega (arith, in-limits (shapeFor (a .args .s)) (a .pre .0)))
+    (c .proof-section3 .ensures (a .args .s) (a .pre .1 .0) .1, omega (arith, in-limits (shapeFor (a .args .s)) (a .pre .0)))
 
 returns : tie.Need-returns
 unfolding proofSpare
@@ -61,9 +61,9 @@ returns c =
     let form = a .pre .1 .0 in
     all-three
     (r .rows-spare .ensures ∙ ap (λ k. rowsSpare bits256 k (S .τ - 1) (now (r .before .before .before .proof-section .result))) (r .before .before .leaf-bits .ensures)
-    ∙ ap (rowsSpare bits256 (lOf bits256 S) (S .τ - 1)) (r .before .before .before .proof-section .ensures S form .0))
-    (d .row-spare .ensures ∙ ap (λ d. spareZero d (S .n)) (d .before .proof-section2 .ensures S form .0))
-    (c .row-spare2 .ensures ∙ ap (λ u. spareZero u (S .t)) (c .before .proof-section3 .ensures S form .0))
+    ∙ ap (rowsSpare bits256 (lOf bits256 S) (S .τ - 1)) (r .before .before .before .proof-section .ensures (a .args .s) form .0))
+    (d .row-spare .ensures ∙ ap (λ d. spareZero d (S .n)) (d .before .proof-section2 .ensures (a .args .s) form .0))
+    (c .row-spare2 .ensures ∙ ap (λ u. spareZero u (S .t)) (c .before .proof-section3 .ensures (a .args .s) form .0))
 
 pub proof-spare-spec : {M : Type 1} → statement M
 proof-spare-spec =

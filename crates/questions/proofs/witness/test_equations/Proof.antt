@@ -51,7 +51,7 @@ returns : tie.Need-returns
 returns c =
     let key = now (c .before .before .before .before .before .before .before .before .before .before .before .before .args .key) in
     let x = now (c .before .before .before .before .before .before .before .before .before .before .before .before .args .witness) in
-    let e = c .before .before .before .before .before .before .before .before .before .before .before .before .pre .0 (c .before .before .before .before .before .before .before .before .before .before .before .before .pre .1 .of-key .header) in
+    let e = c .before .before .before .before .before .before .before .before .before .before .before .before .pre .0 .0 (c .before .before .before .before .before .before .before .before .before .before .before .before .pre .1 .of-key .header) in
     let p = c .before .before .before .before .equation-errors in
     let same : (i : ℕ) → keyError (c .before .before .before .before .before .before .before .before .before .before .before .before .args .s .n) (now (c .before .before .before .before .before .before .before .section-a .result)) (now (c .before .before .before .before .before .before .section-b .result)) (now (c .before .before .before .before .before .section-y .result)) x i
     ≡ keyError (shapeOf key .n) (sectionA bits256 (shapeOf key) key) (sectionB bits256 (shapeOf key) key) (sectionY bits256 (shapeOf key) key) x i =

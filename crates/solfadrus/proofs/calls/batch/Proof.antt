@@ -40,11 +40,11 @@ returns c =
 asked : (c : tie.After-enum-told) → ask (batchQuestions bits256 (now (c .before .before .before .before .before .before .before .before .before .args .key)) (now (c .before .before .before .before .before .before .before .before .before .args .leaves)) (now (c .before .before .before .before .before .before .before .before .before .args .witness)) (now (c .before .before .before .before .before .before .before .before .before .args .batching)) (now (c .before .before .before .before .before .before .before .before .before .args .out))) ≡ accepted
 asked c = sym (c .before .before .batch-form .ensures (now (c .before .before .before .before .before .before .before .before .before .args .out)) refl) ∙ ap answerOf (c .enum-told .given .1)
 
-facts : (c : tie.After-enum-told) → BatchFacts (shapeFor (c .before .before .before .sizes-of .result)) (now (c .before .before .before .before .before .before .before .before .before .args .key)) (now (c .before .before .before .before .before .before .before .before .before .args .leaves)) (now (c .before .before .before .before .before .before .before .before .before .args .witness)) (now (c .before .before .before .before .before .before .before .before .before .args .batching)) (now (c .before .before .before .before .before .before .before .before .before .args .out))
+facts : (c : tie.After-enum-told) → BatchFacts bits256 (shapeFor (c .before .before .before .sizes-of .result)) (now (c .before .before .before .before .before .before .before .before .before .args .key)) (now (c .before .before .before .before .before .before .before .before .before .args .leaves)) (now (c .before .before .before .before .before .before .before .before .before .args .witness)) (now (c .before .before .before .before .before .before .before .before .before .args .batching)) (now (c .before .before .before .before .before .before .before .before .before .args .out))
 facts c =
     let a = c .before .before .before .before .before .before .before .before .before .args in
     let f = batch-facts (now (a .key)) (now (a .leaves)) (now (a .witness)) (now (a .batching)) (now (a .out)) (asked c) in
-    by-sizes (λ z. BatchFacts z (now (a .key)) (now (a .leaves)) (now (a .witness)) (now (a .batching)) (now (a .out))) (c .before .before .before .sizes-of .result) (now (a .key)) (c .before .before .before .sizes-of .ensures) (f .of-key .header) f
+    by-sizes (λ z. BatchFacts bits256 z (now (a .key)) (now (a .leaves)) (now (a .witness)) (now (a .batching)) (now (a .out))) (c .before .before .before .sizes-of .result) (now (a .key)) (c .before .before .before .sizes-of .ensures) (f .of-key .header) f
 
 solved-requires : tie.Need-solved-requires
 solved-requires c κs = (c .before .before .before .sizes-of .ensures, record { of-key = facts c .of-key; of-witness = facts c .of-witness })
@@ -70,7 +70,7 @@ returns-3 : tie.Need-returns-3
 unfolding batchBytes
 returns-3 c =
     let a = c .before .before .before .before .before .before .before .before .before .before .before .before .before .before .before .before .args in
-    let e = c .before .before .before .before .before .before .before .before .before .before .sizes-of .ensures (facts (c .before .before .before .before .before .before .before) .of-key .header) in (
+    let e = c .before .before .before .before .before .before .before .before .before .before .sizes-of .ensures .0 (facts (c .before .before .before .before .before .before .before) .of-key .header) in (
       batch-solved-reply (now (a .key)) (now (a .leaves)) (now (a .witness)) (now (a .batching)) (now (a .out)) (asked (c .before .before .before .before .before .before .before)) _ (c .before .before .before .before .before .before .solved .ensures),
       rw (c .before .before .before .before .enum-told3 .given .1) (c .before .before .batch .ensures ∙ ap (λ (z : Shape). frame (qs0Section bits256 z (now (a .leaves)) (now (a .key)) (now (a .batching)) ∷ qs1Section bits256 z (now (a .leaves)) (now (a .key)) (now (a .witness)) (now (a .batching)) ∷ [])) e),
     )

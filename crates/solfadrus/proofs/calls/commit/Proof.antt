@@ -40,11 +40,11 @@ returns c =
 asked : (c : tie.After-enum-told) → ask (commitQuestions bits256 (now (c .before .before .before .before .before .before .before .before .args .key)) (now (c .before .before .before .before .before .before .before .before .args .leaves)) (now (c .before .before .before .before .before .before .before .before .args .witness)) (now (c .before .before .before .before .before .before .before .before .args .out))) ≡ accepted
 asked c = sym (c .before .before .commit-form .ensures (now (c .before .before .before .before .before .before .before .before .args .out)) refl) ∙ ap answerOf (c .enum-told .given .1)
 
-facts : (c : tie.After-enum-told) → KeyFacts (shapeFor (c .before .before .before .sizes-of .result)) (now (c .before .before .before .before .before .before .before .before .args .key)) × CommitFacts (shapeFor (c .before .before .before .sizes-of .result)) (now (c .before .before .before .before .before .before .before .before .args .leaves)) (now (c .before .before .before .before .before .before .before .before .args .witness)) (now (c .before .before .before .before .before .before .before .before .args .out))
+facts : (c : tie.After-enum-told) → KeyFacts bits256 (shapeFor (c .before .before .before .sizes-of .result)) (now (c .before .before .before .before .before .before .before .before .args .key)) × CommitFacts bits256 (shapeFor (c .before .before .before .sizes-of .result)) (now (c .before .before .before .before .before .before .before .before .args .leaves)) (now (c .before .before .before .before .before .before .before .before .args .witness)) (now (c .before .before .before .before .before .before .before .before .args .out))
 facts c =
     let a = c .before .before .before .before .before .before .before .before .args in
     let f = commit-facts (now (a .key)) (now (a .leaves)) (now (a .witness)) (now (a .out)) (asked c) in
-    by-sizes (λ z. KeyFacts z (now (a .key)) × CommitFacts z (now (a .leaves)) (now (a .witness)) (now (a .out))) (c .before .before .before .sizes-of .result) (now (a .key)) (c .before .before .before .sizes-of .ensures) (f .0 .header) f
+    by-sizes (λ z. KeyFacts bits256 z (now (a .key)) × CommitFacts bits256 z (now (a .leaves)) (now (a .witness)) (now (a .out))) (c .before .before .before .sizes-of .result) (now (a .key)) (c .before .before .before .sizes-of .ensures) (f .0 .header) f
 
 solved-requires : tie.Need-solved-requires
 solved-requires c κs = (c .before .before .before .sizes-of .ensures, record { of-key = facts c .0; of-witness = facts c .1 .of-witness })
@@ -70,7 +70,7 @@ returns-3 : tie.Need-returns-3
 unfolding commitBytes
 returns-3 c =
     let a = c .before .before .before .before .before .before .before .before .before .before .before .before .before .before .before .args in
-    let e = c .before .before .before .before .before .before .before .before .before .before .sizes-of .ensures (facts (c .before .before .before .before .before .before .before) .0 .header) in (
+    let e = c .before .before .before .before .before .before .before .before .before .before .sizes-of .ensures .0 (facts (c .before .before .before .before .before .before .before) .0 .header) in (
       commit-solved-reply (now (a .key)) (now (a .leaves)) (now (a .witness)) (now (a .out)) (asked (c .before .before .before .before .before .before .before)) _ (c .before .before .before .before .before .before .solved .ensures),
       rw (c .before .before .before .before .enum-told3 .given .1) (c .before .before .commit .ensures ∙ ap (λ (z : Shape). frame (cSection bits256 z (now (a .leaves)) ∷ dSection bits256 z (now (a .leaves)) (now (a .witness)) ∷ [])) e),
     )

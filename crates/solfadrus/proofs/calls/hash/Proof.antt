@@ -37,11 +37,11 @@ returns c = (c .before .before .hash-form .ensures (now (c .before .before .befo
 asked : (c : tie.After-enum-told) → ask (hashQuestions bits256 (now (c .before .before .before .before .before .before .before .before .args .key)) (now (c .before .before .before .before .before .before .before .before .args .leaves)) (now (c .before .before .before .before .before .before .before .before .args .matrix)) (now (c .before .before .before .before .before .before .before .before .args .out))) ≡ accepted
 asked c = sym (c .before .before .hash-form .ensures (now (c .before .before .before .before .before .before .before .before .args .out)) refl) ∙ ap answerOf (c .enum-told .given .1)
 
-facts : (c : tie.After-enum-told) → KeyFacts (shapeFor (c .before .before .before .sizes-of .result)) (now (c .before .before .before .before .before .before .before .before .args .key)) × HashFacts (shapeFor (c .before .before .before .sizes-of .result)) (now (c .before .before .before .before .before .before .before .before .args .leaves)) (now (c .before .before .before .before .before .before .before .before .args .matrix)) (now (c .before .before .before .before .before .before .before .before .args .out))
+facts : (c : tie.After-enum-told) → KeyFacts bits256 (shapeFor (c .before .before .before .sizes-of .result)) (now (c .before .before .before .before .before .before .before .before .args .key)) × HashFacts bits256 (shapeFor (c .before .before .before .sizes-of .result)) (now (c .before .before .before .before .before .before .before .before .args .leaves)) (now (c .before .before .before .before .before .before .before .before .args .matrix)) (now (c .before .before .before .before .before .before .before .before .args .out))
 facts c =
     let a = c .before .before .before .before .before .before .before .before .args in
     let f = hash-facts (now (a .key)) (now (a .leaves)) (now (a .matrix)) (now (a .out)) (asked c) in
-    by-sizes (λ z. KeyFacts z (now (a .key)) × HashFacts z (now (a .leaves)) (now (a .matrix)) (now (a .out))) (c .before .before .before .sizes-of .result) (now (a .key)) (c .before .before .before .sizes-of .ensures) (f .0 .header) f
+    by-sizes (λ z. KeyFacts bits256 z (now (a .key)) × HashFacts bits256 z (now (a .leaves)) (now (a .matrix)) (now (a .out))) (c .before .before .before .sizes-of .result) (now (a .key)) (c .before .before .before .sizes-of .ensures) (f .0 .header) f
 
 hash-requires : tie.Need-hash-requires
 hash-requires c κs = facts (c .before) .1
@@ -53,7 +53,7 @@ returns-2 : tie.Need-returns-2
 unfolding hashAnswer hashBytes
 returns-2 c =
     let a = c .before .before .before .before .before .before .before .before .before .before .before .before .args in
-    let e = c .before .before .before .before .before .before .before .sizes-of .ensures (facts (c .before .before .before .before) .0 .header) in
+    let e = c .before .before .before .before .before .before .before .sizes-of .ensures .0 (facts (c .before .before .before .before) .0 .header) in
     (c .before .before .before .before .before .before .hash-form .ensures (now (a .out)) refl, rw (c .before .before .before .before .enum-told .given .1) (c .before .before .hash .ensures ∙ ap (λ (z : Shape). frame (ũSection bits256 z (now (a .leaves)) (now (a .matrix)) ∷ ṼSection bits256 z (now (a .leaves)) (now (a .matrix)) ∷ [])) e))
 
 pub hash-spec : {M : Type 1} → statement M

@@ -36,7 +36,7 @@ solved-requires : tie.Need-solved-requires
 solved-requires c κs =
     let key = now (c .before .before .before .before .before .before .args .key) in
     let f = test-facts key (now (c .before .before .before .before .before .before .args .witness)) (asked c) in
-    (c .before .before .before .sizes-of .ensures, by-sizes (λ z. TestFacts z key (now (c .before .before .before .before .before .before .args .witness))) (c .before .before .before .sizes-of .result) key (c .before .before .before .sizes-of .ensures) (f .of-key .header) f)
+    (c .before .before .before .sizes-of .ensures, by-sizes (λ z. TestFacts bits256 z key (now (c .before .before .before .before .before .before .args .witness))) (c .before .before .before .sizes-of .result) key (c .before .before .before .sizes-of .ensures) (f .of-key .header) f)
 
 returns-2 : tie.Need-returns-2
 returns-2 c = test-solved-reply (now (c .before .before .before .before .before .before .before .args .key)) (now (c .before .before .before .before .before .before .before .args .witness)) (asked (c .before)) _ (c .solved .ensures)

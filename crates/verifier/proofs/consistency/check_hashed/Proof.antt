@@ -35,9 +35,9 @@ first-inconsistent-requires c κs =
     let form = s .pre .0 .2 .0 in
     let sections = section-lengths shape in
     let each = ap (λ (n : ℕ). n * s .args .s .t) (sym (s .pre .0 .3)) in (
-      (c .before .before .before .before .before .hash-all .kept .0 ∙ s .pre .1 .1 ∙ each, c .before .proof-section .ensures shape form .1 ∙ sections .v-length ∙ each),
+      (c .before .before .before .before .before .hash-all .kept .0 ∙ s .pre .1 .1 ∙ each, c .before .proof-section .ensures (s .args .s) form .1 ∙ sections .v-length ∙ each),
       in-limits shape (s .pre .0 .0) .t-most,
-      omega (arith, c .proof-section2 .ensures shape form .1, sections .u-length, bytes-enough (s .args .s .t)),
+      omega (arith, c .proof-section2 .ensures (s .args .s) form .1, sections .u-length, bytes-enough (s .args .s .t)),
     )
 
 same-length : tie.Need-same-length
@@ -52,7 +52,7 @@ returns c opened is =
     let form = s .pre .0 .2 .0 in
     let hashed = c .before .before .before .before .before .before .hash-all in
     c .first-inconsistent .ensures
-    ∙ ap₂ (λ (v u : List ℕ). firstInconsistent (hashed .last .0) v u (now (a .delta)) (a .s .t)) (c .before .before .proof-section .ensures shape form .0) (c .before .proof-section2 .ensures shape form .0)
+    ∙ ap₂ (λ (v u : List ℕ). firstInconsistent (hashed .last .0) v u (now (a .delta)) (a .s .t)) (c .before .before .proof-section .ensures (a .s) form .0) (c .before .proof-section2 .ensures (a .s) form .0)
     ∙ first-inconsistent-is shape (now (a .delta)) opened (now (a .proof)) (now (a .table)) is (s .pre .0 .3) (λ i. c .before .before .before .before .before .before .before .before .before .shared-slice-known3 .given i .fits) (now (a .matrix)) (hashed .last .0) (s .pre .0 .1)
     (section-bytes (lengths bits256 shape) (now (a .proof)) 3 (lit< tt) (λ i. c .before .before .before .before .before .before .before .before .shared-slice-known4 .given i .fits)) (hashed .ensures)
 

@@ -45,7 +45,7 @@ add-difference-requires c κs =
     let s = c .before .before .before .before .before .before .before .before .before .before .before in
     let shape = shapeFor (s .args .s) in (
       omega (arith, s .pre .1 .1, mask-fits shape),
-      omega (arith, c .before .proof-section .ensures shape (s .pre .0 .1 .0) .1, section-lengths shape .d-length, bytes-enough (s .args .s .n)),
+      omega (arith, c .before .proof-section .ensures (s .args .s) (s .pre .0 .1 .0) .1, section-lengths shape .d-length, bytes-enough (s .args .s .n)),
       c .before .before .before .before .load-challenge .kept .0,
     )
 
@@ -97,8 +97,8 @@ first-differing-requires c κs =
     let shape = shapeFor (s .args .s) in
     let form = s .pre .0 .1 .0 in (
       omega (arith, s .pre .0 .2, c .before .before .before .before .product-lanes .kept .0, in-limits shape (s .pre .0 .0 .in-range) .τ-most),
-      c .before .proof-section2 .ensures shape form .1 ∙ section-lengths shape .qs0-length ∙ sym (s .pre .0 .2),
-      c .proof-section3 .ensures shape form .1 ∙ section-lengths shape .qs1-length ∙ sym (s .pre .0 .2),
+      c .before .proof-section2 .ensures (s .args .s) form .1 ∙ section-lengths shape .qs0-length ∙ sym (s .pre .0 .2),
+      c .proof-section3 .ensures (s .args .s) form .1 ∙ section-lengths shape .qs1-length ∙ sym (s .pre .0 .2),
     )
 
 same-length : tie.Need-same-length
@@ -119,9 +119,9 @@ returns c opened is =
     let challenge = load .last .0 in
     let left = c .before .before .before .before .before .product-lanes in
     let y = c .before .before .before .before .before .before .before .before in
-    let d = c .before .before .before .before .before .before .before .before .before .before .before .before .before .before .before .before .proof-section .ensures shape form .0 in
+    let d = c .before .before .before .before .before .before .before .before .before .before .before .before .before .before .before .before .proof-section .ensures (a .s) form .0 in
     c .first-differing .ensures
-    ∙ ap₂ (λ (x y : List ℕ). firstDiffering (left .last .0) x y (now (a .delta))) (c .before .before .proof-section2 .ensures shape form .0) (c .before .proof-section3 .ensures shape form .0)
+    ∙ ap₂ (λ (x y : List ℕ). firstDiffering (left .last .0) x y (now (a .delta))) (c .before .before .proof-section2 .ensures (a .s) form .0) (c .before .proof-section3 .ensures (a .s) form .0)
     ∙ first-differing-is shape (now (a .delta)) opened proof (now (a .table)) is (s .pre .0 .2) (λ i. c .before .before .before .before .before .before .before .before .before .before .before .before .before .before .before .before .before .before .before .before .before .before .before .shared-slice-known2 .given i .fits) challenge (keys .last .0)
     (λ e l. load .ensures e (omega (arith, s .pre .0 .2, l))) (λ e l. omega (arith, l, in-limits shape (s .pre .0 .0 .in-range) .τ-most))
     (λ k e h l. keys .ensures .0 k e h l ∙ ap (λ (r : List ℕ). bitXor (laneAt (now (a .table)) k e) (bit r k * byteAt challenge e)) d) (λ k e h l. keys .ensures .1 k e h l) key χ (left .last .0) (λ i. c .before .before .before .before .before .before .before .before .before .before .before .before .before .before .before .before .before .before .before .before .before .before .shared-slice-known3 .given i .fits)
