@@ -8,8 +8,8 @@ use native.Mathlib.Nat.{mod-eq-of-lt}
 use native.Mathlib.Omega.{arith}
 use lib.Dec.{lit<}
 use lib.ListN.{length}
-use Rattle.protocol.specs.Lists.{allBelow, blockAt}
-use Rattle.protocol.specs.Strings.{bit, spareZero}
+use Rattle.protocol.specs.Lists.{blockAt}
+use Rattle.protocol.specs.Strings.{bit}
 use Rattle.protocol.specs.Alphabet.{sym as symbol}
 use Rattle.protocol.specs.Binary.{bits256}
 use Rattle.protocol.specs.Shape.{Shape, perTree, lOf, wOf}

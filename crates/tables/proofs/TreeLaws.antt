@@ -14,7 +14,7 @@ use lib.ListN.{length, drop, length-append, length-drop, List·getD-append}
 use lib.Pow.{pow-mono, pow-pos}
 use borrow.Rule.Slice.PartMut.{putMid}
 use Rattle.protocol.specs.Lists.{blockAt}
-use Rattle.protocol.specs.Strings.{bit, fromBits}
+use Rattle.protocol.specs.Strings.{bit}
 use Rattle.protocol.specs.Leaves.{place}
 use Rattle.protocol.proofs.LeafLaws.{place-below, place-above}
 use Rattle.protocol.proofs.StringLaws.{bit-lt, bits-congr, bits-of}

@@ -1,12 +1,12 @@
 -- `tables::load_row` meets its contract. Tree e is that part of the leaves, and u_e is written into row e.
 -- Assumes nothing.
-use Prim.Native.Nat.{ℕ, _+_, _*_, _-_, _^_, _≤_, _<_}
+use Prim.Native.Nat.{ℕ, _+_, _*_, _-_, _^_, _≤_}
 use mathlib.Core.Path.{_≡_, ap, _∙_}
 use mathlib.Core.List.{List}
 use native.Mathlib.Nat.{add-sub-cancel-left}
 use native.Mathlib.Omega.{arith}
 use denote.Ref.{now}
-use lib.ListN.{length, length-take, length-drop}
+use lib.ListN.{length}
 use Rattle.protocol.specs.Lists.{part, blockAt}
 use Rattle.protocol.proofs.ListLaws.{length-block}
 use Rattle.strings.proofs.Rows.{put-in, put-other}

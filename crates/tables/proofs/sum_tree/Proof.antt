@@ -1,14 +1,12 @@
 -- `tables::sum_tree` meets its contract. The first r planes are those of the tree, and the others are cleared.
 -- Assumes nothing.
-use Prim.Native.Nat.{ℕ, _+_, _*_, _-_, _^_, _≤_, _<_}
+use Prim.Native.Nat.{ℕ, _+_, _*_, _-_, _^_}
 use mathlib.Core.Path.{_≡_, refl, _∙_}
-use mathlib.Core.List.{List, _++_}
+use mathlib.Core.List.{_++_}
 use native.Mathlib.Nat.{mul-le-mul-right}
 use native.Mathlib.Omega.{arith}
 use denote.Ref.{now}
 use lib.ListN.{length, drop, length-take, length-drop, length-append}
-use Rattle.strings.specs.Sums.{bitOf, xorSum}
-use Rattle.trees.specs.Trees.{leafByte}
 use Rattle.tables.proofs.TreeLaws.{leaves-most, leaves-even, planes-kept, planes-none}
 use borrow.Author.Needs.{needs}
 use Rattle.tables.proofs.sum_tree.Statement.{statement}
