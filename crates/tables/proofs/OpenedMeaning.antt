@@ -3,7 +3,7 @@
 use mathlib.Core.Path.{_≡_, refl, sym, ap, ap₂, _∙_}
 use mathlib.Core.Bool.{Bool, true, false, cond}
 use mathlib.Core.List.{List}
-use Prim.Native.Nat.{ℕ, zero, suc, _+_, _*_, _<_}
+use Prim.Native.Nat.{ℕ, zero, suc, _+_, _*_, _-_, _<_}
 use lib.Bits.{bitXor, xor-lt}
 use lib.Dec.{eqb, lit<}
 use Rattle.protocol.specs.Lists.{blockAt}
@@ -16,7 +16,7 @@ use Rattle.protocol.specs.Sections.{Sections}
 use Rattle.protocol.specs.Questions.{treeOf}
 use Rattle.protocol.specs.Verifier.{correctionAt, W}
 use Rattle.protocol.proofs.StringLaws.{bit-lt}
-use Rattle.strings.specs.Sums.{byteAt, xorSum}
+use Rattle.strings.specs.Sums.{byteAt}
 use Rattle.strings.proofs.SumLaws.{sum-same}
 use Rattle.strings.proofs.Meaning.{byte-sum, byte-bit, byte-times}
 use Rattle.lanes.specs.Lanes.{lanes}
@@ -37,8 +37,11 @@ module _ (s : Shape) (p : Sections) (opened : List ℕ) (c : ℕ) where
   abbrev w : ℕ
   w = wOf bits256 s
 
-  tree-of : (e : ℕ) → treeOf bits256 s opened e ≡ blockAt opened (255 * w) e
-  unfolding treeOf perOpened perTree
+  abbrev count : ℕ
+  count = perTree bits256
+
+  tree-of : (e : ℕ) → treeOf bits256 s opened e ≡ blockAt opened ((count - 1) * w) e
+  unfolding treeOf perOpened
   tree-of e = refl
 
   -- δ times a coordinate of C_e
@@ -57,17 +60,16 @@ module _ (s : Shape) (p : Sections) (opened : List ℕ) (c : ℕ) where
       (ap (λ a. byteOf (bits256 .K .base .R .mul a (bits256 .K .elem (bit leaf c)))) (sym (bits256 .K .elem-xor j δ))
       ∙ byte-times (bits256 .K) (bitXor j δ) (bit leaf c) (xor-lt 8 j δ k h) (bit-lt leaf c))
 
-  pub w-byte : (e δ : ℕ) → δ < 256 → byteOf (W bits256 s p e δ (treeOf bits256 s opened e) c) ≡ wByte opened (p .C) w e δ c
+  pub w-byte : (e δ : ℕ) → δ < count → byteOf (W bits256 s p e δ (treeOf bits256 s opened e) c) ≡ wByte (blockAt opened ((count - 1) * w) e) (p .C) count w e δ c
   unfolding W
   w-byte e δ h =
+      let d : δ < 256 = rw per-tree at h in
       ap (λ t. byteOf (W bits256 s p e δ t c)) (tree-of e)
       ∙ bits256 .K .byte-add _ (bits256 .K .base .R .mul (bits256 .K .elem δ) (correctionAt bits256 s p e c))
       ∙ ap₂ bitXor
-      (byte-sum (bits256 .K) (perTree bits256) _
-      ∙ ap (λ n. xorSum n (λ j. byteOf (cond (eqb j δ) (bits256 .K .base .R .𝟘) (bits256 .K .base .R .mul (bits256 .K .base .R .add (bits256 .K .elem j) (bits256 .K .elem δ)) (symbol bits256 (openedLeaf w δ (blockAt opened (255 * w) e) j) c))))) per-tree
-      ∙ sum-same 256 _ _ (λ j k. leaf-times δ j (openedLeaf w δ (blockAt opened (255 * w) e) j) h k))
-      (correction-times e δ h)
+      (byte-sum (bits256 .K) count _ ∙ sum-same count _ _ (λ j k. leaf-times δ j (openedLeaf w δ (blockAt opened ((count - 1) * w) e) j) d (rw per-tree at k)))
+      (correction-times e δ d)
 
-  pub table-w : (table Δ : List ℕ) (τ e : ℕ) → OpenedTableIs table opened Δ (p .C) τ w → e < τ → c < 8 * w → byteAt Δ e < 256
+  pub table-w : (table Δ : List ℕ) (τ e : ℕ) → OpenedTableIs table opened Δ (p .C) τ w count → e < τ → c < 8 * w → byteAt Δ e < count
       → byteAt table (c * lanes + e) ≡ byteOf (W bits256 s p e (byteAt Δ e) (treeOf bits256 s opened e) c)
   table-w table Δ τ e is l h d = is e c l h ∙ sym (w-byte e (byteAt Δ e) d)

@@ -8,8 +8,8 @@ use native.Mathlib.Nat.{mod-eq-of-lt}
 use native.Mathlib.Omega.{arith}
 use lib.Dec.{lit<}
 use lib.ListN.{length}
-use Rattle.protocol.specs.Lists.{allBelow, blockAt}
-use Rattle.protocol.specs.Strings.{bit, spareZero}
+use Rattle.protocol.specs.Lists.{blockAt}
+use Rattle.protocol.specs.Strings.{bit}
 use Rattle.protocol.specs.Alphabet.{sym as symbol}
 use Rattle.protocol.specs.Binary.{bits256}
 use Rattle.protocol.specs.Shape.{Shape, perTree, lOf, wOf}
@@ -26,6 +26,7 @@ use Rattle.strings.proofs.SumLaws.{sum-same, sum-lt, sum-none}
 use Rattle.strings.proofs.Meaning.{bitOf-sum, bit-is, byte-sum, byte-bit, byte-times}
 use Rattle.lanes.specs.Lanes.{lanes}
 use Rattle.tables.specs.Sums.{vByte, SumsAre, TableIs}
+use Rattle.tables.proofs.TreeLaws.{tree-bit}
 
 pub per-tree : perTree bits256 ≡ 256
 unfolding perTree
@@ -35,55 +36,57 @@ abbrev pub byteOf : bits256 .K .base .R .F → ℕ
 byteOf = bits256 .K .byte
 
 module _ (s : Shape) (leaves : List ℕ) (e c : ℕ) where
-  abbrev bitAt : ℕ → ℕ
-  bitAt j = bit (blockAt leaves (wOf bits256 s) (e * 256 + j)) c
+  abbrev w : ℕ
+  w = wOf bits256 s
 
-  pub u-bit : byteOf (u bits256 s leaves e c) ≡ xorSum 256 bitAt
+  abbrev count : ℕ
+  count = perTree bits256
+
+  abbrev leaf : ℕ → List ℕ
+  leaf j = blockAt leaves w (e * count + j)
+
+  abbrev tree : List ℕ
+  tree = blockAt leaves (count * w) e
+
+  u-bit : byteOf (u bits256 s leaves e c) ≡ xorSum count (λ j. bit (leaf j) c)
   unfolding u symbol leafAt
-  u-bit =
-      byte-sum (bits256 .K) (perTree bits256) _
-      ∙ ap (λ n. xorSum n (λ j. byteOf (bits256 .K .elem (bit (blockAt leaves (wOf bits256 s) (e * n + j)) c)))) per-tree
-      ∙ sum-same 256 _ bitAt (λ j h. byte-bit (bits256 .K) (bitAt j) (bit-lt (blockAt leaves (wOf bits256 s) (e * 256 + j)) c))
+  u-bit = byte-sum (bits256 .K) count _ ∙ sum-same count _ _ (λ j h. byte-bit (bits256 .K) (bit (leaf j) c) (bit-lt (leaf j) c))
 
-  pub v-byte : byteOf (v bits256 s leaves e c) ≡ vByte leaves (wOf bits256 s) e c
+  v-byte : c < 8 * w → byteOf (v bits256 s leaves e c) ≡ vByte tree count w c
   unfolding v symbol leafAt
-  v-byte =
-      byte-sum (bits256 .K) (perTree bits256) _
-      ∙ ap (λ n. xorSum n (λ j. byteOf (bits256 .K .base .R .mul (bits256 .K .elem j) (bits256 .K .elem (bit (blockAt leaves (wOf bits256 s) (e * n + j)) c))))) per-tree
-      ∙ sum-same 256 _ _ (λ j h. byte-times (bits256 .K) j (bitAt j) h (bit-lt (blockAt leaves (wOf bits256 s) (e * 256 + j)) c))
+  v-byte k =
+      byte-sum (bits256 .K) count _
+      ∙ sum-same count _ _ (λ j h. byte-times (bits256 .K) j (bit (leaf j) c) (rw per-tree at h) (bit-lt (leaf j) c) ∙ ap (λ x. j * x) (sym (tree-bit leaves count w e j h c k)))
 
   pub u-lt : byteOf (u bits256 s leaves e c) < 2
-  u-lt = rw u-bit (sum-lt 1 256 bitAt (lit< tt) (λ j h. bit-lt (blockAt leaves (wOf bits256 s) (e * 256 + j)) c))
+  u-lt = rw u-bit (sum-lt 1 count _ (lit< tt) (λ j h. bit-lt (leaf j) c))
 
   -- a coordinate of u is a bit
   pub u-symbol : bits256 .symbolOf (u bits256 s leaves e c) ≡ byteOf (u bits256 s leaves e c)
   u-symbol = mod-eq-of-lt u-lt
 
-  pub sums-u : (sums : List ℕ) (τ : ℕ) → SumsAre sums leaves τ (wOf bits256 s) → e < τ → c < 8 * wOf bits256 s → bit (blockAt sums (wOf bits256 s) e) c ≡ byteOf (u bits256 s leaves e c)
+  pub sums-u : (sums : List ℕ) (τ : ℕ) → SumsAre sums leaves τ w count → e < τ → c < 8 * w → bit (blockAt sums w e) c ≡ byteOf (u bits256 s leaves e c)
   sums-u sums τ are l h =
-      let k : c / 8 < wOf bits256 s = omega arith in
-      bit-is (blockAt sums (wOf bits256 s) e) c
-      ∙ ap (λ x. bitOf x (c % 8)) (row-byte sums (wOf bits256 s) e (c / 8) k ∙ are e (c / 8) l k)
-      ∙ bitOf-sum 256 _ (c % 8)
-      ∙ sum-same 256 _ bitAt (λ j i. ap (λ x. bitOf x (c % 8)) (sym (row-byte leaves (wOf bits256 s) (e * 256 + j) (c / 8) k)) ∙ sym (bit-is (blockAt leaves (wOf bits256 s) (e * 256 + j)) c))
+      let k : c / 8 < w = omega arith in
+      bit-is (blockAt sums w e) c
+      ∙ ap (λ x. bitOf x (c % 8)) (row-byte sums w e (c / 8) k ∙ are e (c / 8) l k)
+      ∙ bitOf-sum count _ (c % 8)
+      ∙ sum-same count _ _ (λ j i. ap (λ x. bitOf x (c % 8)) (sym (row-byte tree w j (c / 8) k)) ∙ sym (bit-is (blockAt tree w j) c) ∙ tree-bit leaves count w e j i c h)
       ∙ sym u-bit
 
-  pub table-v : (table : List ℕ) (τ : ℕ) → TableIs table leaves τ (wOf bits256 s) → e < τ → c < 8 * wOf bits256 s → byteAt table (c * lanes + e) ≡ byteOf (v bits256 s leaves e c)
-  table-v table τ is l h = is e c l h ∙ sym v-byte
+  pub table-v : (table : List ℕ) (τ : ℕ) → TableIs table leaves τ w count → e < τ → c < 8 * w → byteAt table (c * lanes + e) ≡ byteOf (v bits256 s leaves e c)
+  table-v table τ is l h = is e c l h ∙ sym (v-byte h)
 
   -- the spare bits of u are 0, as those of the leaves are
-  pub u-spare : leavesExact bits256 s (perTree bits256) leaves ≡ true → leavesSpare bits256 s (perTree bits256) leaves ≡ true
-      → e < s .τ → lOf bits256 s ≤ c → c < 8 * wOf bits256 s → byteOf (u bits256 s leaves e c) ≡ 0
+  pub u-spare : leavesExact bits256 s count leaves ≡ true → leavesSpare bits256 s count leaves ≡ true
+      → e < s .τ → lOf bits256 s ≤ c → c < 8 * w → byteOf (u bits256 s leaves e c) ≡ 0
   unfolding leavesExact leavesSpare rowsSpare wOf
   u-spare exact zeros l low high =
-      u-bit ∙ sum-same 256 bitAt (λ j. 0) (λ j h.
-      let row : e * 256 + j < s .τ * 256 = omega (arith, row-end e (s .τ) 256 l) in
-      spare-at (lOf bits256 s) (blockAt leaves (wOf bits256 s) (e * 256 + j)) (all-at (s .τ * 256) _ spare (e * 256 + j) row) c low
-      (rw (length-block leaves (wOf bits256 s) (e * 256 + j) (omega (arith, long, row-end (e * 256 + j) (s .τ * 256) (wOf bits256 s) row))) (omega arith)))
-      ∙ sum-none 256
+      u-bit ∙ sum-same count _ (λ j. 0) (λ j h.
+      let row : e * count + j < s .τ * count = omega (arith, row-end e (s .τ) count l) in
+      spare-at (lOf bits256 s) (leaf j) (all-at (s .τ * count) _ zeros (e * count + j) row) c low
+      (rw (length-block leaves w (e * count + j) (omega (arith, long, row-end (e * count + j) (s .τ * count) w row))) (omega arith)))
+      ∙ sum-none count
     where
-      long : length leaves ≡ s .τ * 256 * wOf bits256 s
-      long = eqb-eq _ _ exact ∙ ap (λ n. s .τ * n * wOf bits256 s) per-tree
-
-      spare : allBelow (s .τ * 256) (λ i. spareZero (blockAt leaves (wOf bits256 s) i) (lOf bits256 s)) ≡ true
-      spare = ap (λ n. allBelow (s .τ * n) (λ i. spareZero (blockAt leaves (wOf bits256 s) i) (lOf bits256 s))) (sym per-tree) ∙ zeros
+      long : length leaves ≡ s .τ * count * w
+      long = eqb-eq _ _ exact

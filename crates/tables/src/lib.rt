@@ -3,31 +3,40 @@ pub mod opened;
 mod parts;
 
 ghost use mathlib.Core.Path.{_≡_};
-ghost use Prim.Native.Nat.{ℕ, _+_, _*_, _<_, _≤_};
+ghost use Prim.Native.Nat.{ℕ, _+_, _*_, _^_, _<_, _≤_};
 ghost use lib.ListN.{length};
+ghost use Rattle.protocol.specs.Lists.{blockAt};
 ghost use Rattle.protocol.specs.Strings.{fromBits};
-ghost use Rattle.strings.specs.Sums.{byteAt, bitOf, xorSum};
+ghost use Rattle.strings.specs.Sums.{byteAt, bitOf};
 ghost use Rattle.strings.specs.Rows.{RowsKept};
 ghost use Rattle.lanes.specs.Lanes.{lanes, LaneIs, LanesKept};
-ghost use Rattle.tables.specs.Sums.{mostWidth, planesByte, planeByte, uByte, vByte, SumsAre, TableIs};
-use field::Gf256;
+ghost use Rattle.trees.specs.Trees.{TreeFits, TreeSummed};
+ghost use Rattle.tables.specs.Sums.{planesByte, uByte, vByte, NoPlanesFrom, TreeReady, RowReady, TreesReady, SumsAre, TableIs};
+use format::sizes::MOST_LEAF;
 use lanes::LANES;
 use parts::spread_parts;
 use strings::BITS;
 use strings::SIXTEEN;
+use trees::tree_sums;
 
-// The widest leaf that is served, in bytes: it bounds the planes, which stand on the stack.
-pub const MOST_WIDTH: usize = 128;
-
-// 01's u_e and v_e of one tree: u is the sum of its leaves, and plane p has the bits p of v, the sum of the leaves j
-// with bit p of j set. It needs a count whose low r bits are 0.
-pub fn leaf_sums(u: &mut [u8], planes: &mut [u8], r: usize, leaves: &[u8], count: usize, w: usize)
-    requires { ⌜ (length (now leaves) ≡ count * w) × (length (now u) ≡ w) × (length (now planes) ≡ r * w) × (r ≤ 8) ⌝ }
-    requires { ⌜ ((p : ℕ) → p < r → bitOf count p ≡ 0) × (count < 65536) ⌝ }
-    ensures { λ _. ⌜ ((b : ℕ) → b < w → byteAt (now (u .exit)) b ≡ xorSum count (λ j. byteAt (now (leaves .entry)) (j * w + b))) ⌝ }
-    ensures { λ _. ⌜ ((p b : ℕ) → p < r → b < w → byteAt (now (planes .exit)) (p * w + b) ≡ planeByte (now (leaves .entry)) count w p b) ⌝ }
+// The leaves of a tree, for a field of degree r.
+pub fn leaves_of(r: usize) -> usize
+    requires { ⌜ r ≤ 8 ⌝ }
+    ensures { λ n. ⌜ n ≡ 2 ^ r ⌝ }
 {
-    trees::tree_sums(u, planes, r, leaves, count, count, w);
+    1 << r
+}
+
+// The sums of one tree with leaf delta left out, in room for a plane to each bit of a byte: the planes from r on are 0.
+fn sum_tree(u: &mut [u8], planes: &mut [u8], tree: &[u8], delta: usize, r: usize)
+    requires { ⌜ (length (now planes) ≡ 8 * length (now u)) × (r ≤ 8) × TreeFits (now tree) (length (now u)) delta (2 ^ r) ⌝ }
+    ensures { λ _. ⌜ TreeSummed (now (tree .entry)) (length (now (u .entry))) delta (2 ^ r) r (now (u .exit)) (now (planes .exit)) (length (now (u .entry))) ⌝ }
+    ensures { λ _. ⌜ NoPlanesFrom r (length (now (u .entry))) (now (planes .exit)) ⌝ }
+{
+    let w = u.len();
+    let end = r * w;
+    tree_sums(u, &mut planes[..end], r, tree, leaves_of(r), delta, w);
+    strings::clear(&mut planes[end..]);
 }
 
 // The byte whose bit p is bit i of byte b of plane p.
@@ -37,7 +46,7 @@ fn gathered(planes: &[u8], w: usize, b: usize, i: usize) -> u8
 {
     let mut sum = 0u8;
     let mut p = 0usize;
-    while p < Gf256::DEGREE {
+    while p < BITS {
         sum ^= (planes[p * w + b] >> i) % 2 << p;
         p += 1;
     }
@@ -84,46 +93,57 @@ pub fn spread(table: &mut [u8], e: usize, planes: &[u8], w: usize)
     }
 }
 
-// Writes u_e and v_e of repetition e.
-fn load_tree(
+// 01's u_e and v_e of one tree: u takes the sum of its 2^r leaves, which are as long as u, and lane e of the table v_e.
+pub fn load_tree(
+    table: &mut [u8],
+    u: &mut [u8],
+    planes: &mut [u8],
+    tree: &[u8],
+    e: usize,
+    r: usize,
+)
+    requires { ⌜ TreeReady (now table) (now planes) (now tree) (length (now u)) e r ⌝ }
+    ensures { λ _. ⌜ ((b : ℕ) → b < length (now (u .entry)) → byteAt (now (u .exit)) b ≡ uByte (now (tree .entry)) (2 ^ r) (length (now (u .entry))) b) ⌝ }
+    ensures { λ _. ⌜ LaneIs e (8 * length (now (u .entry))) (vByte (now (tree .entry)) (2 ^ r) (length (now (u .entry)))) (now (table .exit)) ⌝ }
+    ensures { λ _. ⌜ LanesKept e (now (table .entry)) (now (table .exit)) ⌝ }
+{
+    let w = u.len();
+    sum_tree(u, planes, tree, leaves_of(r), r);
+    spread(table, e, planes, w);
+}
+
+// The same from the leaves of all trees, and u_e into its row of the sums.
+fn load_row(
     table: &mut [u8],
     sums: &mut [u8],
     planes: &mut [u8],
     leaves: &[u8],
     e: usize,
     w: usize,
+    r: usize,
 )
-    requires { ⌜ (length (now table) ≡ 8 * w * lanes) × (length (now planes) ≡ 8 * w) × (e < lanes) × (e * w + w ≤ length (now sums))
-        × (e * (256 * w) + 256 * w ≤ length (now leaves)) ⌝ }
-    ensures { λ _. ⌜ ((b : ℕ) → b < w → byteAt (now (sums .exit)) (e * w + b) ≡ uByte (now (leaves .entry)) w e b) ⌝ }
-    ensures { λ _. ⌜ LaneIs e (8 * w) (vByte (now (leaves .entry)) w e) (now (table .exit)) ⌝ }
+    requires { ⌜ RowReady (now table) (now planes) (now sums) (now leaves) w e r ⌝ }
+    ensures { λ _. ⌜ ((b : ℕ) → b < w → byteAt (now (sums .exit)) (e * w + b) ≡ uByte (blockAt (now (leaves .entry)) (2 ^ r * w) e) (2 ^ r) w b) ⌝ }
+    ensures { λ _. ⌜ LaneIs e (8 * w) (vByte (blockAt (now (leaves .entry)) (2 ^ r * w) e) (2 ^ r) w) (now (table .exit)) ⌝ }
     ensures { λ _. ⌜ RowsKept w e (now (sums .entry)) (now (sums .exit)) ⌝ }
     ensures { λ _. ⌜ LanesKept e (now (table .entry)) (now (table .exit)) ⌝ }
 {
-    let tree = strings::row_at(leaves, Gf256::SIZE * w, e);
+    let tree = strings::row_at(leaves, leaves_of(r) * w, e);
     let at = e * w;
-    leaf_sums(
-        &mut sums[at..at + w],
-        planes,
-        Gf256::DEGREE,
-        tree,
-        Gf256::SIZE,
-        w,
-    );
-    spread(table, e, planes, w);
+    load_tree(table, &mut sums[at..at + w], planes, tree, e, r);
 }
 
-// 01's u_e and v_e for every repetition e below tau, from the full leaves: u_e is row e of the sums, v_e is lane e of
-// the table.
-pub fn load_trees(table: &mut [u8], sums: &mut [u8], leaves: &[u8], tau: usize, w: usize)
-    requires { ⌜ (length (now table) ≡ 8 * w * lanes) × (length (now sums) ≡ tau * w) × (length (now leaves) ≡ tau * 256 * w) × (tau ≤ lanes) × (w ≤ mostWidth) ⌝ }
-    ensures { λ _. ⌜ SumsAre (now (sums .exit)) (now (leaves .entry)) tau w ⌝ }
-    ensures { λ _. ⌜ TableIs (now (table .exit)) (now (leaves .entry)) tau w ⌝ }
+// 01's u_e and v_e for every repetition e below tau, from the full leaves of w bytes, 2^r to a tree: u_e is row e of
+// the sums, v_e is lane e of the table.
+pub fn load_trees(table: &mut [u8], sums: &mut [u8], leaves: &[u8], tau: usize, w: usize, r: usize)
+    requires { ⌜ TreesReady (now table) (now sums) (now leaves) tau w r ⌝ }
+    ensures { λ _. ⌜ SumsAre (now (sums .exit)) (now (leaves .entry)) tau w (2 ^ r) ⌝ }
+    ensures { λ _. ⌜ TableIs (now (table .exit)) (now (leaves .entry)) tau w (2 ^ r) ⌝ }
 {
-    let mut planes = [0u8; Gf256::DEGREE * MOST_WIDTH];
+    let mut planes = [0u8; BITS * MOST_LEAF];
     let mut e = 0;
     while e < tau {
-        load_tree(table, sums, &mut planes[..Gf256::DEGREE * w], leaves, e, w);
+        load_row(table, sums, &mut planes[..BITS * w], leaves, e, w, r);
         e += 1;
     }
 }

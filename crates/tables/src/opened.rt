@@ -1,16 +1,16 @@
 // The verifier's W_e = Σ over j≠Δ_e of (j+Δ_e)·ℓ(e,j), plus Δ_e·C_e, from the opened leaves. With 0 put for the leaf
 // that is left out, W_e = v + Δ_e·(u + C_e), where u and v are the sums of the leaves as the prover has them. Nothing
 // that the verifier is lent is secret.
-ghost use mathlib.Core.Path.{_≡_};
-ghost use Prim.Native.Nat.{ℕ, _+_, _*_, _-_, _<_, _≤_};
+ghost use Prim.Native.Nat.{_+_, _*_, _-_, _^_, _<_, _≤_};
 ghost use lib.ListN.{length};
 ghost use Rattle.lanes.specs.Lanes.{lanes, LaneIs, LanesKept};
 ghost use Rattle.tables.specs.Opened.{wByte, CorrectionAdded, OpenedFits, OpenedInputs, OpenedTableIs};
-use super::MOST_WIDTH;
+use super::leaves_of;
 use super::spread;
-use field::Gf256;
+use super::sum_tree;
+use format::sizes::MOST_LEAF;
+use strings::BITS;
 use trees::absorb;
-use trees::tree_sums;
 
 // Adds C_e to u. C_0 is all zero and not sent, so that C_e is row e - 1 of the section.
 fn add_correction(u: &mut [u8], corrections: &[u8], e: usize)
@@ -23,29 +23,31 @@ fn add_correction(u: &mut [u8], corrections: &[u8], e: usize)
     }
 }
 
-// Writes W_e of repetition e.
-fn load_lane(
+// 01's W_e of one tree, from its 2^r - 1 opened leaves, which are as long as u: it is lane e of the table.
+pub fn load_lane(
     table: &mut [u8],
     u: &mut [u8],
     planes: &mut [u8],
-    opened: &[u8],
+    tree: &[u8],
     delta: usize,
     corrections: &[u8],
     e: usize,
+    r: usize,
 )
-    requires { ⌜ OpenedFits (now table) (now planes) (now opened) (now corrections) (length (now u)) e delta ⌝ }
-    ensures { λ _. ⌜ LaneIs e (8 * length (now (u .entry))) (wByte (now (opened .entry)) (now (corrections .entry)) (length (now (u .entry))) e delta) (now (table .exit)) ⌝ }
+    requires { ⌜ OpenedFits (now table) (now planes) (now tree) (now corrections) (length (now u)) e delta r ⌝ }
+    ensures { λ _. ⌜ LaneIs e (8 * length (now (u .entry)))
+        (wByte (now (tree .entry)) (now (corrections .entry)) (2 ^ r) (length (now (u .entry))) e delta) (now (table .exit)) ⌝ }
     ensures { λ _. ⌜ LanesKept e (now (table .entry)) (now (table .exit)) ⌝ }
 {
     let w = u.len();
-    let tree = strings::row_at(opened, (Gf256::SIZE - 1) * w, e);
-    tree_sums(u, planes, Gf256::DEGREE, tree, Gf256::SIZE, delta, w);
+    sum_tree(u, planes, tree, delta, r);
     add_correction(u, corrections, e);
-    absorb(planes, Gf256::DEGREE, delta, u);
+    absorb(planes, BITS, delta, u);
     spread(table, e, planes, w);
 }
 
-// 01's W_e for every repetition e below tau, from the opened leaves, Δ and the section C: W_e is lane e of the table.
+// 01's W_e for every repetition e below tau, from the opened leaves of w bytes, 2^r - 1 to a tree, Δ and the section C:
+// W_e is lane e of the table.
 pub fn load_opened(
     table: &mut [u8],
     opened: &[u8],
@@ -53,22 +55,25 @@ pub fn load_opened(
     corrections: &[u8],
     tau: usize,
     w: usize,
+    r: usize,
 )
-    requires { ⌜ OpenedInputs (now table) (now opened) (now delta) (now corrections) tau w ⌝ }
-    ensures { λ _. ⌜ OpenedTableIs (now (table .exit)) (now (opened .entry)) (now (delta .entry)) (now (corrections .entry)) tau w ⌝ }
+    requires { ⌜ OpenedInputs (now table) (now opened) (now delta) (now corrections) tau w r ⌝ }
+    ensures { λ _. ⌜ OpenedTableIs (now (table .exit)) (now (opened .entry)) (now (delta .entry)) (now (corrections .entry)) tau w (2 ^ r) ⌝ }
 {
-    let mut u = [0u8; MOST_WIDTH];
-    let mut planes = [0u8; Gf256::DEGREE * MOST_WIDTH];
+    let len = (leaves_of(r) - 1) * w;
+    let mut u = [0u8; MOST_LEAF];
+    let mut planes = [0u8; BITS * MOST_LEAF];
     let mut e = 0;
     while e < tau {
         load_lane(
             table,
             &mut u[..w],
-            &mut planes[..Gf256::DEGREE * w],
-            opened,
+            &mut planes[..BITS * w],
+            strings::row_at(opened, len, e),
             strings::wide(delta[e]),
             corrections,
             e,
+            r,
         );
         e += 1;
     }

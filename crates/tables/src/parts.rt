@@ -7,17 +7,17 @@ ghost use Rattle.protocol.specs.Lists.{blockAt};
 ghost use Rattle.protocol.specs.Strings.{bit, fromBits};
 ghost use Rattle.strings.specs.Sums.{byteAt, bitOf};
 ghost use Rattle.lanes.specs.Lanes.{lanes, LaneIs, LanesKept};
-ghost use Rattle.tables.specs.Sums.{planesByte};
+ghost use Rattle.tables.specs.Sums.{eightRows, planesByte};
 use chunks::turns::EIGHT_ROWS;
 use chunks::turns::turn_rows;
 use lanes::LANES;
 use strings::BITS;
 use strings::SIXTEEN;
 
-// Writes lane e of 128 coordinates, from c on.
+// Writes lane e of as many coordinates as there are columns, from c on.
 fn put_lane(table: &mut [u8], e: usize, c: usize, columns: &[u8])
-    requires { ⌜ ((c + 128) * lanes ≤ length (now table)) × (length (now columns) ≡ 128) × (e < lanes) ⌝ }
-    ensures { λ _. ⌜ ((i : ℕ) → i < 128 → byteAt (now (table .exit)) ((c + i) * lanes + e) ≡ fromBits 8 (bitOf (byteAt (now (columns .entry)) i))) ⌝ }
+    requires { ⌜ ((c + eightRows) * lanes ≤ length (now table)) × (length (now columns) ≡ eightRows) × (e < lanes) ⌝ }
+    ensures { λ _. ⌜ ((i : ℕ) → i < eightRows → byteAt (now (table .exit)) ((c + i) * lanes + e) ≡ fromBits 8 (bitOf (byteAt (now (columns .entry)) i))) ⌝ }
     ensures { λ _. ⌜ ((d q : ℕ) → q < lanes → (q ≡ e → d < c) → byteAt (now (table .exit)) (d * lanes + q) ≡ byteAt (now (table .entry)) (d * lanes + q)) ⌝ }
 {
     let mut i = 0;
@@ -30,7 +30,7 @@ fn put_lane(table: &mut [u8], e: usize, c: usize, columns: &[u8])
 // Writes lane e of the coordinates of sixteen bytes, from `at` on.
 fn spread_part(table: &mut [u8], e: usize, planes: &[u8], w: usize, at: usize)
     requires { ⌜ (length (now table) ≡ 8 * w * lanes) × (length (now planes) ≡ 8 * w) × (e < lanes) × (at + 16 ≤ w) ⌝ }
-    ensures { λ _. ⌜ ((i : ℕ) → i < 128 → byteAt (now (table .exit)) ((at * 8 + i) * lanes + e) ≡ fromBits 8 (λ p. bit (blockAt (now (planes .entry)) w p) (at * 8 + i))) ⌝ }
+    ensures { λ _. ⌜ ((i : ℕ) → i < eightRows → byteAt (now (table .exit)) ((at * 8 + i) * lanes + e) ≡ fromBits 8 (λ p. bit (blockAt (now (planes .entry)) w p) (at * 8 + i))) ⌝ }
     ensures { λ _. ⌜ ((c q : ℕ) → q < lanes → (q ≡ e → c < at * 8) → byteAt (now (table .exit)) (c * lanes + q) ≡ byteAt (now (table .entry)) (c * lanes + q)) ⌝ }
 {
     let mut columns = [0u8; EIGHT_ROWS];
