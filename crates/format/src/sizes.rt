@@ -3,7 +3,9 @@ ghost use mathlib.Core.Path.{_≡_};
 ghost use mathlib.Core.Bool.{true};
 ghost use Prim.Native.Nat.{_+_, _*_, _<_, _≤_, _^_};
 ghost use Rattle.protocol.specs.Strings.{bytesFor};
-ghost use Rattle.protocol.specs.Shape.{within, limits, kOf, lOf, wOf};
+ghost use Rattle.algebra.specs.Coded.{Coded};
+ghost use Rattle.protocol.specs.Alphabet.{Alphabet};
+ghost use Rattle.protocol.specs.Shape.{within, limits, maskAt, kOf, lOf, wOf};
 ghost use Rattle.protocol.specs.Key.{keyLengths};
 ghost use Rattle.protocol.specs.Sections.{lengths, commitLengths, hashLengths, batchLengths};
 ghost use Rattle.format.specs.Sizes.{alphabetFor, shapeFor, SizesOf};
@@ -91,6 +93,20 @@ pub fn bytes_for(bits: usize) -> usize
     ensures { λ r. ⌜ r ≡ bytesFor bits ⌝ }
 {
     (bits + 7) / BITS
+}
+
+// The degree of the field.
+pub fn degree_of(s: Sizes) -> usize
+    ensures { λ r. ⌜ r ≡ alphabetFor s .K .degree ⌝ }
+{
+    Gf256::DEGREE
+}
+
+// The first mask coordinate of repetition e. The mask coordinates serve every repetition.
+pub fn mask_at(s: Sizes, e: usize) -> usize
+    ensures { λ r. ⌜ r ≡ maskAt (alphabetFor s) (shapeFor s) e ⌝ }
+{
+    s.n
 }
 
 // k = n + 8: the coordinates that a row of H′ covers.

@@ -4,19 +4,23 @@
 --   LaneIs e n f T == coordinates f 0, .., f (n - 1) stand in lane e;
 --     LanesKept e old new == the lanes other than e are as they were
 --   LanesAdded n f old new == to each of the first n lanes e, f e is added
---   maskLane T n e == Σ α^s · coordinate n + s, s below the field's degree, in repetition e
---   maskBits u n == the same of a string of bits
+--   maskLane T at e == Σ α^i · coordinate at + i, i below the field's degree, in repetition e
+--   maskBits u at == the same of a string of bits
+--   firstMask s e == the first mask coordinate of repetition e, for a key of the sizes s
+--   MasksIn s T, MaskBitsIn s u == the mask coordinates of every repetition are in the table, and in the string
 -- Assumes nothing.
 use mathlib.Core.Path.{_≡_}
 use mathlib.Core.List.{List}
-use Prim.Native.Nat.{ℕ, _+_, _*_, _<_}
+use Prim.Native.Nat.{ℕ, _+_, _*_, _<_, _≤_}
 use lib.ListN.{length}
 use lib.Bits.{bitXor}
-use Rattle.protocol.specs.Shape.{mostRepetitions}
+use Rattle.protocol.specs.Shape.{mostRepetitions, maskAt}
 use Rattle.algebra.specs.Coded.{mulByte}
 use Rattle.field.specs.Gf256.{gf256, maskElement}
 use Rattle.protocol.specs.Strings.{bit}
 use Rattle.strings.specs.Sums.{byteAt, xorSum}
+use Rattle.format.specs.Sizes.{alphabetFor, shapeFor}
+use Rattle.format.specs.declared.sizes.Sizes.{Sizes}
 
 abbrev pub lanes : ℕ
 lanes = mostRepetitions
@@ -34,7 +38,16 @@ abbrev pub LanesAdded : ℕ → (ℕ → ℕ) → List ℕ → List ℕ → Type
 LanesAdded n f old new = (e : ℕ) → e < n → byteAt new e ≡ bitXor (byteAt old e) (f e)
 
 abbrev pub maskLane : List ℕ → ℕ → ℕ → ℕ
-maskLane T n e = xorSum (gf256 .degree) (λ s. mulByte gf256 (maskElement s) (laneAt T (n + s) e))
+maskLane T at e = xorSum (gf256 .degree) (λ i. mulByte gf256 (maskElement i) (laneAt T (at + i) e))
 
 abbrev pub maskBits : List ℕ → ℕ → ℕ
-maskBits u n = xorSum (gf256 .degree) (λ s. mulByte gf256 (maskElement s) (bit u (n + s)))
+maskBits u at = xorSum (gf256 .degree) (λ i. mulByte gf256 (maskElement i) (bit u (at + i)))
+
+abbrev pub firstMask : Sizes → ℕ → ℕ
+firstMask s e = maskAt (alphabetFor s) (shapeFor s) e
+
+abbrev pub MasksIn : Sizes → List ℕ → Type 0
+MasksIn s T = (s .tau ≤ lanes) × ((e : ℕ) → e < s .tau → (firstMask s e + gf256 .degree) * lanes ≤ length T)
+
+abbrev pub MaskBitsIn : Sizes → List ℕ → Type 0
+MaskBitsIn s u = (s .tau ≤ lanes) × ((e : ℕ) → e < s .tau → (firstMask s e + gf256 .degree ≤ length u * 8) × (firstMask s e < 65536))

@@ -7,9 +7,11 @@ ghost use lib.Bits.{bitXor};
 ghost use Rattle.algebra.specs.Coded.{mulByte};
 ghost use Rattle.field.specs.Gf256.{gf256};
 ghost use Rattle.strings.specs.Sums.{byteAt};
-ghost use Rattle.lanes.specs.Lanes.{lanes, maskLane, maskBits};
+ghost use Rattle.lanes.specs.Lanes.{lanes, laneAt, LanesAdded, maskLane, maskBits, firstMask, MasksIn, MaskBitsIn};
 use field::Gf256;
+use format::Sizes;
 use format::sizes::MOST_REPETITIONS;
+use format::sizes::mask_at;
 
 // As many as a key may have repetitions (01: 1..48). Lanes from a key's own number on hold anything. The stride is
 // fixed, so that loops over it have a constant length.
@@ -49,29 +51,58 @@ pub fn add_masked(acc: &mut [u8], bit: u8, src: &[u8])
     }
 }
 
-// acc[e] ^= Σ α^s·T[n + s][e]: the mask A*₀ of each repetition (01, prover's rules).
-pub fn add_mask(acc: &mut [u8], table: &[u8], n: usize)
-    requires { ⌜ (length (now acc) ≡ lanes) × ((n + gf256 .degree) * lanes ≤ length (now table)) ⌝ }
-    ensures { λ _. ⌜ ((e : ℕ) → e < lanes → byteAt (now (acc .exit)) e ≡ bitXor (byteAt (now (acc .entry)) e) (maskLane (now (table .entry)) n e)) ⌝ }
+// row[e] = mask coordinate i of repetition e.
+fn gather_mask(row: &mut [u8], table: &[u8], i: usize, s: Sizes)
+    requires { ⌜ (length (now row) ≡ lanes) × MasksIn s (now table) × (i < gf256 .degree) ⌝ }
+    ensures { λ _. ⌜ ((e : ℕ) → e < s .tau → byteAt (now (row .exit)) e ≡ laneAt (now (table .entry)) (firstMask s e + i) e) ⌝ }
 {
-    let mut s = 0;
-    while s < Gf256::DEGREE {
-        let weight = [Gf256::mask_element(s); LANES];
-        accumulate(acc, &weight, strings::row_at(table, LANES, n + s));
-        s += 1;
+    let tau = s.tau;
+    let mut e = 0;
+    while e < tau {
+        row[e] = table[(mask_at(s, e) + i) * LANES + e];
+        e += 1;
     }
 }
 
-// Σ α^s·u[n + s]: the mask A*₁, the same for every repetition (01, prover's rules).
-pub fn mask_byte(u: &[u8], n: usize) -> u8
-    requires { ⌜ (n + gf256 .degree ≤ length (now u) * 8) × (n < 65536) ⌝ }
-    ensures { λ r. ⌜ r ≡ maskBits (now (u .entry)) n ⌝ }
+// acc[e] ^= Σ α^i·T[at + i][e], where `at` is the first mask coordinate of repetition e: its mask A*₀ (01, prover's
+// rules).
+pub fn add_masks(acc: &mut [u8], table: &[u8], s: Sizes)
+    requires { ⌜ (length (now acc) ≡ lanes) × MasksIn s (now table) ⌝ }
+    ensures { λ _. ⌜ LanesAdded (s .tau) (λ e. maskLane (now (table .entry)) (firstMask s e) e) (now (acc .entry)) (now (acc .exit)) ⌝ }
+{
+    let mut i = 0;
+    while i < Gf256::DEGREE {
+        let weight = [Gf256::mask_element(i); LANES];
+        let mut row = [0u8; LANES];
+        gather_mask(&mut row, table, i, s);
+        accumulate(acc, &weight, &row);
+        i += 1;
+    }
+}
+
+// Σ α^i·u[at + i].
+fn mask_byte(u: &[u8], at: usize) -> u8
+    requires { ⌜ (at + gf256 .degree ≤ length (now u) * 8) × (at < 65536) ⌝ }
+    ensures { λ r. ⌜ r ≡ maskBits (now (u .entry)) at ⌝ }
 {
     let mut sum: u8 = 0;
-    let mut s = 0;
-    while s < Gf256::DEGREE {
-        sum ^= Gf256::multiply(Gf256::mask_element(s), strings::bit_at(u, n + s));
-        s += 1;
+    let mut i = 0;
+    while i < Gf256::DEGREE {
+        sum ^= Gf256::multiply(Gf256::mask_element(i), strings::bit_at(u, at + i));
+        i += 1;
     }
     sum
+}
+
+// acc[e] ^= Σ α^i·u[at + i], where `at` is the first mask coordinate of repetition e: its mask A*₁ (01, prover's rules).
+pub fn add_mask_bits(acc: &mut [u8], u: &[u8], s: Sizes)
+    requires { ⌜ (length (now acc) ≡ lanes) × MaskBitsIn s (now u) ⌝ }
+    ensures { λ _. ⌜ LanesAdded (s .tau) (λ e. maskBits (now (u .entry)) (firstMask s e)) (now (acc .entry)) (now (acc .exit)) ⌝ }
+{
+    let tau = s.tau;
+    let mut e = 0;
+    while e < tau {
+        acc[e] ^= mask_byte(u, mask_at(s, e));
+        e += 1;
+    }
 }

@@ -6,7 +6,7 @@ use Prim.Native.Nat.{ℕ, _+_, _*_, _≤_, _<_}
 use native.Mathlib.Omega.{arith}
 use lib.ListN.{length, take}
 use Rattle.protocol.specs.Binary.{bits256}
-use Rattle.protocol.specs.Shape.{Shape, kOf, lOf, wOf}
+use Rattle.protocol.specs.Shape.{Shape, perTree, kOf, lOf, wOf}
 use Rattle.protocol.specs.Key.{sectionA, sectionB}
 use Rattle.protocol.specs.Prover.{qs0, qs1, qs0Section, qs1Section}
 use Rattle.strings.specs.Sums.{byteAt}
@@ -18,7 +18,7 @@ use Rattle.forms.specs.Batch.{qs0Byte, qs1Byte}
 use Rattle.forms.proofs.FormsMeaning.{qs0-is, qs1-is}
 use Rattle.strings.proofs.TableLaws.{prefix-table}
 
-module _ (s : Shape) (leaves key χ tab out : List ℕ) (is : TableIs tab leaves (s .τ) (wOf bits256 s)) (long : s .τ ≤ length out) where
+module _ (s : Shape) (leaves key χ tab out : List ℕ) (is : TableIs tab leaves (s .τ) (wOf bits256 s) (perTree bits256)) (long : s .τ ≤ length out) where
   -- a hashed coordinate is in a leaf
   inside : (c : ℕ) → c < kOf bits256 s → c < 8 * wOf bits256 s
   unfolding lOf

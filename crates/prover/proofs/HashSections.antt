@@ -9,7 +9,7 @@ use lib.ListN.{length, getD}
 use Rattle.protocol.specs.Lists.{table, blockAt}
 use Rattle.protocol.specs.Strings.{bytesFor}
 use Rattle.protocol.specs.Binary.{bits256}
-use Rattle.protocol.specs.Shape.{Shape, kOf, lOf, wOf}
+use Rattle.protocol.specs.Shape.{Shape, perTree, kOf, lOf, wOf}
 use Rattle.protocol.specs.Forms.{hash}
 use Rattle.protocol.specs.Prover.{v, ṼSection}
 use Rattle.protocol.specs.Questions.{hExact}
@@ -25,7 +25,7 @@ use Rattle.questions.specs.Facts.{HashForm}
 use Rattle.strings.proofs.TableLaws.{rows-table}
 use Rattle.hash.proofs.HashMeaning.{hash-lane-is}
 
-pub hashed-are : (s : Shape) (leaves H′ tab out : List ℕ) → HashForm bits256 s H′ → TableIs tab leaves (s .τ) (wOf bits256 s) → length out ≡ s .τ * s .t
+pub hashed-are : (s : Shape) (leaves H′ tab out : List ℕ) → HashForm bits256 s H′ → TableIs tab leaves (s .τ) (wOf bits256 s) (perTree bits256) → length out ≡ s .τ * s .t
     → ((e r : ℕ) → e < s .τ → r < s .t → byteAt out (e * s .t + r) ≡ hashLane H′ (bytesFor (kOf bits256 s)) (kOf bits256 s) tab r e)
     → out ≡ ṼSection bits256 s leaves H′
 unfolding ṼSection

@@ -22,19 +22,19 @@ use Rattle.questions.specs.Asking.{SizedKey}
 use Rattle.questions.specs.Facts.{KeyFacts, LeavesForm}
 use Rattle.prover.specs.Loaded.{Buffers}
 
-pub leaves-long : (s : Shape) (leaves : List ℕ) → LeavesForm bits256 s leaves → length leaves ≡ s .τ * 256 * wOf bits256 s
-leaves-long s leaves f = leaves-length bits256 s leaves (f .leaves-exact) ∙ ap (λ (n : ℕ). s .τ * n * wOf bits256 s) per-tree
+pub leaves-long : (s : Shape) (leaves : List ℕ) → LeavesForm bits256 s leaves → length leaves ≡ s .τ * perTree bits256 * wOf bits256 s
+leaves-long s leaves f = leaves-length bits256 s leaves (f .leaves-exact)
 
 -- what the first part of a buffer holds, the buffer holds
-pub sums-more : (p q leaves : List ℕ) (τ w : ℕ) → length p ≡ τ * w → SumsAre p leaves τ w → SumsAre (p ++ q) leaves τ w
-sums-more p q leaves τ w long are e b l h = List·getD-append p q 0 (e * w + b) (omega (arith, long, row-end e τ w l)) ∙ are e b l h
+pub sums-more : (p q leaves : List ℕ) (τ w count : ℕ) → length p ≡ τ * w → SumsAre p leaves τ w count → SumsAre (p ++ q) leaves τ w count
+sums-more p q leaves τ w count long are e b l h = List·getD-append p q 0 (e * w + b) (omega (arith, long, row-end e τ w l)) ∙ are e b l h
 
-pub table-more : (p q leaves : List ℕ) (τ w : ℕ) → τ ≤ lanes → length p ≡ 8 * w * lanes → TableIs p leaves τ w → TableIs (p ++ q) leaves τ w
-table-more p q leaves τ w few long is e c l h = List·getD-append p q 0 (c * lanes + e) (omega (arith, long, row-end c (8 * w) lanes h)) ∙ is e c l h
+pub table-more : (p q leaves : List ℕ) (τ w count : ℕ) → τ ≤ lanes → length p ≡ 8 * w * lanes → TableIs p leaves τ w count → TableIs (p ++ q) leaves τ w count
+table-more p q leaves τ w count few long is e c l h = List·getD-append p q 0 (c * lanes + e) (omega (arith, long, row-end c (8 * w) lanes h)) ∙ is e c l h
 
 -- and so does its first part, as far as the table goes
-pub table-less : (tab leaves : List ℕ) (τ w : ℕ) → τ ≤ lanes → TableIs tab leaves τ w → TableIs (take (8 * w * lanes) tab) leaves τ w
-table-less tab leaves τ w few is e c l h = getD-take (8 * w * lanes) tab (c * lanes + e) 0 (omega (arith, row-end c (8 * w) lanes h)) ∙ is e c l h
+pub table-less : (tab leaves : List ℕ) (τ w count : ℕ) → τ ≤ lanes → TableIs tab leaves τ w count → TableIs (take (8 * w * lanes) tab) leaves τ w count
+table-less tab leaves τ w count few is e c l h = getD-take (8 * w * lanes) tab (c * lanes + e) 0 (omega (arith, row-end c (8 * w) lanes h)) ∙ is e c l h
 
 -- a key whose questions got a yes has its sections
 pub key-form : (s : Shape) (key : List ℕ) → KeyFacts bits256 s key → SizedKey bits256 s key

@@ -66,14 +66,14 @@ width-is s = refl
 abbrev pub IsU : Shape → List ℕ → List ℕ → Type 0
 IsU s leaves row = (c : ℕ) → c < 8 * wOf bits256 s → bit row c ≡ byteOf (u bits256 s leaves 0 c)
 
-pub first-is-u : (s : Shape) (leaves sums : List ℕ) → 0 < s .τ → SumsAre sums leaves (s .τ) (wOf bits256 s) → IsU s leaves (blockAt sums (wOf bits256 s) 0)
+pub first-is-u : (s : Shape) (leaves sums : List ℕ) → 0 < s .τ → SumsAre sums leaves (s .τ) (wOf bits256 s) (perTree bits256) → IsU s leaves (blockAt sums (wOf bits256 s) 0)
 first-is-u s leaves sums pos are c h = sums-u s leaves 0 c sums (s .τ) are pos h
 
 module _ (s : Shape) (leaves : List ℕ) where
   abbrev w : ℕ
   w = wOf bits256 s
 
-  module _ (out sums : List ℕ) (are : SumsAre sums leaves (s .τ) w) (written : CorrectionsAre out sums (s .τ - 1) w) where
+  module _ (out sums : List ℕ) (are : SumsAre sums leaves (s .τ) w (perTree bits256)) (written : CorrectionsAre out sums (s .τ - 1) w) where
     correction-bit : (e c : ℕ) → e < s .τ - 1 → c < 8 * w
         → bit (blockAt out w e) c ≡ bitXor (byteOf (u bits256 s leaves (suc e) c)) (byteOf (u bits256 s leaves 0 c))
     correction-bit e c l h =

@@ -9,7 +9,7 @@ use mathlib.Core.List.{List}
 use Prim.Native.Nat.{ℕ, _*_, _≤_}
 use lib.ListN.{length}
 use Rattle.protocol.specs.Alphabet.{Alphabet}
-use Rattle.protocol.specs.Shape.{Shape, limits, wOf}
+use Rattle.protocol.specs.Shape.{Shape, limits, perTree, wOf}
 use Rattle.lanes.specs.Lanes.{lanes}
 use Rattle.tables.specs.Sums.{SumsAre, TableIs}
 use Rattle.questions.specs.Facts.{LeavesForm}
@@ -24,5 +24,5 @@ LoadReady A s leaves table sums = (limits s ≡ true) × LeavesForm A s leaves �
 pub record Loaded (A : Alphabet) (s : Shape) (leaves table sums : List ℕ) : Type 0 where
   pub leaves-form : LeavesForm A s leaves
   pub buffers : Buffers A s table sums
-  pub sums-are : SumsAre sums leaves (s .τ) (wOf A s)
-  pub table-is : TableIs table leaves (s .τ) (wOf A s)
+  pub sums-are : SumsAre sums leaves (s .τ) (wOf A s) (perTree A)
+  pub table-is : TableIs table leaves (s .τ) (wOf A s) (perTree A)

@@ -10,6 +10,7 @@ ghost use Rattle.questions.specs.Facts.{CommitFacts, HashFacts, BatchFacts, Pro
 ghost use Rattle.prover.specs.Steps.{commitFrame, hashFrame, batchFrame, proofFrame, RestReady, RestWritten};
 use format::Sizes;
 use format::sizes::MOST_LEAF;
+use format::sizes::degree_of;
 use format::sizes::leaf_bytes;
 use lanes::LANES;
 use sections::outputs::commit_bytes;
@@ -37,6 +38,7 @@ fn load(table: &mut [u8], sums: &mut [u8], leaves: &[u8], s: Sizes)
         leaves,
         tau,
         w,
+        degree_of(s),
     );
 }
 

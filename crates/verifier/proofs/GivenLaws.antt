@@ -27,8 +27,8 @@ challenge-of : (s : Shape) (Δ : List ℕ) → ΔExact bits256 s Δ ≡ true →
 unfolding ΔExact
 challenge-of s Δ h = eqb-eq _ _ h
 
-opened-of : (s : Shape) (opened : List ℕ) → leavesExact bits256 s (perOpened bits256) opened ≡ true → length opened ≡ s .τ * 255 * wOf bits256 s
-unfolding leavesExact perOpened perTree
+opened-of : (s : Shape) (opened : List ℕ) → leavesExact bits256 s (perOpened bits256) opened ≡ true → length opened ≡ s .τ * perOpened bits256 * wOf bits256 s
+unfolding leavesExact
 opened-of s opened h = eqb-eq _ _ h
 
 -- from the facts of the key, and the acceptance of the questions on the other inputs
@@ -61,5 +61,5 @@ all-asked s key Δ H′ χ opened proof e {a} {b} {c} {d} of-key of-inputs of-pr
 
 -- over a width that is w, and corrections that are C
 pub opened-is : (s : Shape) (Δ opened proof T C : List ℕ) (w : ℕ) → w ≡ wOf bits256 s → C ≡ sectionsIn bits256 s proof .C → length T ≡ 8 * wOf bits256 s * lanes
-    → OpenedTableIs T opened Δ C (s .τ) w → Opened bits256 s Δ opened proof T
+    → OpenedTableIs T opened Δ C (s .τ) w (perTree bits256) → Opened bits256 s Δ opened proof T
 opened-is s Δ opened proof T C w e f long is = record { table-length = long; table-is = rw (e, f) at is }

@@ -7,7 +7,7 @@ use mathlib.Core.List.{List, [], _∷_}
 use Prim.Native.Nat.{ℕ, _*_}
 use lib.ListN.{length}
 use Rattle.protocol.specs.Alphabet.{Alphabet}
-use Rattle.protocol.specs.Shape.{Shape, wOf}
+use Rattle.protocol.specs.Shape.{Shape, perOpened, wOf}
 use Rattle.protocol.specs.Answers.{Question}
 use Rattle.protocol.specs.Questions.{q14, q15}
 use Rattle.questions.specs.Facts.{HashForm, KeyFacts, ProofForm}
@@ -17,7 +17,7 @@ pub record VerifyFacts (A : Alphabet) (s : Shape) (key Δ H′ χ opened proof :
   pub of-challenge : length Δ ≡ s .τ
   pub of-hash : HashForm A s H′
   pub of-batching : length χ ≡ s .τ * s .m
-  pub of-opened : length opened ≡ s .τ * 255 * wOf A s
+  pub of-opened : length opened ≡ s .τ * perOpened A * wOf A s
   pub of-proof : ProofForm A s proof
 
 abbrev pub checkQuestions : Alphabet → Shape → List ℕ → List ℕ → List ℕ → List ℕ → List ℕ → List ℕ → List Question

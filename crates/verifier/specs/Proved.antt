@@ -11,7 +11,7 @@ use Prim.Native.Nat.{ℕ, _*_}
 use lib.ListN.{length}
 use Rattle.protocol.specs.Lists.{firstNot}
 use Rattle.protocol.specs.Alphabet.{Alphabet}
-use Rattle.protocol.specs.Shape.{Shape, wOf}
+use Rattle.protocol.specs.Shape.{Shape, perTree, wOf}
 use Rattle.protocol.specs.Sections.{sectionsIn}
 use Rattle.protocol.specs.Questions.{consistentIn, productIn}
 use Rattle.lanes.specs.Lanes.{lanes}
@@ -19,7 +19,7 @@ use Rattle.tables.specs.Opened.{OpenedTableIs}
 
 pub record Opened (A : Alphabet) (s : Shape) (Δ opened proof table : List ℕ) : Type 0 where
   pub table-length : length table ≡ 8 * wOf A s * lanes
-  pub table-is : OpenedTableIs table opened Δ (sectionsIn A s proof .C) (s .τ) (wOf A s)
+  pub table-is : OpenedTableIs table opened Δ (sectionsIn A s proof .C) (s .τ) (wOf A s) (perTree A)
 
 abbrev pub FirstInconsistent : Alphabet → Shape → List ℕ → List ℕ → List ℕ → List ℕ → ℕ → Type 0
 FirstInconsistent A s Δ H′ proof table r = (opened : List ℕ) → Opened A s Δ opened proof table → r ≡ firstNot (s .τ) (consistentIn A s Δ H′ opened proof)

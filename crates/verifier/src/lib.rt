@@ -20,6 +20,7 @@ use format::Reason;
 use format::Verdict;
 use format::sizes::MOST_LEAF;
 use format::sizes::Sizes;
+use format::sizes::degree_of;
 use format::sizes::leaf_bytes;
 use format::sizes::sizes_of;
 use format::verdicts::answer;
@@ -58,6 +59,7 @@ fn ask_checks(
         proof_section(proof, places, C),
         tau,
         w,
+        degree_of(s),
     );
     let inconsistent = check_consistency(table, matrix, delta, proof, places, s);
     let consistent = answer(Reason::Inconsistent, inconsistent, tau);

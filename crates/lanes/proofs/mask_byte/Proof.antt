@@ -15,10 +15,10 @@ use Rattle.lanes.proofs.mask_byte.Statement.{statement}
 use Rattle.lanes.proofs.mask_byte.Tie as tie
 
 abbrev Inv-loop : tie.InvT-loop
-Inv-loop u n sum₀ s₀ sum s = (s ≤ 8) × (sum ≡ xorSum s (λ i. mulByte gf256 (maskElement i) (bit u (n + i))))
+Inv-loop u at sum₀ i₀ sum i = (i ≤ 8) × (sum ≡ xorSum i (λ k. mulByte gf256 (maskElement k) (bit u (at + k))))
 
 abbrev μ-loop : tie.MeasureT-loop
-μ-loop u n sum₀ s₀ sum s = 8 - s
+μ-loop u at sum₀ i₀ sum i = 8 - i
 
 loop-holds : tie.Need-loop-holds Inv-loop μ-loop
 unfolding xorSum
@@ -36,8 +36,8 @@ bit-at-requires c κs = search needs
 multiply-requires : tie.Need-multiply-requires Inv-loop μ-loop
 multiply-requires c κs = search needs
 
-add-s : tie.Need-add-s Inv-loop μ-loop
-add-s c = search needs
+add-i : tie.Need-add-i Inv-loop μ-loop
+add-i c = search needs
 
 loop-less : tie.Need-loop-less Inv-loop μ-loop
 loop-less c = search needs
@@ -46,15 +46,15 @@ loop-again : tie.Need-loop-again Inv-loop μ-loop
 loop-again c =
     let a = c .before .before .before .before .before .before .args in
     let l = c .before .before .before .before .loop in
-    let f : ℕ → ℕ = λ i. mulByte gf256 (maskElement i) (bit (now (a .u)) (a .n + i)) in (
+    let f : ℕ → ℕ = λ i. mulByte gf256 (maskElement i) (bit (now (a .u)) (a .at + i)) in (
       omega arith,
-      ap₂ bitXor (l .inv .1) (c .multiply .ensures ∙ ap₂ (mulByte gf256) (c .before .before .mask-element .ensures) (c .before .bit-at .ensures)) ∙ sym (sum-more (l .s) f),
+      ap₂ bitXor (l .inv .1) (c .multiply .ensures ∙ ap₂ (mulByte gf256) (c .before .before .mask-element .ensures) (c .before .bit-at .ensures)) ∙ sym (sum-more (l .i) f),
     )
 
 returns : tie.Need-returns Inv-loop μ-loop
 returns c =
     let l = c .before .loop in
-    let end : l .s ≡ 8 = omega arith in
+    let end : l .i ≡ 8 = omega arith in
     rw end at (l .inv .1)
 
 pub mask-byte-spec : {M : Type 1} → statement M
@@ -68,7 +68,7 @@ mask-byte-spec =
     add-bit-at
     bit-at-requires
     multiply-requires
-    add-s
+    add-i
     loop-less
     loop-again
     returns)

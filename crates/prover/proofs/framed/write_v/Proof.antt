@@ -12,7 +12,7 @@ use Rattle.protocol.specs.Lists.{blockAt}
 use Rattle.protocol.specs.Strings.{bytesFor, bit, pack}
 use Rattle.protocol.specs.Frames.{frame, framedLength}
 use Rattle.protocol.specs.Binary.{bits256}
-use Rattle.protocol.specs.Shape.{Shape, limits, kOf, wOf}
+use Rattle.protocol.specs.Shape.{Shape, limits, perTree, kOf, wOf}
 use Rattle.protocol.specs.Sections.{commitLengths, hashLengths}
 use Rattle.protocol.specs.Prover.{cSection, dSection, ũSection, ṼSection, qs0Section, qs1Section}
 use Rattle.protocol.proofs.ListLaws.{row-end}
@@ -80,7 +80,7 @@ returns c =
     λ leaves is.
     framed-one (a .s .tau * a .s .t) (count .last .0) (now (a .out)) (hashed .last .0) (ṼSection bits256 shape leaves (now (a .matrix))) (count .kept .0 ∙ simp length-take (omega arith)) (count .ensures)
     (hashed-are shape leaves (now (a .matrix)) (take (8 * wOf bits256 shape * lanes) (now (a .table))) (hashed .last .0) (c .before .before .before .before .before .before .before .before .before .before .before .before .before .before .pre .2)
-    (table-less (now (a .table)) leaves (a .s .tau) (wOf bits256 shape) (in-limits shape (c .before .before .before .before .before .before .before .before .before .before .before .before .before .before .pre .0) .τ-most) is) long (rw (c .before .before .before .before .before .before .before .before .before .before .leaf-bytes .ensures) at (hashed .ensures)))
+    (table-less (now (a .table)) leaves (a .s .tau) (wOf bits256 shape) (perTree bits256) (in-limits shape (c .before .before .before .before .before .before .before .before .before .before .before .before .before .before .pre .0) .τ-most) is) long (rw (c .before .before .before .before .before .before .before .before .before .before .leaf-bytes .ensures) at (hashed .ensures)))
     long
 
 pub write-v-spec : {M : Type 1} → statement M
