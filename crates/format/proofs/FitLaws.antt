@@ -10,7 +10,7 @@ use lib.ListN.{length}
 use Rattle.field.specs.Gf256.{gf256}
 use Rattle.protocol.specs.Strings.{bytesFor}
 use Rattle.protocol.specs.Binary.{bits256}
-use Rattle.protocol.specs.Shape.{Shape, limits, kOf, lOf, wOf}
+use Rattle.protocol.specs.Shape.{Shape, limits, maskAt, kOf, lOf, wOf}
 use Rattle.protocol.specs.Questions.{χExact}
 use Rattle.protocol.proofs.TestLaws.{eqb-eq}
 use Rattle.format.proofs.SizeLaws.{in-limits, k-most, w-most, bytes-most, hashed-most, corrections-most, row-most}
@@ -29,6 +29,11 @@ module _ (s : Shape) where
   pub l-fits : kOf bits256 s + s .t ≤ wOf bits256 s * 8
   unfolding wOf lOf bytesFor
   l-fits = omega arith
+
+  -- the mask coordinates of each repetition are among the first k
+  pub mask-below : (e : ℕ) → e < s .τ → maskAt bits256 s e + gf256 .degree ≤ kOf bits256 s
+  unfolding maskAt kOf
+  mask-below e h = omega arith
 
   -- the mask coordinates are in a leaf
   pub mask-fits : s .n + gf256 .degree ≤ 8 * wOf bits256 s

@@ -1,12 +1,12 @@
--- What the forms, the batched sums and the masks are in 01's terms, where the table holds a vector f in the lane of
--- repetition e; and so QS0 and QS1.
+-- What the forms, the batched sums and the masks are in 01's terms, where the bytes g are a vector f; and so QS0 and
+-- QS1.
 -- Assumes nothing.
 use mathlib.Core.Path.{_≡_, sym, ap, ap₂, _∙_}
 use mathlib.Core.Bool.{cond}
 use mathlib.Core.List.{List}
 use Prim.Native.Nat.{ℕ, _+_, _*_, _<_}
 use native.Mathlib.Omega.{arith}
-use lib.Bits.{bitXor}
+use lib.Bits.{bitXor, xor-comm}
 use Rattle.algebra.specs.Ring.{Ring}
 use Rattle.algebra.specs.Field.{Field}
 use Rattle.algebra.specs.Coded.{Coded, mulByte, powByte}
@@ -24,16 +24,17 @@ use Rattle.protocol.specs.Forms.{α, quad, lin, middle, maskOf, χAt, batch}
 use Rattle.protocol.specs.Prover.{u, v, a₀, a₁, qs0, qs1}
 use Rattle.protocol.proofs.TestLaws.{ltb-yes}
 use Rattle.protocol.proofs.StringLaws.{bit-lt}
-use Rattle.strings.specs.Sums.{byteAt, xorSum, selected}
+use Rattle.strings.specs.Sums.{byteAt, xorSum}
 use Rattle.strings.proofs.SumLaws.{sum-same}
 use Rattle.strings.proofs.Meaning.{byte-sum, byte-scale}
 use Rattle.strings.proofs.ProductLaws.{product-lt, product-sum}
-use Rattle.lanes.specs.Lanes.{lanes, laneAt}
+use Rattle.lanes.specs.Lanes.{laneAt, maskLane, maskBits}
+use Rattle.format.proofs.FitLaws.{mask-below}
 use Rattle.equations.specs.Equations.{rowOf, matrixOf}
 use Rattle.forms.specs.Forms.{rowBit}
-use Rattle.forms.specs.Batch.{qs0Byte, qs1Byte}
+use Rattle.forms.specs.Batch.{formsByte, middlesByte}
 use Rattle.equations.proofs.BlockLaws.{block-block}
-use Rattle.equations.proofs.ElementLaws.{byte-product, byte-form, form-rows, selected-is, bitsOf}
+use Rattle.equations.proofs.ElementLaws.{byte-product, byte-form, form-rows, bitsOf}
 
 module _ (C : Coded) (s : Shape) where
   open Coded C using (base, elem, byte)
@@ -48,7 +49,13 @@ module _ (C : Coded) (s : Shape) where
   abbrev n : ℕ
   n = s .n
 
-  module _ (key : List ℕ) (i : ℕ) (T : List ℕ) (e : ℕ) (f : ℕ → F) (holds : (c : ℕ) → c < s .n → laneAt T c e ≡ byte (f c)) where
+  -- a row of bits times a vector
+  pub row-sum : (k : ℕ) (row : List ℕ) (g : ℕ → ℕ) (f : ℕ → F) → ((c : ℕ) → c < k → g c ≡ byte (f c)) → rowBit k row g ≡ byte (sum R k (λ c. bitsOf C row c ⊗ f c))
+  row-sum k row g f holds =
+      sum-same k _ _ (λ c h. ap (λ b. bit row c * b) (holds c h) ∙ sym (byte-scale C (bit row c) (f c) (bit-lt row c)))
+      ∙ sym (byte-sum C k (λ c. bitsOf C row c ⊗ f c))
+
+  module _ (key : List ℕ) (i : ℕ) (g : ℕ → ℕ) (f : ℕ → F) (holds : (c : ℕ) → c < s .n → g c ≡ byte (f c)) where
     -- row ρ of the equation, in the code and in the definitions
     abbrev row : ℕ → List ℕ
     row ρ = rowOf n (matrixOf n (sectionA A s key) i) ρ
@@ -62,27 +69,27 @@ module _ (C : Coded) (s : Shape) where
     abbrev times : (ℕ → F) → ℕ → F
     times g ρ = sum R n (λ c. bitsOf C (line ρ) c ⊗ g c)
 
-    row-is : (ρ : ℕ) → ρ < n → selected n (row ρ) T lanes e ≡ byte (times f ρ)
-    row-is ρ h = ap (λ r. selected n r T lanes e) (same-row ρ h) ∙ selected-is C n (line ρ) T e f holds
+    row-is : (ρ : ℕ) → ρ < n → rowBit n (row ρ) g ≡ byte (times f ρ)
+    row-is ρ h = ap (λ r. rowBit n r g) (same-row ρ h) ∙ row-sum n (line ρ) g f holds
 
-    pub form-is : xorSum n (λ ρ. mulByte C (laneAt T ρ e) (selected n (row ρ) T lanes e)) ≡ byte (quad A s key i f f)
+    pub form-is : xorSum n (λ ρ. mulByte C (g ρ) (rowBit n (row ρ) g)) ≡ byte (quad A s key i f f)
     unfolding quad aSym symbol
     form-is =
         sum-same n _ _ (λ ρ h. ap₂ (mulByte C) (holds ρ h) (row-is ρ h) ∙ sym (byte-product C (f ρ) (times f ρ)))
         ∙ sym (byte-form C n (λ ρ c. bitsOf C (line ρ) c) f f)
 
-    pub lin-is : selected n (rowOf n (sectionB A s key) i) T lanes e ≡ byte (lin A s key i f)
+    pub lin-is : rowBit n (rowOf n (sectionB A s key) i) g ≡ byte (lin A s key i f)
     unfolding lin bSym symbol
-    lin-is = selected-is C n (rowOf n (sectionB A s key) i) T e f holds
+    lin-is = row-sum n (rowOf n (sectionB A s key) i) g f holds
 
     module _ (x : List ℕ) where
-      row-bit-is : (ρ : ℕ) → ρ < n → rowBit n (row ρ) (bit x) * laneAt T ρ e ≡ byte (f ρ ⊗ times (bitsOf C x) ρ)
+      row-bit-is : (ρ : ℕ) → ρ < n → rowBit n (row ρ) (bit x) * g ρ ≡ byte (f ρ ⊗ times (bitsOf C x) ρ)
       row-bit-is ρ h =
           ap₂ (λ r z. rowBit n r (bit x) * z) (same-row ρ h) (holds ρ h)
           ∙ sym (byte-scale C (rowBit n (line ρ) (bit x)) (f ρ) (product-lt n (line ρ) x))
           ∙ ap byte (ap (λ z. z ⊗ f ρ) (ap elem (sym (product-sum C n (line ρ) x)) ∙ C .elem-byte _) ∙ R .mul-comm (times (bitsOf C x) ρ) (f ρ))
 
-      cross-is : xorSum n (λ ρ. bitXor (bit x ρ * selected n (row ρ) T lanes e) (rowBit n (row ρ) (bit x) * laneAt T ρ e)) ≡ byte (quad A s key i (symbol A x) f ⊕ quad A s key i f (symbol A x))
+      cross-is : xorSum n (λ ρ. bitXor (bit x ρ * rowBit n (row ρ) g) (rowBit n (row ρ) (bit x) * g ρ)) ≡ byte (quad A s key i (symbol A x) f ⊕ quad A s key i f (symbol A x))
       unfolding quad aSym symbol
       cross-is =
           sum-same n _ (λ ρ. byte (bitsOf C x ρ ⊗ times f ρ ⊕ f ρ ⊗ times (bitsOf C x) ρ))
@@ -93,7 +100,7 @@ module _ (C : Coded) (s : Shape) where
       order : (p q r : F) → r ⊕ (p ⊕ q) ≡ q ⊕ p ⊕ r
       order p q r = simp ring
 
-      pub middle-is : bitXor (selected n (rowOf n (sectionB A s key) i) T lanes e) (xorSum n (λ ρ. bitXor (bit x ρ * selected n (row ρ) T lanes e) (rowBit n (row ρ) (bit x) * laneAt T ρ e)))
+      pub middle-is : bitXor (rowBit n (rowOf n (sectionB A s key) i) g) (xorSum n (λ ρ. bitXor (bit x ρ * rowBit n (row ρ) g) (rowBit n (row ρ) (bit x) * g ρ)))
           ≡ byte (middle A s key i f (symbol A x))
       unfolding middle
       middle-is =
@@ -117,30 +124,31 @@ mask-element i h = ap (λ b. cond b (powByte gf256 2 i) 0) (ltb-yes i (gf256 .de
 
 module _ (s : Shape) where
   -- the mask coordinates, of a lane or of a string
-  pub mask-is : (e : ℕ) (g : ℕ → ℕ) (f : ℕ → bits256 .K .base .R .F) → ((c : ℕ) → c < kOf bits256 s → g c ≡ byteOf (f c))
-      → xorSum (gf256 .degree) (λ i. mulByte gf256 (maskElement i) (g (s .n + i))) ≡ byteOf (maskOf bits256 s e f)
-  unfolding maskOf maskAt kOf α
-  mask-is e g f h =
+  pub mask-is : (e : ℕ) (g : ℕ → ℕ) (f : ℕ → bits256 .K .base .R .F) → e < s .τ → ((c : ℕ) → c < kOf bits256 s → g c ≡ byteOf (f c))
+      → xorSum (gf256 .degree) (λ i. mulByte gf256 (maskElement i) (g (maskAt bits256 s e + i))) ≡ byteOf (maskOf bits256 s e f)
+  unfolding maskOf α
+  mask-is e g f le h =
       sum-same (gf256 .degree) _ _
-      (λ i l. ap₂ (mulByte gf256) (mask-element i l) (h (s .n + i) (omega arith)) ∙ sym (byte-product gf256 (power (gf256 .base .R) (gf256 .elem 2) i) (f (s .n + i))))
-      ∙ sym (byte-sum gf256 (gf256 .degree) (λ i. gf256 .base .R .mul (power (gf256 .base .R) (gf256 .elem 2) i) (f (s .n + i))))
+      (λ i l. ap₂ (mulByte gf256) (mask-element i l) (h (maskAt bits256 s e + i) (omega (arith, mask-below s e le)))
+      ∙ sym (byte-product gf256 (power (gf256 .base .R) (gf256 .elem 2) i) (f (maskAt bits256 s e + i))))
+      ∙ sym (byte-sum gf256 (gf256 .degree) (λ i. gf256 .base .R .mul (power (gf256 .base .R) (gf256 .elem 2) i) (f (maskAt bits256 s e + i))))
 
-  module _ (leaves key χ T : List ℕ) (e : ℕ) (holds : (c : ℕ) → c < kOf bits256 s → laneAt T c e ≡ byteOf (v bits256 s leaves e c)) where
-    front : (c : ℕ) → c < s .n → laneAt T c e ≡ byteOf (v bits256 s leaves e c)
-    unfolding kOf
-    front c h = holds c (omega arith)
-
-    pub qs0-is : qs0Byte (s .n) (s .m) (sectionA bits256 s key) χ T e ≡ byteOf (qs0 bits256 s leaves key χ e)
+  -- QS0 and QS1: the mask, and what is added to it
+  module _ (leaves key χ T : List ℕ) (e : ℕ) (le : e < s .τ) (holds : (c : ℕ) → c < kOf bits256 s → laneAt T c e ≡ byteOf (v bits256 s leaves e c))
+      (g : ℕ → ℕ) (front : (c : ℕ) → c < s .n → g c ≡ byteOf (v bits256 s leaves e c)) where
+    pub qs0-is : bitXor (maskLane T (maskAt bits256 s e) e) (formsByte (s .n) (s .m) (sectionA bits256 s key) χ e g) ≡ byteOf (qs0 bits256 s leaves key χ e)
     unfolding qs0 a₀
     qs0-is =
-        ap₂ bitXor (batch-is gf256 s χ e _ (λ i. quad bits256 s key i (v bits256 s leaves e) (v bits256 s leaves e)) (λ i. form-is gf256 s key i T e (v bits256 s leaves e) front))
-        (mask-is e (λ c. laneAt T c e) (v bits256 s leaves e) holds)
+        xor-comm _ _
+        ∙ ap₂ bitXor (batch-is gf256 s χ e _ (λ i. quad bits256 s key i (v bits256 s leaves e) (v bits256 s leaves e)) (λ i. form-is gf256 s key i g (v bits256 s leaves e) front))
+        (mask-is e (λ c. laneAt T c e) (v bits256 s leaves e) le holds)
         ∙ sym (gf256 .byte-add _ _)
 
     pub qs1-is : (x us : List ℕ) → ((c : ℕ) → c < kOf bits256 s → bit us c ≡ byteOf (u bits256 s leaves 0 c))
-        → qs1Byte (s .n) (s .m) (sectionA bits256 s key) (sectionB bits256 s key) x χ us T e ≡ byteOf (qs1 bits256 s leaves key x χ e)
+        → bitXor (maskBits us (maskAt bits256 s e)) (middlesByte (s .n) (s .m) (sectionA bits256 s key) (sectionB bits256 s key) (bit x) χ e g) ≡ byteOf (qs1 bits256 s leaves key x χ e)
     unfolding qs1 a₁
     qs1-is x us bits =
-        ap₂ bitXor (batch-is gf256 s χ e _ (λ i. middle bits256 s key i (v bits256 s leaves e) (symbol bits256 x)) (λ i. middle-is gf256 s key i T e (v bits256 s leaves e) front x))
-        (mask-is e (bit us) (u bits256 s leaves 0) bits)
+        xor-comm _ _
+        ∙ ap₂ bitXor (batch-is gf256 s χ e _ (λ i. middle bits256 s key i (v bits256 s leaves e) (symbol bits256 x)) (λ i. middle-is gf256 s key i g (v bits256 s leaves e) front x))
+        (mask-is e (bit us) (u bits256 s leaves 0) le bits)
         ∙ sym (gf256 .byte-add _ _)

@@ -1,3 +1,2 @@
 pub mod BatchLaws
-pub mod PrefixLaws
 pub mod FormsMeaning

@@ -3,17 +3,15 @@
 ghost use mathlib.Core.Path.{_≡_};
 ghost use Prim.Native.Nat.{ℕ, _+_, _*_, _<_, _≤_};
 ghost use lib.ListN.{length};
-ghost use lib.Bits.{bitXor};
-ghost use Rattle.field.specs.Gf256.{gf256};
-ghost use Rattle.protocol.specs.Shape.{mostVariables};
+ghost use Rattle.protocol.specs.Strings.{bit};
 ghost use Rattle.strings.specs.Sums.{byteAt};
 ghost use Rattle.strings.specs.Rows.{RowsKept};
-ghost use Rattle.lanes.specs.Lanes.{lanes, LanesAdded, maskLane, maskBits};
+ghost use Rattle.lanes.specs.Lanes.{laneAt, LanesAdded};
 ghost use Rattle.chunks.specs.Chunks.{chunk, cellAt};
-ghost use Rattle.forms.specs.Batch.{formsByte, middlesByte, qs0Byte, qs1Byte, FormsInputs, BatchInputs};
+ghost use Rattle.forms.specs.Batch.{formsByte, middlesByte, blockForms, blockMiddles, FormsInputs, BlockInputs, BatchInputs};
 use chunks::CHUNK;
+use chunks::MOST_BLOCK;
 use field::Gf256;
-use format::sizes::MOST_EQUATIONS;
 use format::sizes::MOST_VARIABLES;
 use forms_batching::panels::Batch;
 use forms_batching::panels::add_forms;
@@ -21,12 +19,13 @@ use forms_choices::fives::ROW_WORDS;
 use lanes::Dimensions;
 use lanes::LANES;
 use strings::BITS;
+use strings::least;
 
 // The words of the choices: a row for each bit of an element, for each of as many repetitions as a key may have.
 const WORDS: usize = Gf256::DEGREE * LANES * ROW_WORDS;
 
-// The bytes of as many lines as a key may have equations.
-const LINES: usize = MOST_EQUATIONS * CHUNK;
+// The bytes of the lines of a block.
+const LINES: usize = MOST_BLOCK * CHUNK;
 
 // Line i becomes row i of b, of `width` bytes.
 fn put_line(lines: &mut [u8], i: usize, b: &[u8], width: usize)
@@ -50,9 +49,70 @@ fn put_lines(lines: &mut [u8], b: &[u8], width: usize, m: usize)
     }
 }
 
+// A block of a key's equations: `count` of its m, from `from` on, in n variables, for tau repetitions. The polar form
+// is asked for or not.
+pub struct Block {
+    pub n: usize,
+    pub m: usize,
+    pub tau: usize,
+    pub from: usize,
+    pub count: usize,
+    pub polar: bool,
+}
+
+// What a block of equations adds: see `batch_forms`. The sections a and b are lent from the block's first equation to
+// its last.
+fn batch_block(
+    quad: &mut [u8],
+    lin: &mut [u8],
+    a: &[u8],
+    b: &[u8],
+    xs: &[u8],
+    chi: &[u8],
+    table: &[u8],
+    k: Block,
+)
+    requires { ⌜ BlockInputs (k .n) (k .m) (k .tau) (k .from) (k .count) (now quad) (now lin) (now a) (now b) (now xs) (now chi) (now table) (k .polar) ⌝ }
+    ensures { λ _. ⌜ LanesAdded (k .tau) (λ e. blockForms (k .n) (k .m) (k .from) (k .count) (now (a .entry)) (now (chi .entry)) e (λ c. laneAt (now (table .entry)) c e))
+        (now (quad .entry)) (now (quad .exit)) ⌝ }
+    ensures { λ _. ⌜ LanesAdded (k .tau)
+        (λ e. blockMiddles (k .n) (k .m) (k .from) (k .count) (now (a .entry)) (now (b .entry)) (byteAt (now (xs .entry))) (now (chi .entry)) e (λ c. laneAt (now (table .entry)) c e))
+        (now (lin .entry)) (now (lin .exit)) ⌝ }
+{
+    let n = k.n;
+    let m = k.m;
+    let tau = k.tau;
+    let from = k.from;
+    let count = k.count;
+    let polar = k.polar;
+    let groups = forms_choices::fives::groups_for(count);
+    let width = (n + 7) / BITS;
+    let mut words = [0u64; WORDS];
+    let mut lines = [0u8; LINES];
+    forms_choices::fives::fill_words(&mut words, chi, m, from, count, tau);
+    put_lines(&mut lines, b, width, count);
+    let s = Batch {
+        n,
+        width,
+        m: count,
+        tau,
+        groups,
+    };
+    add_forms(quad, lin, &mut lines, a, &words, table, xs, polar, s);
+}
+
+// How many equations there are, of how many variables, for how many repetitions; and whether the polar form is asked
+// for.
+pub struct Forms {
+    pub n: usize,
+    pub m: usize,
+    pub tau: usize,
+    pub polar: bool,
+}
+
 // The batched forms of a key, added to what stands there: fᵀ·A·f to quad, and xᵀ·A·f + (A·x)ᵀ·f + b·f to lin, where f
-// is the vector of repetition e, which the table holds. The bits of x are lent one to a byte, 0 from n on. Where
-// `polar` is not asked for they are all 0, and lin gets b·f.
+// is the vector of repetition e, which the table holds. The bits of x are lent one to a byte, 0 from n on. Where the
+// polar form is not asked for they are all 0, and lin gets b·f. The equations go through the kernels block after block.
 pub fn batch_forms(
     quad: &mut [u8],
     lin: &mut [u8],
@@ -61,47 +121,41 @@ pub fn batch_forms(
     xs: &[u8],
     chi: &[u8],
     table: &[u8],
-    polar: bool,
-    d: Dimensions,
+    f: Forms,
 )
-    requires { ⌜ FormsInputs (d .n) (d .m) (d .tau) (now quad) (now lin) (now a) (now b) (now xs) (now chi) (now table) polar ⌝ }
-    ensures { λ _. ⌜ LanesAdded (d .tau) (formsByte (d .n) (d .m) (now (a .entry)) (now (chi .entry)) (now (table .entry))) (now (quad .entry)) (now (quad .exit)) ⌝ }
-    ensures { λ _. ⌜ LanesAdded (d .tau) (middlesByte (d .n) (d .m) (now (a .entry)) (now (b .entry)) (byteAt (now (xs .entry))) (now (chi .entry)) (now (table .entry)))
+    requires { ⌜ FormsInputs (f .n) (f .m) (f .tau) (now quad) (now lin) (now a) (now b) (now xs) (now chi) (now table) (f .polar) ⌝ }
+    ensures { λ _. ⌜ LanesAdded (f .tau) (λ e. formsByte (f .n) (f .m) (now (a .entry)) (now (chi .entry)) e (λ c. laneAt (now (table .entry)) c e))
+        (now (quad .entry)) (now (quad .exit)) ⌝ }
+    ensures { λ _. ⌜ LanesAdded (f .tau)
+        (λ e. middlesByte (f .n) (f .m) (now (a .entry)) (now (b .entry)) (byteAt (now (xs .entry))) (now (chi .entry)) e (λ c. laneAt (now (table .entry)) c e))
         (now (lin .entry)) (now (lin .exit)) ⌝ }
 {
-    let n = d.n;
-    let m = d.m;
-    let tau = d.tau;
-    let groups = forms_choices::fives::groups_for(m);
+    let n = f.n;
+    let m = f.m;
+    let tau = f.tau;
+    let polar = f.polar;
     let width = (n + 7) / BITS;
-    let mut words = [0u64; WORDS];
-    let mut lines = [0u8; LINES];
-    forms_choices::fives::fill_words(&mut words, chi, m, 0, m, tau);
-    put_lines(&mut lines, b, width, m);
-    let s = Batch {
-        n,
-        width,
-        m,
-        tau,
-        groups,
-    };
-    add_forms(quad, lin, &mut lines, a, &words, table, xs, polar, s);
+    let size = n * width;
+    let mut from = 0;
+    while from < m {
+        let count = least(m - from, MOST_BLOCK);
+        let k = Block {
+            n,
+            m,
+            tau,
+            from,
+            count,
+            polar,
+        };
+        let matrices = &a[from * size..(from + count) * size];
+        let rows = &b[from * width..(from + count) * width];
+        batch_block(quad, lin, matrices, rows, xs, chi, table, k);
+        from += count;
+    }
 }
 
-// Adds the masks: A*₀ of each repetition to qs0, and A*₁, the same for all, to qs1.
-fn add_masks(qs0: &mut [u8], qs1: &mut [u8], table: &[u8], u: &[u8], n: usize)
-    requires { ⌜ (length (now qs0) ≡ lanes) × (length (now qs1) ≡ lanes) × ((n + gf256 .degree) * lanes ≤ length (now table))
-        × (n + gf256 .degree ≤ length (now u) * 8) × (n ≤ mostVariables) ⌝ }
-    ensures { λ _. ⌜ ((e : ℕ) → e < lanes → byteAt (now (qs0 .exit)) e ≡ bitXor (byteAt (now (qs0 .entry)) e) (maskLane (now (table .entry)) n e)) ⌝ }
-    ensures { λ _. ⌜ ((e : ℕ) → e < lanes → byteAt (now (qs1 .exit)) e ≡ bitXor (byteAt (now (qs1 .entry)) e) (maskBits (now (u .entry)) n)) ⌝ }
-{
-    lanes::add_mask(qs0, table, n);
-    let mask = [lanes::mask_byte(u, n); LANES];
-    strings::xor_into(qs1, &mask);
-}
-
-// QS0 and QS1 of the tau repetitions: the batched coefficients of the sections a and b of a key, with the masks. The
-// table holds the vectors, with their mask coordinates, and the string u the bits of the mask of QS1.
+// The batched coefficients of the tau repetitions, added to what stands in qs0 and qs1, of the sections a and b of a
+// key at the witness x. The table holds the vectors.
 pub fn batch_lanes(
     qs0: &mut [u8],
     qs1: &mut [u8],
@@ -109,21 +163,26 @@ pub fn batch_lanes(
     b: &[u8],
     x: &[u8],
     chi: &[u8],
-    u: &[u8],
     table: &[u8],
     d: Dimensions,
 )
-    requires { ⌜ BatchInputs (d .n) (d .m) (d .tau) (now qs0) (now qs1) (now a) (now b) (now x) (now chi) (now u) (now table) ⌝ }
-    ensures { λ _. ⌜ ((e : ℕ) → e < d .tau → byteAt (now (qs0 .exit)) e ≡ qs0Byte (d .n) (d .m) (now (a .entry)) (now (chi .entry)) (now (table .entry)) e) ⌝ }
-    ensures { λ _. ⌜ ((e : ℕ) → e < d .tau
-        → byteAt (now (qs1 .exit)) e ≡ qs1Byte (d .n) (d .m) (now (a .entry)) (now (b .entry)) (now (x .entry)) (now (chi .entry)) (now (u .entry)) (now (table .entry)) e) ⌝ }
+    requires { ⌜ BatchInputs (d .n) (d .m) (d .tau) (now qs0) (now qs1) (now a) (now b) (now x) (now chi) (now table) ⌝ }
+    ensures { λ _. ⌜ LanesAdded (d .tau) (λ e. formsByte (d .n) (d .m) (now (a .entry)) (now (chi .entry)) e (λ c. laneAt (now (table .entry)) c e))
+        (now (qs0 .entry)) (now (qs0 .exit)) ⌝ }
+    ensures { λ _. ⌜ LanesAdded (d .tau)
+        (λ e. middlesByte (d .n) (d .m) (now (a .entry)) (now (b .entry)) (bit (now (x .entry))) (now (chi .entry)) e (λ c. laneAt (now (table .entry)) c e))
+        (now (qs1 .entry)) (now (qs1 .exit)) ⌝ }
 {
     let n = d.n;
+    let m = d.m;
+    let tau = d.tau;
     let mut xs = [0u8; MOST_VARIABLES];
-    let front = &table[..n * LANES];
     equations::unpack(&mut xs, x, n);
-    strings::clear(qs0);
-    strings::clear(qs1);
-    batch_forms(qs0, qs1, a, b, &xs, chi, front, true, d);
-    add_masks(qs0, qs1, table, u, n);
+    let f = Forms {
+        n,
+        m,
+        tau,
+        polar: true,
+    };
+    batch_forms(qs0, qs1, a, b, &xs, chi, table, f);
 }

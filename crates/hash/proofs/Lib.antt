@@ -1,4 +1,5 @@
 pub mod EntryLaws
 pub mod SelectLaws
 pub mod CellLaws
+pub mod FrontLaws
 pub mod HashMeaning

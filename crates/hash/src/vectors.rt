@@ -1,4 +1,4 @@
-// The hash of every repetition's vector: H·v_e, H = [H′ | identity], row by row.
+// The hash of every repetition's vector: H·v_e, H = [H′ | identity], row by row, so many bytes of each row at a time.
 ghost use mathlib.Core.Path.{_≡_};
 ghost use mathlib.Core.Bool.{true};
 ghost use Prim.Native.Nat.{ℕ, _+_, _*_, _<_, _≤_};
@@ -6,26 +6,39 @@ ghost use lib.ListN.{length};
 ghost use Rattle.protocol.specs.Strings.{bytesFor};
 ghost use Rattle.protocol.specs.Shape.{limits, kOf, wOf};
 ghost use Rattle.strings.specs.Sums.{byteAt};
-ghost use Rattle.lanes.specs.Lanes.{lanes};
+ghost use Rattle.lanes.specs.Lanes.{lanes, laneAt};
 ghost use Rattle.format.specs.Sizes.{alphabetFor, shapeFor};
-ghost use Rattle.hash.specs.Hashed.{rowHashed, RowFits, FrontTabled, HashFits, Hashed};
+ghost use Rattle.hash.specs.Hashed.{BlockTabled, BlockFits, Column, Columns, Hashed};
 ghost use Rattle.questions.specs.Facts.{HashForm};
 use super::lookups::PER_BYTE;
 use format::Sizes;
-use format::sizes::MOST_ROW;
 use lanes::LANES;
 use strings::BITS;
 
-// What a row of H′ selects, and one coordinate more, for each lane.
-fn hash_row(out: &mut [u8], row: &[u8], identity: usize, table: &[u8], sums: &[u8])
-    requires { ⌜ RowFits (now out) (length (now row)) identity (now table) (now sums) ⌝ }
-    requires { ⌜ FrontTabled (length (now row)) (now table) (now sums) ⌝ }
-    ensures { λ _. ⌜ ((e : ℕ) → e < lanes → byteAt (now (out .exit)) e ≡ rowHashed (now (row .entry)) identity (now (table .entry)) e) ⌝ }
+// The bytes of a row of H′ that one table of sums serves, so that the table does not grow with the rows.
+const BLOCK: usize = 21;
+
+// Of each of the t rows of H′, which have `width` bytes, the `len` bytes from `from` on. k is the first coordinate of
+// the identity, and tau the number of repetitions.
+struct Block {
+    width: usize,
+    from: usize,
+    len: usize,
+    k: usize,
+    t: usize,
+    tau: usize,
+}
+
+// Takes the lanes below tau from column rho of a table of rows of t bytes, one row for each repetition.
+fn take_column(column: &mut [u8], out: &[u8], rho: usize, t: usize, tau: usize)
+    requires { ⌜ (length (now out) ≡ tau * t) × (rho < t) × (tau ≤ length (now column)) ⌝ }
+    ensures { λ _. ⌜ ((e : ℕ) → e < tau → byteAt (now (column .exit)) e ≡ byteAt (now (out .entry)) (e * t + rho)) ⌝ }
 {
-    let mut sum = [0u8; LANES];
-    super::lookups::look_up_row(&mut sum, row, sums);
-    super::lookups::add_lanes(&mut sum, table, identity);
-    strings::copies::copy_into(out, &sum);
+    let mut e = 0;
+    while e < tau {
+        column[e] = out[e * t + rho];
+        e += 1;
+    }
 }
 
 // Puts the lanes below tau into column rho of a table of rows of t bytes, one row for each repetition.
@@ -41,44 +54,62 @@ fn put_column(out: &mut [u8], rho: usize, t: usize, tau: usize, column: &[u8])
     }
 }
 
-// Byte e·t + ρ is row ρ of H·v_e, by the table of sums.
-fn hash_lanes(
-    out: &mut [u8],
-    matrix: &[u8],
-    width: usize,
-    k: usize,
-    t: usize,
-    tau: usize,
-    table: &[u8],
-    sums: &[u8],
-)
-    requires { ⌜ HashFits (now out) (now matrix) width k t tau (now table) (now sums) ⌝ }
-    requires { ⌜ FrontTabled width (now table) (now sums) ⌝ }
-    ensures { λ _. ⌜ Hashed (now (matrix .entry)) width k t tau (now (table .entry)) (now (out .exit)) ⌝ }
+// What row rho has before a block: the identity's coordinate before the first, and then what stands in the output.
+fn start_column(column: &mut [u8], out: &[u8], table: &[u8], rho: usize, b: Block)
+    requires { ⌜ (length (now column) ≡ lanes) × (length (now out) ≡ b .tau * b .t) × (rho < b .t) × (b .tau ≤ lanes) × ((b .k + b .t) * lanes ≤ length (now table)) ⌝ }
+    ensures { λ _. ⌜ ((b .from ≡ 0) → (e : ℕ) → e < lanes → byteAt (now (column .exit)) e ≡ laneAt (now (table .entry)) (b .k + rho) e) ⌝ }
+    ensures { λ _. ⌜ ((0 < b .from) → (e : ℕ) → e < b .tau → byteAt (now (column .exit)) e ≡ byteAt (now (out .entry)) (e * b .t + rho)) ⌝ }
 {
+    let k = b.k;
+    let t = b.t;
+    let tau = b.tau;
+    if b.from == 0 {
+        strings::copies::copy_into(column, strings::row_at(table, LANES, k + rho));
+    } else {
+        take_column(column, out, rho, t, tau);
+    }
+}
+
+// Row rho of a block: its bytes of the row are looked up, for each lane.
+fn hash_row(out: &mut [u8], matrix: &[u8], table: &[u8], sums: &[u8], rho: usize, b: Block)
+    requires { ⌜ BlockFits (now matrix) (now table) b (now out) (now sums) × (rho < b .t) ⌝ }
+    requires { ⌜ BlockTabled (b .from) (b .len) (now table) (now sums) × (0 < b .from → Column (now matrix) (now table) b (b .from) rho (now out)) ⌝ }
+    ensures { λ _. ⌜ Column (now (matrix .entry)) (now (table .entry)) b (b .from + b .len) rho (now (out .exit)) ⌝ }
+    ensures { λ _. ⌜ ((e r : ℕ) → e < b .tau → r < b .t → (r ≡ rho → ⊥) → byteAt (now (out .exit)) (e * b .t + r) ≡ byteAt (now (out .entry)) (e * b .t + r)) ⌝ }
+{
+    let t = b.t;
+    let tau = b.tau;
+    let at = rho * b.width + b.from;
+    let end = at + b.len;
+    let mut column = [0u8; LANES];
+    start_column(&mut column, out, table, rho, b);
+    super::lookups::look_up_row(&mut column, &matrix[at..end], sums);
+    put_column(out, rho, t, tau, &column);
+}
+
+// The rows of a block, after the blocks before it.
+fn hash_block(out: &mut [u8], matrix: &[u8], table: &[u8], sums: &[u8], b: Block)
+    requires { ⌜ BlockFits (now matrix) (now table) b (now out) (now sums) ⌝ }
+    requires { ⌜ BlockTabled (b .from) (b .len) (now table) (now sums) × (0 < b .from → Columns (now matrix) (now table) b (b .from) (now out)) ⌝ }
+    ensures { λ _. ⌜ Columns (now (matrix .entry)) (now (table .entry)) b (b .from + b .len) (now (out .exit)) ⌝ }
+{
+    let t = b.t;
     let mut rho = 0;
     while rho < t {
-        let mut column = [0u8; LANES];
-        hash_row(
-            &mut column,
-            strings::row_at(matrix, width, rho),
-            k + rho,
-            table,
-            sums,
-        );
-        put_column(out, rho, t, tau, &column);
+        hash_row(out, matrix, table, sums, rho, b);
         rho += 1;
     }
 }
 
-// The sums of each four coordinates that a row of H′ can select.
-fn fill_entries(entries: &mut [u8], table: &[u8], s: Sizes)
-    requires { ⌜ (limits (shapeFor s) ≡ true) × (length (now table) ≡ 8 * wOf (alphabetFor s) (shapeFor s) * lanes) × (bytesFor (kOf (alphabetFor s) (shapeFor s)) * 32 * lanes ≤ length (now entries)) ⌝ }
-    ensures { λ _. ⌜ FrontTabled (bytesFor (kOf (alphabetFor s) (shapeFor s))) (now (table .entry)) (now (entries .exit)) ⌝ }
+// The sums of each four coordinates that `len` bytes of a row of H′ can select, from byte `from` on.
+fn fill_entries(entries: &mut [u8], table: &[u8], from: usize, len: usize)
+    requires { ⌜ ((from + len) * 8 * lanes ≤ length (now table)) × (len * 32 * lanes ≤ length (now entries)) ⌝ }
+    ensures { λ _. ⌜ BlockTabled from len (now (table .entry)) (now (entries .exit)) ⌝ }
 {
-    let width = format::sizes::bytes_for(format::sizes::hashed_bits(s));
-    let rows = width * BITS;
-    super::lookups::fill_sums(entries, width * PER_BYTE, rows, &table[..rows * LANES]);
+    let rows = len * BITS;
+    let at = from * BITS * LANES;
+    let end = at + rows * LANES;
+    super::lookups::fill_sums(entries, len * PER_BYTE, rows, &table[at..end]);
 }
 
 // Byte e·t + ρ is row ρ of H·v_e, for the vectors v_e of the table (the verifier's are W_e). The table of sums is
@@ -91,7 +122,20 @@ pub fn hash_all(out: &mut [u8], matrix: &[u8], table: &[u8], s: Sizes)
     let width = format::sizes::bytes_for(k);
     let t = s.t;
     let tau = s.tau;
-    let mut entries = [0u8; MOST_ROW * PER_BYTE * LANES];
-    fill_entries(&mut entries, table, s);
-    hash_lanes(out, matrix, width, k, t, tau, table, &entries);
+    let mut entries = [0u8; BLOCK * PER_BYTE * LANES];
+    let mut from = 0;
+    while from < width {
+        let len = strings::least(width - from, BLOCK);
+        fill_entries(&mut entries, table, from, len);
+        let b = Block {
+            width,
+            from,
+            len,
+            k,
+            t,
+            tau,
+        };
+        hash_block(out, matrix, table, &entries, b);
+        from += len;
+    }
 }

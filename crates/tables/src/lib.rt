@@ -94,14 +94,7 @@ pub fn spread(table: &mut [u8], e: usize, planes: &[u8], w: usize)
 }
 
 // 01's u_e and v_e of one tree: u takes the sum of its 2^r leaves, which are as long as u, and lane e of the table v_e.
-pub fn load_tree(
-    table: &mut [u8],
-    u: &mut [u8],
-    planes: &mut [u8],
-    tree: &[u8],
-    e: usize,
-    r: usize,
-)
+pub fn load_tree(table: &mut [u8], u: &mut [u8], planes: &mut [u8], tree: &[u8], e: usize, r: usize)
     requires { ⌜ TreeReady (now table) (now planes) (now tree) (length (now u)) e r ⌝ }
     ensures { λ _. ⌜ ((b : ℕ) → b < length (now (u .entry)) → byteAt (now (u .exit)) b ≡ uByte (now (tree .entry)) (2 ^ r) (length (now (u .entry))) b) ⌝ }
     ensures { λ _. ⌜ LaneIs e (8 * length (now (u .entry))) (vByte (now (tree .entry)) (2 ^ r) (length (now (u .entry)))) (now (table .exit)) ⌝ }

@@ -19,12 +19,12 @@ leaves-of-requires : tie.Need-leaves-of-requires
 leaves-of-requires c κs = search needs
 
 mul-row-at : tie.Need-mul-row-at
-mul-row-at c = 
+mul-row-at c =
     let count : c .leaves-of .result ≡ 2 ^ c .before .before .before .before .before .args .r = c .leaves-of .ensures in
     rw count (omega (arith, c .before .before .before .before .before .pre .5))
 
 row-at-requires : tie.Need-row-at-requires
-row-at-requires c κs = 
+row-at-requires c κs =
     let count : c .leaves-of .result ≡ 2 ^ c .before .before .before .before .before .args .r = c .leaves-of .ensures in
     rw count (c .before .before .before .before .before .pre .5)
 
@@ -45,7 +45,7 @@ part-load-tree-end c = search needs
 
 load-tree-requires : tie.Need-load-tree-requires
 unfolding blockAt part
-load-tree-requires c κs = 
+load-tree-requires c κs =
     let a = c .before .before .before .before .before .before .before .before .before .args in
     let count : c .before .before .before .before .leaves-of .result ≡ 2 ^ a .r = c .before .before .before .before .leaves-of .ensures in
     let e : a .e * a .w + a .w - a .e * a .w ≡ a .w = add-sub-cancel-left (a .e * a .w) (a .w) in
@@ -63,7 +63,7 @@ same-length-3 c = search needs
 
 returns : tie.Need-returns
 unfolding blockAt part
-returns c = 
+returns c =
     let a = c .before .before .before .before .before .before .before .before .before .before .before .before .before .before .before .before .args in
     let l = now (a .sums) in
     let at = a .e * a .w in

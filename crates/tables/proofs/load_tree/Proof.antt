@@ -17,7 +17,7 @@ leaves-of-requires : tie.Need-leaves-of-requires
 leaves-of-requires c κs = search needs
 
 sum-tree-requires : tie.Need-sum-tree-requires
-sum-tree-requires c κs = 
+sum-tree-requires c κs =
     let a = c .before .before .before .before .before .before .before .args in
     let count : c .leaves-of .result ≡ 2 ^ a .r = c .leaves-of .ensures in
     rw count (c .before .before .before .before .before .before .before .pre .1, c .before .before .before .before .before .before .before .pre .3, full-fits (now (a .tree)) (length (now (a .u))) (2 ^ a .r) (c .before .before .before .before .before .before .before .pre .4))
@@ -35,7 +35,7 @@ same-length-3 : tie.Need-same-length-3
 same-length-3 c = search needs
 
 returns : tie.Need-returns
-returns c = 
+returns c =
     let a = c .before .before .before .before .before .before .before .before .before .before .before .before .before .before .before .before .before .args in
     let tree = now (a .tree) in
     let w = length (now (a .u)) in

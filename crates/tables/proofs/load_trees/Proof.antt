@@ -35,7 +35,7 @@ slice-aggregate-load-row : tie.Need-slice-aggregate-load-row Inv-loop μ-loop
 slice-aggregate-load-row c = simp length-take (omega arith)
 
 load-row-requires : tie.Need-load-row-requires Inv-loop μ-loop
-load-row-requires c κs = 
+load-row-requires c κs =
     let a = c .before .before .before .before .before .before .before .before .args in
     let e = c .before .before .before .before .loop .e in (
       omega arith,
@@ -53,7 +53,7 @@ loop-less : tie.Need-loop-less Inv-loop μ-loop
 loop-less c = search needs
 
 loop-again : tie.Need-loop-again Inv-loop μ-loop
-loop-again c = 
+loop-again c =
     let a = c .before .before .before .before .before .before .before .before .before .before .before .before .before .before .args in
     let l = c .before .before .before .before .before .before .before .before .before .before .loop in
     let call = c .before .before .before .before .before .load-row in
@@ -74,7 +74,7 @@ same-length-2 : tie.Need-same-length-2 Inv-loop μ-loop
 same-length-2 c = search needs
 
 returns : tie.Need-returns Inv-loop μ-loop
-returns c = 
+returns c =
     let l = c .before .loop in
     (λ e b h. l .inv .4 e b (omega arith), λ e d h. l .inv .5 e d (omega arith))
 

@@ -13,17 +13,17 @@ use Rattle.tables.proofs.sum_tree.Statement.{statement}
 use Rattle.tables.proofs.sum_tree.Tie as tie
 
 mul-end : tie.Need-mul-end
-mul-end c = 
+mul-end c =
     let a = c .before .before .before .args in
     omega (arith, mul-le-mul-right (length (now (a .u))) (c .before .before .before .pre .1))
 
 slice-relend-prefix-tree-sums : tie.Need-slice-relend-prefix-tree-sums
-slice-relend-prefix-tree-sums c = 
+slice-relend-prefix-tree-sums c =
     let a = c .before .before .before .before .args in
     omega (arith, c .before .before .before .before .pre .0, mul-le-mul-right (length (now (a .u))) (c .before .before .before .before .pre .1))
 
 slice-aggregate-tree-sums : tie.Need-slice-aggregate-tree-sums
-slice-aggregate-tree-sums c = 
+slice-aggregate-tree-sums c =
     let a = c .before .before .before .before .before .args in
     simp length-take (omega (arith, c .before .before .before .before .before .pre .0, mul-le-mul-right (length (now (a .u))) (c .before .before .before .before .before .pre .1)))
 
@@ -31,7 +31,7 @@ leaves-of-requires : tie.Need-leaves-of-requires
 leaves-of-requires c κs = search needs
 
 tree-sums-requires : tie.Need-tree-sums-requires
-tree-sums-requires c κs = 
+tree-sums-requires c κs =
     let a = c .before .before .before .before .before .before .args in
     let count : c .leaves-of .result ≡ 2 ^ a .r = c .leaves-of .ensures in
     rw count (
@@ -72,7 +72,7 @@ same-length-2 : tie.Need-same-length-2
 same-length-2 c = search needs
 
 returns : tie.Need-returns
-returns c = 
+returns c =
     let a = c .before .before .before .before .before .before .before .before .before .before .before .before .before .before .before .args in
     let w = length (now (a .u)) in
     let sums = c .before .before .before .before .before .before .before .before .tree-sums in

@@ -1,50 +1,112 @@
--- `hash::vectors::hash_row` meets its contract: what is looked up, plus the row of the identity.
+-- `hash::vectors::hash_row` meets its contract: what the block's bytes of the row select is added (`FrontLaws`).
 -- Assumes nothing.
-use borrow.Author.Needs.{needs}
 use mathlib.Core.Path.{_≡_, ap, _∙_}
 use mathlib.Core.List.{List}
-use Prim.Native.Nat.{ℕ, _*_, _≤_}
+use Prim.Native.Nat.{ℕ, _+_, _*_, _-_, _≤_, _<_}
+use native.Mathlib.Nat.{add-sub-cancel-left}
 use native.Mathlib.Omega.{arith}
 use denote.Ref.{now}
-use lib.ListN.{length, take, length-take}
 use lib.Bits.{bitXor}
-use Rattle.strings.specs.Sums.{byteAt}
-use Rattle.lanes.specs.Lanes.{lanes, laneAt}
-use Rattle.hash.proofs.CellLaws.{selected-prefix}
+use lib.ListN.{length, length-take, length-drop}
+use Rattle.protocol.specs.Lists.{part}
+use Rattle.protocol.proofs.ListLaws.{row-end}
+use Rattle.strings.specs.Sums.{byteAt, selected}
+use Rattle.lanes.specs.Lanes.{lanes}
+use Rattle.hash.specs.Hashed.{frontLane}
+use Rattle.hash.proofs.FrontLaws.{front-start, front-more}
+use borrow.Author.Needs.{needs}
 use Rattle.hash.proofs.vectors.hash_row.Statement.{statement}
 use Rattle.hash.proofs.vectors.hash_row.Tie as tie
+
+mul-at : tie.Need-mul-at
+mul-at c =
+    let a = c .before .before .before .before .before .args in
+    omega (arith, row-end (a .rho) (a .b .t) (a .b .width) (c .before .before .before .before .before .pre .0 .1), c .before .before .before .before .before .pre .0 .0 .1, c .before .before .before .before .before .pre .0 .0 .6)
+
+add-at : tie.Need-add-at
+add-at c =
+    let a = c .before .before .before .before .before .before .args in
+    omega (arith, row-end (a .rho) (a .b .t) (a .b .width) (c .before .before .before .before .before .before .pre .0 .1), c .before .before .before .before .before .before .pre .0 .0 .1, c .before .before .before .before .before .before .pre .0 .0 .6)
+
+add-end : tie.Need-add-end
+add-end c =
+    let a = c .before .before .before .before .before .before .before .args in
+    omega (arith, row-end (a .rho) (a .b .t) (a .b .width) (c .before .before .before .before .before .before .before .pre .0 .1), c .before .before .before .before .before .before .before .pre .0 .0 .1, c .before .before .before .before .before .before .before .pre .0 .0 .6)
+
+slice-aggregate-start-column : tie.Need-slice-aggregate-start-column
+slice-aggregate-start-column c = search needs
+
+start-column-requires : tie.Need-start-column-requires
+start-column-requires c κs = search needs
 
 slice-aggregate-look-up-row : tie.Need-slice-aggregate-look-up-row
 slice-aggregate-look-up-row c = search needs
 
+sub-look-up-row : tie.Need-sub-look-up-row
+sub-look-up-row c = search needs
+
+part-look-up-row-start : tie.Need-part-look-up-row-start
+part-look-up-row-start c = search needs
+
+part-look-up-row-end : tie.Need-part-look-up-row-end
+part-look-up-row-end c =
+    let a = c .before .before .before .before .before .before .before .before .before .before .before .before .args in
+    omega (arith, row-end (a .rho) (a .b .t) (a .b .width) (c .before .before .before .before .before .before .before .before .before .before .before .before .pre .0 .1), c .before .before .before .before .before .before .before .before .before .before .before .before .pre .0 .0 .1, c .before .before .before .before .before .before .before .before .before .before .before .before .pre .0 .0 .6)
+
 look-up-row-requires : tie.Need-look-up-row-requires
 look-up-row-requires c κs = search needs
 
-add-lanes-requires : tie.Need-add-lanes-requires
-add-lanes-requires c κs = search needs
+slice-aggregate-put-column : tie.Need-slice-aggregate-put-column
+slice-aggregate-put-column c = search needs
 
-slice-aggregate-copy-into : tie.Need-slice-aggregate-copy-into
-slice-aggregate-copy-into c = search needs
-
-copy-into-requires : tie.Need-copy-into-requires
-copy-into-requires c κs = search needs
+put-column-requires : tie.Need-put-column-requires
+put-column-requires c κs = search needs
 
 same-length : tie.Need-same-length
 same-length c = search needs
 
 returns : tie.Need-returns
-returns c e h =
-    let s = c .before .before .before .before .before .before .before .before .before .before .before .before .before .before in
-    let a = s .args in
-    let n = length (now (a .row)) * 8 in
-    let added = c .before .before .before .before .before .add-lanes in
-    let looked = c .before .before .before .before .before .before .before .before .look-up-row in
-    let long : length (take (n * lanes) (now (a .table))) ≡ n * lanes = simp length-take (omega arith) in
-    ap (λ (r : List ℕ). byteAt r e) (c .before .before .copy-into .ensures)
-    ∙ added .ensures .1 e h
-    ∙ ap (λ (x : ℕ). bitXor x (laneAt (now (a .table)) (a .identity) e))
-    (looked .ensures (take (n * lanes) (now (a .table))) n e (s .pre .1) long (omega arith) h ∙ selected-prefix n (now (a .row)) (now (a .table)) lanes e h)
+unfolding part
+returns c =
+    let a = c .before .before .before .before .before .before .before .before .before .before .before .before .before .before .before .before .before .before .before .before .args in
+    let b = a .b in
+    let H = now (a .matrix) in
+    let T = now (a .table) in
+    let at = a .rho * b .width + b .from in
+    let fits : at + b .len ≤ length H = omega (arith, row-end (a .rho) (b .t) (b .width) (c .before .before .before .before .before .before .before .before .before .before .before .before .before .before .before .before .before .before .before .before .pre .0 .1), c .before .before .before .before .before .before .before .before .before .before .before .before .before .before .before .before .before .before .before .before .pre .0 .0 .1, c .before .before .before .before .before .before .before .before .before .before .before .before .before .before .before .before .before .before .before .before .pre .0 .0 .6) in
+    let cut : at + b .len - at ≡ b .len = add-sub-cancel-left at (b .len) in
+    let row : List ℕ = part H at (b .len) in
+    let table : List ℕ = part T (b .from * 8 * lanes) (b .len * 8 * lanes) in
+    let long-row : length row ≡ b .len = simp (length-take, length-drop) (omega (arith, fits)) in
+    let long : length table ≡ b .len * 8 * lanes = simp (length-take, length-drop) (omega (arith, c .before .before .before .before .before .before .before .before .before .before .before .before .before .before .before .before .before .before .before .before .pre .0 .0 .5, c .before .before .before .before .before .before .before .before .before .before .before .before .before .before .before .before .before .before .before .before .pre .0 .0 .6)) in
+    let looked = rw (cut, long-row) at (c .before .before .before .before .before .before .look-up-row .ensures) in
+    let start : (e : ℕ) → e < b .tau → e < lanes → byteAt (c .before .before .before .before .before .before .before .before .before .before .start-column .last .0) e ≡ frontLane H (b .width) (b .k) T (b .from) (a .rho) e =
+    λ e h l.
+    front-start H T (b .width) (b .k) (b .from) (a .rho) e (byteAt (c .before .before .before .before .before .before .before .before .before .before .start-column .last .0) e) (λ z. c .before .before .before .before .before .before .before .before .before .before .start-column .ensures .0 z e l)
+    (λ pos. c .before .before .before .before .before .before .before .before .before .before .start-column .ensures .1 pos e h ∙ c .before .before .before .before .before .before .before .before .before .before .before .before .before .before .before .before .before .before .before .before .pre .1 .1 pos e h) in (
+      (λ e h.
+          let l : e < lanes = omega (arith, h, c .before .before .before .before .before .before .before .before .before .before .before .before .before .before .before .before .before .before .before .before .pre .0 .0 .2) in
+          c .before .before .put-column .ensures .0 e h ∙ looked table (b .len * 8) e (c .before .before .before .before .before .before .before .before .before .before .before .before .before .before .before .before .before .before .before .before .pre .1 .0) long (omega arith) l
+          ∙ ap (λ x. bitXor x (selected (b .len * 8) row table lanes e)) (start e h l)
+          ∙ front-more H T (b .width) (b .k) (b .from) (b .len) (a .rho) e (c .before .before .before .before .before .before .before .before .before .before .before .before .before .before .before .before .before .before .before .before .pre .0 .0 .6) l),
+      c .before .before .put-column .ensures .1,
+    )
 
 pub hash-row-spec : {M : Type 1} → statement M
 hash-row-spec =
-    tie.close (tie.spec slice-aggregate-look-up-row look-up-row-requires add-lanes-requires slice-aggregate-copy-into copy-into-requires same-length returns)
+    tie.close
+    (tie.spec
+    mul-at
+    add-at
+    add-end
+    slice-aggregate-start-column
+    start-column-requires
+    slice-aggregate-look-up-row
+    sub-look-up-row
+    part-look-up-row-start
+    part-look-up-row-end
+    look-up-row-requires
+    slice-aggregate-put-column
+    put-column-requires
+    same-length
+    returns)

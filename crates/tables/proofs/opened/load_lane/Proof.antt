@@ -17,12 +17,12 @@ use Rattle.tables.proofs.opened.load_lane.Statement.{statement}
 use Rattle.tables.proofs.opened.load_lane.Tie as tie
 
 sum-tree-requires : tie.Need-sum-tree-requires
-sum-tree-requires c κs = 
+sum-tree-requires c κs =
     let a = c .before .before .before .before .before .before .before .args in
     (c .before .before .before .before .before .before .before .pre .1, c .before .before .before .before .before .before .before .pre .6, opened-fits (now (a .tree)) (length (now (a .u))) (a .delta) (2 ^ a .r) (c .before .before .before .before .before .before .before .pre .3) (c .before .before .before .before .before .before .before .pre .5))
 
 add-correction-requires : tie.Need-add-correction-requires
-add-correction-requires c κs = 
+add-correction-requires c κs =
     rw (c .before .before .before .before .before .sum-tree .kept .0) (c .before .before .before .before .before .before .before .before .before .before .before .before .before .pre .4, c .before .before .before .before .before .before .before .before .before .before .before .before .before .pre .2)
 
 absorb-requires : tie.Need-absorb-requires
@@ -41,7 +41,7 @@ same-length-3 : tie.Need-same-length-3
 same-length-3 c = search needs
 
 returns : tie.Need-returns
-returns c = 
+returns c =
     let a = c .before .before .before .before .before .before .before .before .before .before .before .before .before .before .before .before .before .before .before .before .before .before .before .before .before .before .args in
     let w = length (now (a .u)) in
     let count = 2 ^ a .r in

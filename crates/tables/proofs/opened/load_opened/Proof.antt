@@ -32,19 +32,19 @@ leaves-of-requires : tie.Need-leaves-of-requires Inv-loop μ-loop
 leaves-of-requires c κs = c .before .before .before .before .pre .6
 
 sub-len : tie.Need-sub-len Inv-loop μ-loop
-sub-len c = 
+sub-len c =
     let count : c .leaves-of .result ≡ 2 ^ c .before .before .before .before .before .args .r = c .leaves-of .ensures in
     rw count (pow-pos (c .before .before .before .before .before .args .r))
 
 mul-len : tie.Need-mul-len Inv-loop μ-loop
-mul-len c = 
+mul-len c =
     let a = c .before .before .before .before .before .args in
     let count : c .leaves-of .result ≡ 2 ^ a .r = c .leaves-of .ensures in
     let few : 2 ^ a .r - 1 ≤ 255 = omega (arith, leaves-most (a .r) (c .before .before .before .before .before .pre .6)) in
     rw count (omega (arith, mul-le-mul few (c .before .before .before .before .before .pre .5)))
 
 loop-holds : tie.Need-loop-holds Inv-loop μ-loop
-loop-holds c = 
+loop-holds c =
     (search needs, refl, refl, refl, λ e c h. absurd (omega arith))
 
 array-borrow-prefix-u : tie.Need-array-borrow-prefix-u Inv-loop μ-loop
@@ -63,7 +63,7 @@ slice-aggregate-load-lane-2 : tie.Need-slice-aggregate-load-lane-2 Inv-loop μ-l
 slice-aggregate-load-lane-2 c = simp length-take (omega arith)
 
 row-at-requires : tie.Need-row-at-requires Inv-loop μ-loop
-row-at-requires c κs = 
+row-at-requires c κs =
     let a = c .before .before .before .before .before .before .before .before .before .before .args in
     let count : c .before .before .before .before .before .leaves-of .result ≡ 2 ^ a .r = c .before .before .before .before .before .leaves-of .ensures in
     rw count (omega (arith, row-end (c .before .before .before .before .loop .e) (a .tau) ((2 ^ a .r - 1) * a .w) (search needs), mul-assoc (a .tau) (2 ^ a .r - 1) (a .w), c .before .before .before .before .before .before .before .before .before .before .pre .1))
@@ -75,7 +75,7 @@ wide-requires : tie.Need-wide-requires Inv-loop μ-loop
 wide-requires c κs = search needs
 
 load-lane-requires : tie.Need-load-lane-requires Inv-loop μ-loop
-load-lane-requires c κs = 
+load-lane-requires c κs =
     let a = c .before .before .before .before .before .before .before .before .before .before .before .before .before .args in
     let l = c .before .before .before .before .before .before .before .loop in
     let count : c .before .before .before .before .before .before .before .before .leaves-of .result ≡ 2 ^ a .r = c .before .before .before .before .before .before .before .before .leaves-of .ensures in
@@ -97,7 +97,7 @@ loop-less : tie.Need-loop-less Inv-loop μ-loop
 loop-less c = search needs
 
 loop-again : tie.Need-loop-again Inv-loop μ-loop
-loop-again c = 
+loop-again c =
     let a = c .before .before .before .before .before .before .before .before .before .before .before .before .before .before .before .before .before .before .args in
     let l = c .before .before .before .before .before .before .before .before .before .before .before .before .loop in
     let call = c .before .before .before .before .load-lane in
