@@ -28,6 +28,13 @@ block-block s n w i ρ h =
     part-take w (ρ * w) (n * w) (drop (i * (n * w)) s) (row-end ρ n w h)
     ∙ ap (take w) (drop-drop (ρ * w) (i * (n * w)) s ∙ ap (λ (k : ℕ). drop k s) e)
 
+-- block i of the part of a string from block f on is block f + i
+pub block-part : (s : List ℕ) (w f c i : ℕ) → i < c → blockAt (take (c * w) (drop (f * w) s)) w i ≡ blockAt s w (f + i)
+unfolding blockAt part
+block-part s w f c i h =
+    part-take w (i * w) (c * w) (drop (f * w) s) (row-end i c w h)
+    ∙ ap (take w) (drop-drop (i * w) (f * w) s ∙ ap (λ (k : ℕ). drop k s) (sym (add-mul f i w)))
+
 pub bytes-enough : (n : ℕ) → n ≤ bytesFor n * 8
 unfolding bytesFor
 bytes-enough n = omega arith

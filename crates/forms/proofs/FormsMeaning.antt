@@ -139,7 +139,7 @@ module _ (s : Shape) where
     pub qs0-is : bitXor (maskLane T (maskAt bits256 s e) e) (formsByte (s .n) (s .m) (sectionA bits256 s key) χ e g) ≡ byteOf (qs0 bits256 s leaves key χ e)
     unfolding qs0 a₀
     qs0-is =
-        xor-comm _ _
+        xor-comm (maskLane T (maskAt bits256 s e) e) (formsByte (s .n) (s .m) (sectionA bits256 s key) χ e g)
         ∙ ap₂ bitXor (batch-is gf256 s χ e _ (λ i. quad bits256 s key i (v bits256 s leaves e) (v bits256 s leaves e)) (λ i. form-is gf256 s key i g (v bits256 s leaves e) front))
         (mask-is e (λ c. laneAt T c e) (v bits256 s leaves e) le holds)
         ∙ sym (gf256 .byte-add _ _)
@@ -148,7 +148,7 @@ module _ (s : Shape) where
         → bitXor (maskBits us (maskAt bits256 s e)) (middlesByte (s .n) (s .m) (sectionA bits256 s key) (sectionB bits256 s key) (bit x) χ e g) ≡ byteOf (qs1 bits256 s leaves key x χ e)
     unfolding qs1 a₁
     qs1-is x us bits =
-        xor-comm _ _
+        xor-comm (maskBits us (maskAt bits256 s e)) (middlesByte (s .n) (s .m) (sectionA bits256 s key) (sectionB bits256 s key) (bit x) χ e g)
         ∙ ap₂ bitXor (batch-is gf256 s χ e _ (λ i. middle bits256 s key i (v bits256 s leaves e) (symbol bits256 x)) (λ i. middle-is gf256 s key i g (v bits256 s leaves e) front x))
         (mask-is e (bit us) (u bits256 s leaves 0) le bits)
         ∙ sym (gf256 .byte-add _ _)

@@ -17,7 +17,7 @@ use lib.ListN.{length}
 use Rattle.algebra.specs.Coded.{mulByte}
 use Rattle.field.specs.Gf256.{gf256}
 use Rattle.protocol.specs.Strings.{bytesFor}
-use Rattle.protocol.specs.Shape.{mostVariables}
+use Rattle.protocol.specs.Shape.{mostVariables, mostEquations}
 use Rattle.strings.specs.Sums.{byteAt, xorSum}
 use Rattle.lanes.specs.Lanes.{lanes}
 use Rattle.chunks.specs.Chunks.{mostBlock}
@@ -56,9 +56,9 @@ abbrev pub FormsInputs : ℕ → ℕ → ℕ → List ℕ → List ℕ → List 
 FormsInputs n m τ quad lin A b xs χ T polar =
     (length quad ≡ lanes) × (length lin ≡ lanes) × (n ≤ mostVariables) × (τ ≤ lanes) × (0 < τ) × (length A ≡ m * (n * bytesFor n)) × (length b ≡ m * bytesFor n)
     × (length χ ≡ τ * m) × (length T ≡ n * lanes) × (length xs ≡ mostVariables) × IsBits xs × ((c : ℕ) → n ≤ c → byteAt xs c ≡ 0)
-    × (polar ≡ false → (c : ℕ) → byteAt xs c ≡ 0)
+    × (polar ≡ false → (c : ℕ) → byteAt xs c ≡ 0) × (m ≤ mostEquations)
 
 abbrev pub BatchInputs : ℕ → ℕ → ℕ → List ℕ → List ℕ → List ℕ → List ℕ → List ℕ → List ℕ → List ℕ → Type 0
 BatchInputs n m τ qs0 qs1 A b x χ T =
     (length qs0 ≡ lanes) × (length qs1 ≡ lanes) × (n ≤ mostVariables) × (τ ≤ lanes) × (0 < τ) × (length A ≡ m * (n * bytesFor n)) × (length b ≡ m * bytesFor n)
-    × (length χ ≡ τ * m) × (length T ≡ n * lanes) × (length x ≡ bytesFor n)
+    × (length χ ≡ τ * m) × (length T ≡ n * lanes) × (length x ≡ bytesFor n) × (m ≤ mostEquations)

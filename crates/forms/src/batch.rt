@@ -2,7 +2,7 @@
 // the witness and the string u are secret.
 ghost use mathlib.Core.Path.{_≡_};
 ghost use Prim.Native.Nat.{ℕ, _+_, _*_, _<_, _≤_};
-ghost use lib.ListN.{length};
+ghost use lib.ListN.{length, take, drop};
 ghost use Rattle.protocol.specs.Strings.{bit};
 ghost use Rattle.strings.specs.Sums.{byteAt};
 ghost use Rattle.strings.specs.Rows.{RowsKept};
@@ -47,6 +47,15 @@ fn put_lines(lines: &mut [u8], b: &[u8], width: usize, m: usize)
         put_line(lines, i, b, width);
         i += 1;
     }
+}
+
+// `count` rows of a table, from row `first` on, as that part of it.
+fn rows_at(table: &[u8], width: usize, first: usize, count: usize) -> &[u8]
+    requires { ⌜ first * width + count * width ≤ length (now table) ⌝ }
+    ensures { λ r. ⌜ (now r ≡ take (count * width) (drop (first * width) (now (table .entry)))) × (length (now r) ≡ count * width) ⌝ }
+{
+    let at = first * width;
+    &table[at..at + count * width]
 }
 
 // A block of a key's equations: `count` of its m, from `from` on, in n variables, for tau repetitions. The polar form
@@ -147,9 +156,16 @@ pub fn batch_forms(
             count,
             polar,
         };
-        let matrices = &a[from * size..(from + count) * size];
-        let rows = &b[from * width..(from + count) * width];
-        batch_block(quad, lin, matrices, rows, xs, chi, table, k);
+        batch_block(
+            quad,
+            lin,
+            rows_at(a, size, from, count),
+            rows_at(b, width, from, count),
+            xs,
+            chi,
+            table,
+            k,
+        );
         from += count;
     }
 }

@@ -1,95 +1,139 @@
--- `forms::batch::batch_forms` meets its contract: the words of what the batching bytes choose, the lines, and the forms
--- of the batched matrix with the lines (`BatchLaws`).
+-- `forms::batch::batch_forms` meets its contract. The invariant: the equations below `from` are added (`BlockSums`).
 -- Assumes nothing.
 use borrow.Author.Needs.{needs}
-use Prim.Native.Nat.{ℕ, _+_, _*_, _<_}
-use mathlib.Core.Path.{refl, ap, ap₂, _∙_}
-use native.Mathlib.Nat.{add-zero}
+use Prim.Native.Nat.{ℕ, _+_, _*_, _-_, _/_, _≤_, _<_}
+use mathlib.Core.List.{List}
+use mathlib.Core.Path.{_≡_, refl, sym, ap, ap₂, _∙_}
+use native.Mathlib.Nat.{mul-le-mul}
 use native.Mathlib.Omega.{arith}
 use denote.Ref.{now}
-use lib.Bits.{bitXor}
+use lib.ListN.{length, take, drop}
+use lib.Bits.{bitXor, xor-zero-r}
+use Rattle.algebra.specs.Coded.{mulByte}
+use Rattle.field.specs.Gf256.{gf256}
 use Rattle.protocol.specs.Strings.{bytesFor}
-use Rattle.strings.specs.Sums.{byteAt}
-use Rattle.forms_choices.specs.Entries.{ChosenAll}
-use Rattle.forms_choices.proofs.ChoiceLaws.{chosen-same}
-use Rattle.forms.proofs.BatchLaws.{bytesOf, form-is, polar-is, lines-are, middle-is}
+use Rattle.strings.specs.Sums.{byteAt, xorSum}
+use Rattle.lanes.specs.Lanes.{lanes, laneAt}
+use Rattle.strings.proofs.LeastLaws.{under-least}
+use Rattle.chunks.specs.Chunks.{mostBlock}
+use Rattle.equations.specs.Equations.{rowOf, matrixOf}
+use Rattle.forms.specs.Forms.{formByte, middleByte}
+use Rattle.forms.specs.Batch.{blockForms, blockMiddles}
+use Rattle.forms.proofs.BlockSums.{part-inside, sums-more, forms-part, middles-part}
 use Rattle.forms.proofs.batch.batch_forms.Statement.{statement}
 use Rattle.forms.proofs.batch.batch_forms.Tie as tie
 
-groups-for-requires : tie.Need-groups-for-requires
-groups-for-requires c κs = search needs
+-- what equation i adds in repetition e
+abbrev formTerm : ℕ → ℕ → List ℕ → List ℕ → List ℕ → ℕ → ℕ → ℕ
+formTerm n m A χ T e i = mulByte gf256 (byteAt χ (e * m + i)) (formByte n (matrixOf n A i) (λ k. laneAt T k e))
 
-add-width : tie.Need-add-width
+abbrev middleTerm : ℕ → ℕ → List ℕ → List ℕ → List ℕ → List ℕ → List ℕ → ℕ → ℕ → ℕ
+middleTerm n m A b xs χ T e i = mulByte gf256 (byteAt χ (e * m + i)) (middleByte n (matrixOf n A i) (rowOf n b i) (byteAt xs) (λ k. laneAt T k e))
+
+abbrev Inv-loop : tie.InvT-loop
+Inv-loop quad₀ lin₀ a b xs chi table n m tau polar width size from₀ quad lin from = (from ≤ m) × (length quad ≡ lanes) × (length lin ≡ lanes) × ((e : ℕ) → e < tau → byteAt quad e ≡ bitXor (byteAt quad₀ e) (xorSum from (formTerm n m a chi table e))) × ((e : ℕ) → e < tau → byteAt lin e ≡ bitXor (byteAt lin₀ e) (xorSum from (middleTerm n m a b xs chi table e)))
+
+abbrev μ-loop : tie.MeasureT-loop
+μ-loop quad₀ lin₀ a b xs chi table n m tau polar width size from₀ quad lin from = m - from
+
+add-width : tie.Need-add-width Inv-loop μ-loop
 add-width c = search needs
 
-slice-aggregate-fill-words : tie.Need-slice-aggregate-fill-words
-slice-aggregate-fill-words c = search needs
+mul-size : tie.Need-mul-size Inv-loop μ-loop
+mul-size c =
+    let n = c .before .before .before .before .before .before .before .args .f .n in
+    let narrow : _/_ (n + 7) 8 ≤ 1000 = omega (arith, c .before .before .before .before .before .before .before .pre .2) in
+    omega (arith, mul-le-mul (c .before .before .before .before .before .before .before .pre .2) narrow)
 
-fill-words-requires : tie.Need-fill-words-requires
-fill-words-requires c κs = search needs
+loop-holds : tie.Need-loop-holds Inv-loop μ-loop
+unfolding xorSum
+loop-holds c = (search needs, c .before .before .before .before .before .before .before .pre .0, c .before .before .before .before .before .before .before .pre .1, (λ e h. sym (xor-zero-r _)), λ e h. sym (xor-zero-r _))
 
-slice-aggregate-put-lines : tie.Need-slice-aggregate-put-lines
-slice-aggregate-put-lines c = search needs
+sub-least : tie.Need-sub-least Inv-loop μ-loop
+sub-least c = search needs
 
-put-lines-requires : tie.Need-put-lines-requires
+least-requires : tie.Need-least-requires Inv-loop μ-loop
+least-requires c κs = search needs
+
+rows-at-requires : tie.Need-rows-at-requires Inv-loop μ-loop
 unfolding bytesFor
-put-lines-requires c κs =
-    let pre = c .before .before .before .before .before .before .before .before .before .before .before .before .pre in
-    (omega (arith, pre .3), pre .6, omega (arith, pre .2))
+rows-at-requires c κs =
+    part-inside (c .before .before .before .before .loop .from) (c .before .before .least .result) (c .before .before .before .before .before .before .before .before .before .before .before .before .args .f .m) _ (omega (arith, c .before .before .least .ensures .0, c .before .before .before .loop-test .taken)) (c .before .before .before .before .before .before .before .before .before .before .before .before .pre .5)
 
-slice-aggregate-add-forms : tie.Need-slice-aggregate-add-forms
-slice-aggregate-add-forms c = search needs
-
-slice-aggregate-add-forms-2 : tie.Need-slice-aggregate-add-forms-2
-slice-aggregate-add-forms-2 c = search needs
-
-add-forms-requires : tie.Need-add-forms-requires
+rows-at-requires-2 : tie.Need-rows-at-requires-2 Inv-loop μ-loop
 unfolding bytesFor
-add-forms-requires c κs =
-    let pre = c .before .before .before .before .before .before .before .before .before .before .before .before .before .before .before .before .before .before .pre in
-    let groups = c .before .before .before .before .before .before .before .before .before .before .groups-for in
-    let chosen = c .before .before .before .before .before .before .before .before .fill-words in
-    (pre .0, pre .1, pre .5, refl, pre .2, pre .12, pre .3, pre .13, pre .4, groups .ensures, omega (arith, chosen .kept .0, pre .4), pre .8, pre .9, pre .10, pre .11, pre .14, omega (arith, pre .3, c .before .before .before .before .before .put-lines .kept .0))
+rows-at-requires-2 c κs =
+    part-inside (c .before .before .before .before .before .loop .from) (c .before .before .before .least .result) (c .before .before .before .before .before .before .before .before .before .before .before .before .before .args .f .m) _ (omega (arith, c .before .before .before .least .ensures .0, c .before .before .before .before .loop-test .taken)) (c .before .before .before .before .before .before .before .before .before .before .before .before .before .pre .6)
 
-same-length : tie.Need-same-length
+-- a block has an equation
+some : (c : tie.After-least Inv-loop μ-loop) → 1 ≤ c .least .result
+some c = under-least 1 (c .least .result) (c .before .before .before .before .before .before .before .before .before .before .args .f .m - c .before .before .loop .from) mostBlock (c .least .ensures .2) (omega (arith, c .before .loop-test .taken)) (omega arith)
+
+batch-block-requires : tie.Need-batch-block-requires Inv-loop μ-loop
+unfolding bytesFor
+batch-block-requires c κs =
+    let least = c .before .before .before .before .least .ensures in
+    let more = c .before .before .before .before .before .loop-test .taken in
+    let count : 0 < c .before .before .before .before .least .result = some (c .before .before .before .before) in
+    (c .before .before .before .before .before .before .loop .inv .1, c .before .before .before .before .before .before .loop .inv .2, c .before .before .before .before .before .before .before .before .before .before .before .before .before .before .pre .2, c .before .before .before .before .before .before .before .before .before .before .before .before .before .before .pre .3, c .before .before .before .before .before .before .before .before .before .before .before .before .before .before .pre .4, c .before .rows-at .ensures .1, c .rows-at2 .ensures .1, c .before .before .before .before .before .before .before .before .before .before .before .before .before .before .pre .7, c .before .before .before .before .before .before .before .before .before .before .before .before .before .before .pre .8, c .before .before .before .before .before .before .before .before .before .before .before .before .before .before .pre .9, c .before .before .before .before .before .before .before .before .before .before .before .before .before .before .pre .10, c .before .before .before .before .before .before .before .before .before .before .before .before .before .before .pre .11, c .before .before .before .before .before .before .before .before .before .before .before .before .before .before .pre .12, count, least .1, omega (arith, least .0, more))
+
+add-from : tie.Need-add-from Inv-loop μ-loop
+add-from c = omega (arith, c .before .before .before .before .before .before .before .before .before .least .ensures .0, c .before .before .before .before .before .before .before .before .before .before .loop-test .taken, c .before .before .before .before .before .before .before .before .before .before .before .before .before .before .before .before .before .before .before .pre .13)
+
+loop-less : tie.Need-loop-less Inv-loop μ-loop
+loop-less c = omega (arith, c .before .before .before .before .before .before .before .before .before .least .ensures .0, some (c .before .before .before .before .before .before .before .before .before), c .before .before .before .before .before .before .before .before .before .before .loop-test .taken)
+
+loop-again : tie.Need-loop-again Inv-loop μ-loop
+unfolding bytesFor
+loop-again c =
+    let a = c .before .before .before .before .before .before .before .before .before .before .before .before .before .before .before .before .before .before .before .args in
+    let l = c .before .before .before .before .before .before .before .before .before .before .before .loop in
+    let k = c .before .before .before .before .before .before .before .before .before .least .result in
+    let done = c .before .before .before .before .batch-block in
+    let χ = now (a .chi) in
+    let T = now (a .table) in (
+      omega (arith, c .before .before .before .before .before .before .before .before .before .least .ensures .0, c .before .before .before .before .before .before .before .before .before .before .loop-test .taken),
+      done .kept .0 ∙ l .inv .1,
+      done .kept .1 .0 ∙ l .inv .2,
+      (λ e h.
+          done .ensures .0 e h
+          ∙ ap (bitXor (byteAt (l .quad) e)) (ap (λ (M : List ℕ). blockForms (a .f .n) (a .f .m) (l .from) k M χ e (λ z. laneAt T z e)) (c .before .before .before .before .before .before .rows-at .ensures .0) ∙ forms-part (a .f .n) (a .f .m) (l .from) k e (now (a .a)) (now (a .b)) χ (λ z. laneAt T z e))
+          ∙ sums-more (byteAt (now (a .quad)) e) (byteAt (l .quad) e) (l .from) k (formTerm (a .f .n) (a .f .m) (now (a .a)) χ T e) (l .inv .3 e h)),
+      (λ e h.
+          done .ensures .1 e h
+          ∙ ap (bitXor (byteAt (l .lin) e)) (ap₂ (λ (M r : List ℕ). blockMiddles (a .f .n) (a .f .m) (l .from) k M r (byteAt (now (a .xs))) χ e (λ z. laneAt T z e)) (c .before .before .before .before .before .before .rows-at .ensures .0) (c .before .before .before .before .before .rows-at2 .ensures .0) ∙ middles-part (a .f .n) (a .f .m) (l .from) k e (now (a .a)) (now (a .b)) χ (λ z. laneAt T z e) (byteAt (now (a .xs))))
+          ∙ sums-more (byteAt (now (a .lin)) e) (byteAt (l .lin) e) (l .from) k (middleTerm (a .f .n) (a .f .m) (now (a .a)) (now (a .b)) (now (a .xs)) χ T e) (l .inv .4 e h)),
+    )
+
+same-length : tie.Need-same-length Inv-loop μ-loop
 same-length c = search needs
 
-same-length-2 : tie.Need-same-length-2
+same-length-2 : tie.Need-same-length-2 Inv-loop μ-loop
 same-length-2 c = search needs
 
-returns : tie.Need-returns
-unfolding bytesFor
+returns : tie.Need-returns Inv-loop μ-loop
 returns c =
-    let pre = c .before .before .before .before .before .before .before .before .before .before .before .before .before .before .before .before .before .before .before .before .before .before .before .before .pre in
-    let a = c .before .before .before .before .before .before .before .before .before .before .before .before .before .before .before .before .before .before .before .before .before .before .before .before .args in
-    let chosen = c .before .before .before .before .before .before .before .before .before .before .before .before .before .before .fill-words in
-    let lines = c .before .before .before .before .before .before .before .before .before .before .before .put-lines in
-    let formed = c .before .before .before .before .before .add-forms in
-    let T = now (a .table) in
-    let χ = now (a .chi) in
-    let small : (k : ℕ) → byteAt χ k < 256 = λ k. c .before .before .before .before .before .before .before .before .before .before .before .before .before .before .before .before .before .before .shared-slice-known4 .given k .fits in
-    let bytes : (k : ℕ) → byteAt T k < 256 = λ k. c .before .before .before .before .before .before .before .before .before .before .before .before .before .before .before .before .before .shared-slice-known5 .given k .fits in
-    let picked : ChosenAll (bytesOf (a .d .m) χ) (a .d .m) (a .d .tau) (chosen .last .0) = chosen-same _ (bytesOf (a .d .m) χ) (a .d .m) (a .d .tau) (chosen .last .0) (λ q i l. ap (λ (k : ℕ). byteAt χ (k + i)) (add-zero (q * a .d .m))) (chosen .ensures) in (
-      (λ e h. formed .ensures .0 (bytesOf (a .d .m) χ) e (λ q i. small (q * a .d .m + i)) picked h ∙ ap (bitXor (byteAt (now (a .quad)) e)) (form-is (a .d .n) (a .d .m) e (now (a .a)) T χ)),
-      (λ e h.
-          formed .ensures .1 .0 (bytesOf (a .d .m) χ) e (λ q i. small (q * a .d .m + i)) picked h
-          ∙ ap₂ (λ (u v : ℕ). bitXor (bitXor (byteAt (now (a .lin)) e) u) v) (polar-is (a .d .n) (a .d .m) e (now (a .a)) T χ bytes (byteAt (now (a .xs))) (pre .10)) (lines-are (a .d .n) (a .d .m) e (now (a .a)) T χ (now (a .b)) (lines .last .0) (lines .ensures))
-          ∙ middle-is (a .d .n) (a .d .m) e (now (a .a)) T χ bytes (byteAt (now (a .xs))) (pre .10) (now (a .b)) (byteAt (now (a .lin)) e)),
-    )
+    let l = c .before .loop in
+    let end : l .from ≡ c .before .before .before .before .before .before .before .before .before .args .f .m = omega arith in
+    ((rw end at (l .inv .3)), (rw end at (l .inv .4)))
 
 pub batch-forms-spec : {M : Type 1} → statement M
 batch-forms-spec =
     tie.close
     (tie.spec
-    groups-for-requires
+    Inv-loop
+    μ-loop
     add-width
-    slice-aggregate-fill-words
-    fill-words-requires
-    slice-aggregate-put-lines
-    put-lines-requires
-    slice-aggregate-add-forms
-    slice-aggregate-add-forms-2
-    add-forms-requires
+    mul-size
+    loop-holds
+    sub-least
+    least-requires
+    rows-at-requires
+    rows-at-requires-2
+    batch-block-requires
+    add-from
+    loop-less
+    loop-again
     same-length
     same-length-2
     returns)
