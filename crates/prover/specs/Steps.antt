@@ -5,13 +5,13 @@
 --     form
 --   CommitWritten, HashWritten, BatchWritten == the output is the step's bytes
 --   RestReady, RestWritten == of the steps after the first, in a whole proof
---   FormsReady, FormsWritten == of two rows of lanes: their first τ bytes are the sections QS0 and QS1
+--   MasksReady, FormsReady == two rows of lanes, to which the masks and the batched forms are added, and what that needs
 -- Assumes nothing.
 use mathlib.Core.Path.{_≡_}
 use mathlib.Core.Bool.{true}
 use mathlib.Core.List.{List, [], _∷_}
 use Prim.Native.Nat.{ℕ, _+_, _*_, _-_, _≤_}
-use lib.ListN.{length, take}
+use lib.ListN.{length}
 use Rattle.protocol.specs.Strings.{bytesFor}
 use Rattle.protocol.specs.Frames.{frame}
 use Rattle.protocol.specs.Alphabet.{Alphabet}
@@ -66,17 +66,19 @@ module _ (A : Alphabet) (s : Shape) where
   abbrev pub BatchWritten : (key x χ table sums out : List ℕ) → Type 0
   BatchWritten key x χ table sums out = (leaves : List ℕ) → Loaded A s leaves table sums → out ≡ batchFrame leaves key x χ
 
-  pub record FormsReady (key x χ table sums qs0 qs1 : List ℕ) : Type 0 where
-    pub key-facts : KeyFacts A s key
-    pub witness-form : WitnessForm A s x
-    pub batching-length : length χ ≡ s .τ * s .m
+  pub record MasksReady (table sums qs0 qs1 : List ℕ) : Type 0 where
+    pub in-range : limits s ≡ true
     pub buffers : Buffers A s table sums
     pub qs0-lanes : length qs0 ≡ lanes
     pub qs1-lanes : length qs1 ≡ lanes
 
-  abbrev pub FormsWritten : (key x χ table sums qs0 qs1 : List ℕ) → Type 0
-  FormsWritten key x χ table sums qs0 qs1 =
-      (leaves : List ℕ) → Loaded A s leaves table sums → (take (s .τ) qs0 ≡ qs0Section A s leaves key χ) × (take (s .τ) qs1 ≡ qs1Section A s leaves key x χ)
+  pub record FormsReady (key x χ table qs0 qs1 : List ℕ) : Type 0 where
+    pub key-facts : KeyFacts A s key
+    pub witness-form : WitnessForm A s x
+    pub batching-length : length χ ≡ s .τ * s .m
+    pub table-room : s .n * lanes ≤ length table
+    pub qs0-lanes : length qs0 ≡ lanes
+    pub qs1-lanes : length qs1 ≡ lanes
 
   pub record RestReady (key x H′ χ table sums out : List ℕ) : Type 0 where
     pub key-facts : KeyFacts A s key

@@ -1,6 +1,12 @@
 // The three steps of a proof, each from the sums and the table of the call's trees into its own part of the output.
+ghost use Rattle.protocol.specs.Lists.{blockAt};
+ghost use Rattle.protocol.specs.Strings.{bit};
+ghost use Rattle.protocol.specs.Shape.{wOf};
+ghost use Rattle.protocol.specs.Key.{sectionA, sectionB};
 ghost use Rattle.format.specs.Sizes.{alphabetFor, shapeFor};
-ghost use Rattle.prover.specs.Steps.{CommitReady, CommitWritten, HashReady, HashWritten, BatchReady, BatchWritten, FormsReady, FormsWritten};
+ghost use Rattle.lanes.specs.Lanes.{laneAt, LanesAdded, maskLane, maskBits, firstMask};
+ghost use Rattle.forms.specs.Batch.{formsByte, middlesByte};
+ghost use Rattle.prover.specs.Steps.{CommitReady, CommitWritten, HashReady, HashWritten, BatchReady, BatchWritten, MasksReady, FormsReady};
 use super::framed::write_c;
 use super::framed::write_d;
 use super::framed::write_u;
@@ -33,21 +39,37 @@ pub fn hash_into(out: &mut [u8], matrix: &[u8], table: &[u8], sums: &[u8], s: Si
     write_v(&mut out[split..], matrix, table, s);
 }
 
-// QS0 and QS1 in the first lanes of two rows.
-fn fill_forms(
+// Adds the masks of every repetition: A*₀, of its v_e, to qs0, and A*₁, of u_0, to qs1.
+fn add_masks(qs0: &mut [u8], qs1: &mut [u8], table: &[u8], sums: &[u8], s: Sizes)
+    requires { ⌜ MasksReady (alphabetFor s) (shapeFor s) (now table) (now sums) (now qs0) (now qs1) ⌝ }
+    ensures { λ _. ⌜ LanesAdded (s .tau) (λ e. maskLane (now (table .entry)) (firstMask s e) e) (now (qs0 .entry)) (now (qs0 .exit)) ⌝ }
+    ensures { λ _. ⌜ LanesAdded (s .tau) (λ e. maskBits (blockAt (now (sums .entry)) (wOf (alphabetFor s) (shapeFor s)) 0) (firstMask s e))
+        (now (qs1 .entry)) (now (qs1 .exit)) ⌝ }
+{
+    let w = leaf_bytes(s);
+    lanes::add_masks(qs0, table, s);
+    lanes::add_mask_bits(qs1, strings::row_at(sums, w, 0), s);
+}
+
+// Adds what the equations of the key give.
+fn add_forms(
     qs0: &mut [u8],
     qs1: &mut [u8],
     key: &[u8],
     witness: &[u8],
     batching: &[u8],
     table: &[u8],
-    sums: &[u8],
     s: Sizes,
 )
-    requires { ⌜ FormsReady (alphabetFor s) (shapeFor s) (now key) (now witness) (now batching) (now table) (now sums) (now qs0) (now qs1) ⌝ }
-    ensures { λ _. ⌜ FormsWritten (alphabetFor s) (shapeFor s) (now (key .entry)) (now (witness .entry)) (now (batching .entry)) (now (table .entry)) (now (sums .entry)) (now (qs0 .exit)) (now (qs1 .exit)) ⌝ }
+    requires { ⌜ FormsReady (alphabetFor s) (shapeFor s) (now key) (now witness) (now batching) (now table) (now qs0) (now qs1) ⌝ }
+    ensures { λ _. ⌜ LanesAdded (s .tau)
+        (λ e. formsByte (s .n) (s .m) (sectionA (alphabetFor s) (shapeFor s) (now (key .entry))) (now (batching .entry)) e (λ c. laneAt (now (table .entry)) c e))
+        (now (qs0 .entry)) (now (qs0 .exit)) ⌝ }
+    ensures { λ _. ⌜ LanesAdded (s .tau)
+        (λ e. middlesByte (s .n) (s .m) (sectionA (alphabetFor s) (shapeFor s) (now (key .entry))) (sectionB (alphabetFor s) (shapeFor s) (now (key .entry)))
+            (bit (now (witness .entry))) (now (batching .entry)) e (λ c. laneAt (now (table .entry)) c e))
+        (now (qs1 .entry)) (now (qs1 .exit)) ⌝ }
 {
-    let w = leaf_bytes(s);
     let n = s.n;
     let m = s.m;
     let tau = s.tau;
@@ -58,8 +80,7 @@ fn fill_forms(
         questions::key::section_b(key, s),
         witness,
         batching,
-        strings::row_at(sums, w, 0),
-        table,
+        &table[..n * LANES],
         Dimensions { n, m, tau },
     );
 }
@@ -79,7 +100,8 @@ pub fn batch_into(
 {
     let mut qs0 = [0u8; LANES];
     let mut qs1 = [0u8; LANES];
-    fill_forms(&mut qs0, &mut qs1, key, witness, batching, table, sums, s);
+    add_masks(&mut qs0, &mut qs1, table, sums, s);
+    add_forms(&mut qs0, &mut qs1, key, witness, batching, table, s);
     let tau = s.tau;
     put_two(out, &qs0[..tau], &qs1[..tau]);
 }
