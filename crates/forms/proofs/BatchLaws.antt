@@ -9,13 +9,13 @@ use lib.Bits.{bitXor, xor-comm, xor-zero-r}
 use lib.Dec.{lit<}
 use Rattle.algebra.specs.Coded.{mulByte}
 use Rattle.field.specs.Gf256.{gf256}
+use Rattle.field.specs.Degrees.{degree}
 use Rattle.protocol.specs.Strings.{bytesFor, bit}
 use Rattle.protocol.proofs.StringLaws.{bit-lt}
 use Rattle.strings.specs.Sums.{byteAt, bitOf, xorSum}
 use Rattle.strings.proofs.XorLaws.{xor-assoc}
 use Rattle.strings.proofs.SumLaws.{sum-same, sum-lt, sum-none, sum-both}
 use Rattle.strings.proofs.ProductLaws.{bit-times-lt}
-use Rattle.chunks.specs.Chunks.{cellAt}
 use Rattle.chunks.proofs.BitSumLaws.{sum-swap}
 use Rattle.forms_columns.specs.Stacks.{byteProduct}
 use Rattle.forms_columns.proofs.ProductLaws.{product-comm, product-bits}
@@ -27,7 +27,7 @@ use Rattle.equations.specs.Equations.{rowOf, matrixOf}
 use Rattle.equations.proofs.BlockLaws.{bytes-enough}
 use Rattle.equations.proofs.RowLaws.{row-bit}
 use Rattle.forms.specs.Forms.{formByte, rowBit, middleByte}
-use Rattle.forms.specs.Batch.{batchOf}
+use Rattle.forms.specs.Batch.{LinesAre, batchOf}
 
 -- ---- batched sums
 
@@ -43,8 +43,8 @@ batch-same m χ e u v same = sum-same m _ _ (λ i l. ap (mulByte gf256 (χ e i))
 -- ---- the lines
 
 -- the bits of the lines, which are the rows of b
-pub line-bit : (n m : ℕ) (b L : List ℕ) → ((i f : ℕ) → i < m → f < bytesFor n → cellAt L i f ≡ byteAt b (i * bytesFor n + f))
-    → (i c : ℕ) → i < m → c < n → lineBit L i c ≡ bit (rowOf n b i) c
+pub line-bit : (n m : ℕ) (b L : List ℕ) → LinesAre m (bytesFor n) b L
+    → (i c : ℕ) → i < m → c < n → lineBit L m i c ≡ bit (rowOf n b i) c
 line-bit n m b L are i c hi hc =
     let covered : c < bytesFor n * 8 = omega (arith, bytes-enough n) in
     let inside : c / 8 < bytesFor n = omega arith in
@@ -54,10 +54,10 @@ line-bit n m b L are i c hi hc =
 
 module _ (n m e : ℕ) (A : List ℕ) (χ : ℕ → ℕ → ℕ) (g : ℕ → ℕ) where
   -- the sums of formSum, by rows
-  by-rows : (y W : ℕ → ℕ) → formSum n (bytesFor n) m A (χ) e y W ≡ xorSum m (λ i. byteProduct (χ e i) (xorSum n (λ ρ. byteProduct (W ρ) (rowBit n (rowOf n (matrixOf n A i) ρ) y))))
+  by-rows : (y W : ℕ → ℕ) → formSum n (bytesFor n) m A (χ) e y W ≡ xorSum m (λ i. byteProduct degree (χ e i) (xorSum n (λ ρ. byteProduct degree (W ρ) (rowBit n (rowOf n (matrixOf n A i) ρ) y))))
   unfolding formSum
   by-rows y W =
-      sum-same m _ _ (λ i l. ap (byteProduct (χ e i)) (sum-same n _ _ (λ ρ k. ap (byteProduct (W ρ)) (sum-same n _ _ (λ c j.
+      sum-same m _ _ (λ i l. ap (byteProduct degree (χ e i)) (sum-same n _ _ (λ ρ k. ap (byteProduct degree (W ρ)) (sum-same n _ _ (λ c j.
       ap (λ x. x * y c) (row-bit (matrixOf n A i) (bytesFor n) ρ c (omega (arith, bytes-enough n))))))))
 
   pub form-is : formSum n (bytesFor n) m A (χ) e (λ c. g c) (λ c. g c) ≡ batchOf m χ e (λ i. formByte n (matrixOf n A i) g)
@@ -65,17 +65,17 @@ module _ (n m e : ℕ) (A : List ℕ) (χ : ℕ → ℕ → ℕ) (g : ℕ → �
   form-is = by-rows (λ c. g c) (λ c. g c)
 
   -- the batched lines at the vectors, where the lines are the rows of b
-  pub lines-are : (b L : List ℕ) → ((i f : ℕ) → i < m → f < bytesFor n → cellAt L i f ≡ byteAt b (i * bytesFor n + f))
-      → xorSum n (λ c. byteProduct (g c) (lineSum L m (χ) e c)) ≡ batchOf m χ e (λ i. rowBit n (rowOf n b i) g)
-  unfolding byteProduct lineSum
+  pub lines-are : (b L : List ℕ) → LinesAre m (bytesFor n) b L
+      → xorSum n (λ c. byteProduct degree (g c) (lineSum L m (χ) e c)) ≡ batchOf m χ e (λ i. rowBit n (rowOf n b i) g)
+  unfolding byteProduct degree lineSum
   lines-are b L are =
-      sum-same n _ (λ c. xorSum m (λ i. bit (rowOf n b i) c * byteProduct (χ e i) (g c))) (λ c l.
-      ap (byteProduct (g c)) (sum-same m _ (λ i. bit (rowOf n b i) c * χ e i) (λ i k.
+      sum-same n _ (λ c. xorSum m (λ i. bit (rowOf n b i) c * byteProduct degree (χ e i) (g c))) (λ c l.
+      ap (byteProduct degree (g c)) (sum-same m _ (λ i. bit (rowOf n b i) c * χ e i) (λ i k.
       ap (λ x. x * χ e i) (line-bit n m b L are i c k l)))
-      ∙ sym (product-bits (g c) m (λ i. bit (rowOf n b i) c) (λ i. χ e i) (λ i. bit-lt (rowOf n b i) c))
-      ∙ sum-same m _ _ (λ i k. ap (λ x. bit (rowOf n b i) c * x) (product-comm (g c) (χ e i))))
-      ∙ sum-swap n m (λ c i. bit (rowOf n b i) c * byteProduct (χ e i) (g c))
-      ∙ sum-same m _ _ (λ i k. product-bits (χ e i) n (bit (rowOf n b i)) (λ c. g c) (bit-lt (rowOf n b i)))
+      ∙ sym (product-bits degree (g c) m (λ i. bit (rowOf n b i) c) (λ i. χ e i) (λ i. bit-lt (rowOf n b i) c))
+      ∙ sum-same m _ _ (λ i k. ap (λ x. bit (rowOf n b i) c * x) (product-comm degree (g c) (χ e i))))
+      ∙ sum-swap n m (λ c i. bit (rowOf n b i) c * byteProduct degree (χ e i) (g c))
+      ∙ sum-same m _ _ (λ i k. product-bits degree (χ e i) n (bit (rowOf n b i)) (λ c. g c) (bit-lt (rowOf n b i)))
 
   module _ (bytes : (c : ℕ) → g c < 256) (x : ℕ → ℕ) (bits : (c : ℕ) → x c < 2) where
     -- the two cross terms of an equation
@@ -89,14 +89,14 @@ module _ (n m e : ℕ) (A : List ℕ) (χ : ℕ → ℕ → ℕ) (g : ℕ → �
     row-lt row = sum-lt 1 n _ (lit< tt) (λ c l. bit-times-lt (bit row c) (x c) (bit-lt row c) (bits c))
 
     pub polar-is : bitXor (formSum n (bytesFor n) m A (χ) e (λ c. g c) x) (formSum n (bytesFor n) m A (χ) e x (λ c. g c)) ≡ batchOf m χ e cross
-    unfolding byteProduct cross
+    unfolding byteProduct degree cross
     polar-is =
         ap₂ bitXor
         (by-rows (λ c. g c) x ∙ sum-same m _ (λ i. mulByte gf256 (χ e i) (xorSum n (λ ρ. x ρ * rowBit n (rowOf n (matrixOf n A i) ρ) g))) (λ i l.
         ap (mulByte gf256 (χ e i)) (sum-same n _ _ (λ ρ k. product-scale (x ρ) (rowBit n (rowOf n (matrixOf n A i) ρ) g) (bits ρ) (selected-lt (rowOf n (matrixOf n A i) ρ))))))
         (by-rows x (λ c. g c) ∙ sum-same m _ (λ i. mulByte gf256 (χ e i) (xorSum n (λ ρ. rowBit n (rowOf n (matrixOf n A i) ρ) x * g ρ))) (λ i l.
         ap (mulByte gf256 (χ e i)) (sum-same n _ _ (λ ρ k.
-        product-comm (g ρ) (rowBit n (rowOf n (matrixOf n A i) ρ) x) ∙ product-scale (rowBit n (rowOf n (matrixOf n A i) ρ) x) (g ρ) (row-lt (rowOf n (matrixOf n A i) ρ)) (bytes ρ)))))
+        product-comm degree (g ρ) (rowBit n (rowOf n (matrixOf n A i) ρ) x) ∙ product-scale (rowBit n (rowOf n (matrixOf n A i) ρ) x) (g ρ) (row-lt (rowOf n (matrixOf n A i) ρ)) (bytes ρ)))))
         ∙ batch-xor m χ e (λ i. xorSum n (λ ρ. x ρ * rowBit n (rowOf n (matrixOf n A i) ρ) g)) (λ i. xorSum n (λ ρ. rowBit n (rowOf n (matrixOf n A i) ρ) x * g ρ))
         ∙ batch-same m χ e _ _ (λ i l. sym (sum-both n (λ ρ. x ρ * rowBit n (rowOf n (matrixOf n A i) ρ) g) (λ ρ. rowBit n (rowOf n (matrixOf n A i) ρ) x * g ρ)))
 

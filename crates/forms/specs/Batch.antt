@@ -1,13 +1,14 @@
 -- The sums that the batching bytes make of the coefficients of all equations, on bytes.
+--   LinesAre m w b L == the m lines of L are the rows of b, of w bytes each
 --   batchOf m χ e f == Σ_i χ(e, i)·f(i);  batchByte m χ e f == the same where a list χ has m bytes for each repetition
 --   formsByte n m A χ e f, middlesByte n m A b x χ e f == what they make of the forms of the equations at the vector f,
 --     and of 01's a₁ at it and the bits x
 --   blockBytes m from χ == the batching bytes of the equations from `from` on, of m in all
 --   blockForms, blockMiddles == the same sums over `count` equations only, whose parts of the sections are A and b
---   FormsInputs n m τ quad lin A b xs χ T polar == these are as long as m equations of n variables and τ repetitions
+--   FormsInputs n m τ quad lin cells A b xs χ vs polar == these are as long as m equations of n variables and τ repetitions
 --     need, the entries of xs are bits, 0 from n on, and 0 where the polar form is not asked for
 --   BlockInputs n m τ from count .. == the same, where A and b are the parts of a block of so many equations
---   BatchInputs n m τ qs0 qs1 A b x χ T == the same for a witness x
+--   BatchInputs n m τ qs0 qs1 cells A b x χ vs == the same for a witness x
 -- Assumes nothing.
 use mathlib.Core.Path.{_≡_}
 use mathlib.Core.Bool.{Bool, false}
@@ -22,8 +23,13 @@ use Rattle.strings.specs.Sums.{byteAt, xorSum}
 use Rattle.lanes.specs.Lanes.{lanes}
 use Rattle.chunks.specs.Chunks.{mostBlock}
 use Rattle.equations.specs.Equations.{rowOf, matrixOf}
-use Rattle.forms_columns.specs.Stacks.{IsBits}
+use Rattle.forms_columns.specs.Stacks.{VectorsRoom, IsBits}
+use Rattle.forms_batching.specs.Batched.{CellsRoom}
+use Rattle.forms_batching.specs.Lines.{lineByte, VectorsEnd}
 use Rattle.forms.specs.Forms.{formByte, middleByte}
+
+abbrev pub LinesAre : ℕ → ℕ → List ℕ → List ℕ → Type 0
+LinesAre m w b L = (i k : ℕ) → i < m → k < w → lineByte L m i k ≡ byteAt b (i * w + k)
 
 abbrev pub batchOf : ℕ → (ℕ → ℕ → ℕ) → ℕ → (ℕ → ℕ) → ℕ
 batchOf m χ e f = xorSum m (λ i. mulByte gf256 (χ e i) (f i))
@@ -46,19 +52,19 @@ blockForms n m from count A χ e f = batchOf count (blockBytes m from χ) e (λ 
 abbrev pub blockMiddles : ℕ → ℕ → ℕ → ℕ → List ℕ → List ℕ → (ℕ → ℕ) → List ℕ → ℕ → (ℕ → ℕ) → ℕ
 blockMiddles n m from count A b x χ e f = batchOf count (blockBytes m from χ) e (λ i. middleByte n (matrixOf n A i) (rowOf n b i) x f)
 
-abbrev pub BlockInputs : ℕ → ℕ → ℕ → ℕ → ℕ → List ℕ → List ℕ → List ℕ → List ℕ → List ℕ → List ℕ → List ℕ → Bool → Type 0
-BlockInputs n m τ from count quad lin A b xs χ T polar =
+abbrev pub BlockInputs : ℕ → ℕ → ℕ → ℕ → ℕ → List ℕ → List ℕ → List ℕ → List ℕ → List ℕ → List ℕ → List ℕ → List ℕ → Bool → Type 0
+BlockInputs n m τ from count quad lin cells A b xs χ vs polar =
     (length quad ≡ lanes) × (length lin ≡ lanes) × (n ≤ mostVariables) × (τ ≤ lanes) × (0 < τ) × (length A ≡ count * (n * bytesFor n)) × (length b ≡ count * bytesFor n)
-    × (length χ ≡ τ * m) × (length T ≡ n * lanes) × (length xs ≡ mostVariables) × IsBits xs × ((c : ℕ) → n ≤ c → byteAt xs c ≡ 0)
+    × (length χ ≡ τ * m) × VectorsRoom vs × VectorsEnd n τ vs × CellsRoom cells × (length xs ≡ mostVariables) × IsBits xs × ((c : ℕ) → n ≤ c → byteAt xs c ≡ 0)
     × (polar ≡ false → (c : ℕ) → byteAt xs c ≡ 0) × (0 < count) × (count ≤ mostBlock) × (from + count ≤ m)
 
-abbrev pub FormsInputs : ℕ → ℕ → ℕ → List ℕ → List ℕ → List ℕ → List ℕ → List ℕ → List ℕ → List ℕ → Bool → Type 0
-FormsInputs n m τ quad lin A b xs χ T polar =
+abbrev pub FormsInputs : ℕ → ℕ → ℕ → List ℕ → List ℕ → List ℕ → List ℕ → List ℕ → List ℕ → List ℕ → List ℕ → Bool → Type 0
+FormsInputs n m τ quad lin cells A b xs χ vs polar =
     (length quad ≡ lanes) × (length lin ≡ lanes) × (n ≤ mostVariables) × (τ ≤ lanes) × (0 < τ) × (length A ≡ m * (n * bytesFor n)) × (length b ≡ m * bytesFor n)
-    × (length χ ≡ τ * m) × (length T ≡ n * lanes) × (length xs ≡ mostVariables) × IsBits xs × ((c : ℕ) → n ≤ c → byteAt xs c ≡ 0)
+    × (length χ ≡ τ * m) × VectorsRoom vs × VectorsEnd n τ vs × CellsRoom cells × (length xs ≡ mostVariables) × IsBits xs × ((c : ℕ) → n ≤ c → byteAt xs c ≡ 0)
     × (polar ≡ false → (c : ℕ) → byteAt xs c ≡ 0) × (m ≤ mostEquations)
 
-abbrev pub BatchInputs : ℕ → ℕ → ℕ → List ℕ → List ℕ → List ℕ → List ℕ → List ℕ → List ℕ → List ℕ → Type 0
-BatchInputs n m τ qs0 qs1 A b x χ T =
+abbrev pub BatchInputs : ℕ → ℕ → ℕ → List ℕ → List ℕ → List ℕ → List ℕ → List ℕ → List ℕ → List ℕ → List ℕ → Type 0
+BatchInputs n m τ qs0 qs1 cells A b x χ vs =
     (length qs0 ≡ lanes) × (length qs1 ≡ lanes) × (n ≤ mostVariables) × (τ ≤ lanes) × (0 < τ) × (length A ≡ m * (n * bytesFor n)) × (length b ≡ m * bytesFor n)
-    × (length χ ≡ τ * m) × (length T ≡ n * lanes) × (length x ≡ bytesFor n) × (m ≤ mostEquations)
+    × (length χ ≡ τ * m) × VectorsRoom vs × VectorsEnd n τ vs × CellsRoom cells × (length x ≡ bytesFor n) × (m ≤ mostEquations)

@@ -1,18 +1,21 @@
-// QS0 and QS1 of all repetitions at once (01, prover's rules). The key and the batching bytes are public; the table,
-// the witness and the string u are secret.
+// The batched forms of the equations at the vectors of all repetitions (01, prover's rules). The key and the batching
+// bytes are public; the vectors and the witness are secret.
 ghost use mathlib.Core.Path.{_≡_};
 ghost use Prim.Native.Nat.{ℕ, _+_, _*_, _<_, _≤_};
 ghost use lib.ListN.{length, take, drop};
 ghost use Rattle.protocol.specs.Strings.{bit};
 ghost use Rattle.strings.specs.Sums.{byteAt};
 ghost use Rattle.strings.specs.Rows.{RowsKept};
-ghost use Rattle.lanes.specs.Lanes.{laneAt, LanesAdded};
+ghost use Rattle.lanes.specs.Lanes.{LanesAdded};
 ghost use Rattle.chunks.specs.Chunks.{chunk, cellAt};
-ghost use Rattle.forms.specs.Batch.{formsByte, middlesByte, blockForms, blockMiddles, FormsInputs, BlockInputs, BatchInputs};
+ghost use Rattle.forms_columns.specs.Stacks.{coordinateOf};
+ghost use Rattle.forms_batching.specs.Lines.{linesTables, LinesFit};
+ghost use Rattle.forms.specs.Batch.{LinesAre, formsByte, middlesByte, blockForms, blockMiddles, FormsInputs, BlockInputs, BatchInputs};
 use chunks::CHUNK;
 use chunks::MOST_BLOCK;
 use field::Gf256;
 use format::sizes::MOST_VARIABLES;
+use forms_batching::lines::LINES;
 use forms_batching::panels::Batch;
 use forms_batching::panels::add_forms;
 use forms_choices::fives::ROW_WORDS;
@@ -24,34 +27,45 @@ use strings::least;
 // The words of the choices: a row for each bit of an element, for each of as many repetitions as a key may have.
 const WORDS: usize = Gf256::DEGREE * LANES * ROW_WORDS;
 
-// The bytes of the lines of a block.
-const LINES: usize = MOST_BLOCK * CHUNK;
-
-// Line i becomes row i of b, of `width` bytes.
-fn put_line(lines: &mut [u8], i: usize, b: &[u8], width: usize)
-    requires { ⌜ (i * chunk + chunk ≤ length (now lines)) × (i * width + width ≤ length (now b)) × (width ≤ chunk) ⌝ }
-    ensures { λ _. ⌜ ((f : ℕ) → f < width → cellAt (now (lines .exit)) i f ≡ byteAt (now (b .entry)) (i * width + f)) ⌝ }
-    ensures { λ _. ⌜ RowsKept chunk i (now (lines .entry)) (now (lines .exit)) ⌝ }
+// Chunk r of the lines begins with so many bytes of b, from `from` on.
+fn put_chunk(lines: &mut [u8], r: usize, b: &[u8], from: usize, len: usize)
+    requires { ⌜ (r * chunk + chunk ≤ length (now lines)) × (from + len ≤ length (now b)) × (len ≤ chunk) ⌝ }
+    ensures { λ _. ⌜ ((f : ℕ) → f < len → cellAt (now (lines .exit)) r f ≡ byteAt (now (b .entry)) (from + f)) ⌝ }
+    ensures { λ _. ⌜ RowsKept chunk r (now (lines .entry)) (now (lines .exit)) ⌝ }
 {
-    let at = i * CHUNK;
-    chunks::cells::copy_front(&mut lines[at..at + CHUNK], b, i * width, width);
+    let at = r * CHUNK;
+    chunks::cells::copy_front(&mut lines[at..at + CHUNK], b, from, len);
 }
 
-// The same for each of m rows.
-fn put_lines(lines: &mut [u8], b: &[u8], width: usize, m: usize)
-    requires { ⌜ (m * chunk ≤ length (now lines)) × (length (now b) ≡ m * width) × (width ≤ chunk) ⌝ }
-    ensures { λ _. ⌜ ((i f : ℕ) → i < m → f < width → cellAt (now (lines .exit)) i f ≡ byteAt (now (b .entry)) (i * width + f)) ⌝ }
+// Table g of the lines: a chunk of each of the m rows of b, of `width` bytes.
+fn put_table(lines: &mut [u8], g: usize, b: &[u8], width: usize, m: usize)
+    requires { ⌜ ((g * m + m) * chunk ≤ length (now lines)) × (length (now b) ≡ m * width) × (g * chunk ≤ width) ⌝ }
+    ensures { λ _. ⌜ ((i f : ℕ) → i < m → f < chunk → g * chunk + f < width → cellAt (now (lines .exit)) (g * m + i) f ≡ byteAt (now (b .entry)) (i * width + (g * chunk + f))) ⌝ }
+    ensures { λ _. ⌜ ((r f : ℕ) → r < g * m → f < chunk → cellAt (now (lines .exit)) r f ≡ cellAt (now (lines .entry)) r f) ⌝ }
 {
+    let len = least(width - g * CHUNK, CHUNK);
     let mut i = 0;
     while i < m {
-        put_line(lines, i, b, width);
+        put_chunk(lines, g * m + i, b, i * width + g * CHUNK, len);
         i += 1;
+    }
+}
+
+// The m lines become the rows of b, of `width` bytes.
+fn put_lines(lines: &mut [u8], b: &[u8], width: usize, m: usize)
+    requires { ⌜ LinesFit m (now lines) × (length (now b) ≡ m * width) × (width ≤ linesTables * chunk) ⌝ }
+    ensures { λ _. ⌜ LinesAre m width (now (b .entry)) (now (lines .exit)) ⌝ }
+{
+    let mut g = 0;
+    while g * CHUNK < width {
+        put_table(lines, g, b, width, m);
+        g += 1;
     }
 }
 
 // `count` rows of a table, from row `first` on, as that part of it.
 fn rows_at(table: &[u8], width: usize, first: usize, count: usize) -> &[u8]
-    requires { ⌜ first * width + count * width ≤ length (now table) ⌝ }
+    requires { ⌜ first * width + count * width ≤ length (now vectors) ⌝ }
     ensures { λ r. ⌜ (now r ≡ take (count * width) (drop (first * width) (now (table .entry)))) × (length (now r) ≡ count * width) ⌝ }
 {
     let at = first * width;
@@ -74,18 +88,19 @@ pub struct Block {
 fn batch_block(
     quad: &mut [u8],
     lin: &mut [u8],
+    cells: &mut [u8],
     a: &[u8],
     b: &[u8],
     xs: &[u8],
     chi: &[u8],
-    table: &[u8],
+    vectors: &[u8],
     k: Block,
 )
-    requires { ⌜ BlockInputs (k .n) (k .m) (k .tau) (k .from) (k .count) (now quad) (now lin) (now a) (now b) (now xs) (now chi) (now table) (k .polar) ⌝ }
-    ensures { λ _. ⌜ LanesAdded (k .tau) (λ e. blockForms (k .n) (k .m) (k .from) (k .count) (now (a .entry)) (now (chi .entry)) e (λ c. laneAt (now (table .entry)) c e))
+    requires { ⌜ BlockInputs (k .n) (k .m) (k .tau) (k .from) (k .count) (now quad) (now lin) (now cells) (now a) (now b) (now xs) (now chi) (now vectors) (k .polar) ⌝ }
+    ensures { λ _. ⌜ LanesAdded (k .tau) (λ e. blockForms (k .n) (k .m) (k .from) (k .count) (now (a .entry)) (now (chi .entry)) e (coordinateOf (now (vectors .entry)) e))
         (now (quad .entry)) (now (quad .exit)) ⌝ }
     ensures { λ _. ⌜ LanesAdded (k .tau)
-        (λ e. blockMiddles (k .n) (k .m) (k .from) (k .count) (now (a .entry)) (now (b .entry)) (byteAt (now (xs .entry))) (now (chi .entry)) e (λ c. laneAt (now (table .entry)) c e))
+        (λ e. blockMiddles (k .n) (k .m) (k .from) (k .count) (now (a .entry)) (now (b .entry)) (byteAt (now (xs .entry))) (now (chi .entry)) e (coordinateOf (now (vectors .entry)) e))
         (now (lin .entry)) (now (lin .exit)) ⌝ }
 {
     let n = k.n;
@@ -106,8 +121,9 @@ fn batch_block(
         m: count,
         tau,
         groups,
+        polar,
     };
-    add_forms(quad, lin, &mut lines, a, &words, table, xs, polar, s);
+    add_forms(quad, lin, &mut lines, cells, a, &words, vectors, xs, s);
 }
 
 // How many equations there are, of how many variables, for how many repetitions; and whether the polar form is asked
@@ -120,23 +136,24 @@ pub struct Forms {
 }
 
 // The batched forms of a key, added to what stands there: fᵀ·A·f to quad, and xᵀ·A·f + (A·x)ᵀ·f + b·f to lin, where f
-// is the vector of repetition e, which the table holds. The bits of x are lent one to a byte, 0 from n on. Where the
-// polar form is not asked for they are all 0, and lin gets b·f. The equations go through the kernels block after block.
+// is the vector of repetition e. The bits of x are lent one to a byte, 0 from n on. Where the polar form is not asked
+// for they are all 0, and lin gets b·f. The equations go through the kernels block after block. `cells` is space.
 pub fn batch_forms(
     quad: &mut [u8],
     lin: &mut [u8],
+    cells: &mut [u8],
     a: &[u8],
     b: &[u8],
     xs: &[u8],
     chi: &[u8],
-    table: &[u8],
+    vectors: &[u8],
     f: Forms,
 )
-    requires { ⌜ FormsInputs (f .n) (f .m) (f .tau) (now quad) (now lin) (now a) (now b) (now xs) (now chi) (now table) (f .polar) ⌝ }
-    ensures { λ _. ⌜ LanesAdded (f .tau) (λ e. formsByte (f .n) (f .m) (now (a .entry)) (now (chi .entry)) e (λ c. laneAt (now (table .entry)) c e))
+    requires { ⌜ FormsInputs (f .n) (f .m) (f .tau) (now quad) (now lin) (now cells) (now a) (now b) (now xs) (now chi) (now vectors) (f .polar) ⌝ }
+    ensures { λ _. ⌜ LanesAdded (f .tau) (λ e. formsByte (f .n) (f .m) (now (a .entry)) (now (chi .entry)) e (coordinateOf (now (vectors .entry)) e))
         (now (quad .entry)) (now (quad .exit)) ⌝ }
     ensures { λ _. ⌜ LanesAdded (f .tau)
-        (λ e. middlesByte (f .n) (f .m) (now (a .entry)) (now (b .entry)) (byteAt (now (xs .entry))) (now (chi .entry)) e (λ c. laneAt (now (table .entry)) c e))
+        (λ e. middlesByte (f .n) (f .m) (now (a .entry)) (now (b .entry)) (byteAt (now (xs .entry))) (now (chi .entry)) e (coordinateOf (now (vectors .entry)) e))
         (now (lin .entry)) (now (lin .exit)) ⌝ }
 {
     let n = f.n;
@@ -159,11 +176,12 @@ pub fn batch_forms(
         batch_block(
             quad,
             lin,
+            cells,
             rows_at(a, size, from, count),
             rows_at(b, width, from, count),
             xs,
             chi,
-            table,
+            vectors,
             k,
         );
         from += count;
@@ -171,22 +189,23 @@ pub fn batch_forms(
 }
 
 // The batched coefficients of the tau repetitions, added to what stands in qs0 and qs1, of the sections a and b of a
-// key at the witness x. The table holds the vectors.
+// key at the witness x. `cells` is space.
 pub fn batch_lanes(
     qs0: &mut [u8],
     qs1: &mut [u8],
+    cells: &mut [u8],
     a: &[u8],
     b: &[u8],
     x: &[u8],
     chi: &[u8],
-    table: &[u8],
+    vectors: &[u8],
     d: Dimensions,
 )
-    requires { ⌜ BatchInputs (d .n) (d .m) (d .tau) (now qs0) (now qs1) (now a) (now b) (now x) (now chi) (now table) ⌝ }
-    ensures { λ _. ⌜ LanesAdded (d .tau) (λ e. formsByte (d .n) (d .m) (now (a .entry)) (now (chi .entry)) e (λ c. laneAt (now (table .entry)) c e))
+    requires { ⌜ BatchInputs (d .n) (d .m) (d .tau) (now qs0) (now qs1) (now cells) (now a) (now b) (now x) (now chi) (now vectors) ⌝ }
+    ensures { λ _. ⌜ LanesAdded (d .tau) (λ e. formsByte (d .n) (d .m) (now (a .entry)) (now (chi .entry)) e (coordinateOf (now (vectors .entry)) e))
         (now (qs0 .entry)) (now (qs0 .exit)) ⌝ }
     ensures { λ _. ⌜ LanesAdded (d .tau)
-        (λ e. middlesByte (d .n) (d .m) (now (a .entry)) (now (b .entry)) (bit (now (x .entry))) (now (chi .entry)) e (λ c. laneAt (now (table .entry)) c e))
+        (λ e. middlesByte (d .n) (d .m) (now (a .entry)) (now (b .entry)) (bit (now (x .entry))) (now (chi .entry)) e (coordinateOf (now (vectors .entry)) e))
         (now (qs1 .entry)) (now (qs1 .exit)) ⌝ }
 {
     let n = d.n;
@@ -200,5 +219,5 @@ pub fn batch_lanes(
         tau,
         polar: true,
     };
-    batch_forms(qs0, qs1, a, b, &xs, chi, table, f);
+    batch_forms(qs0, qs1, cells, a, b, &xs, chi, vectors, f);
 }
