@@ -9,7 +9,8 @@ use denote.Ref.{now}
 use lib.Bits.{bitXor}
 use Rattle.protocol.specs.Strings.{bytesFor}
 use Rattle.strings.specs.Sums.{byteAt}
-use Rattle.lanes.specs.Lanes.{lanes, laneAt}
+use Rattle.protocol.specs.Shape.{mostVariables}
+use Rattle.forms_columns.specs.Stacks.{coordinateOf}
 use Rattle.forms.specs.Batch.{blockBytes}
 use Rattle.forms.proofs.BatchLaws.{form-is, polar-is, lines-are, middle-is}
 use Rattle.forms.proofs.batch.batch_block.Statement.{statement}
@@ -33,8 +34,8 @@ slice-aggregate-put-lines c = search needs
 put-lines-requires : tie.Need-put-lines-requires
 unfolding bytesFor
 put-lines-requires c κs =
-    let pre = c .before .before .before .before .before .before .before .before .before .before .before .before .pre in
-    (omega (arith, pre .14), pre .6, omega (arith, pre .2))
+    let pre = c .pre in
+    (omega (arith, pre .16), pre .6, omega (arith, pre .2))
 
 slice-aggregate-add-forms : tie.Need-slice-aggregate-add-forms
 slice-aggregate-add-forms c = search needs
@@ -45,10 +46,10 @@ slice-aggregate-add-forms-2 c = search needs
 add-forms-requires : tie.Need-add-forms-requires
 unfolding bytesFor
 add-forms-requires c κs =
-    let pre = c .before .before .before .before .before .before .before .before .before .before .before .before .before .before .before .before .before .before .pre in
-    let groups = c .before .before .before .before .before .before .before .before .before .before .groups-for in
-    let chosen = c .before .before .before .before .before .before .before .before .fill-words in
-    (pre .0, pre .1, pre .5, refl, pre .2, pre .13, pre .14, pre .4, pre .3, groups .ensures, omega (arith, chosen .kept .0, pre .3), pre .8, pre .9, pre .10, pre .11, pre .12, omega (arith, pre .14, c .before .before .before .before .before .put-lines .kept .0))
+    let pre = c .pre in
+    let groups = c .groups-for in
+    let chosen = c .fill-words in
+    (pre .0, pre .1, pre .5, refl, pre .2, pre .15, pre .16, pre .4, pre .3, groups .ensures, omega (arith, chosen .kept .0, pre .3), pre .8, pre .11, pre .12, pre .13, pre .14, omega (arith, pre .16, c .put-lines .kept .0), pre .10, pre .9)
 
 same-length : tie.Need-same-length
 same-length c = search needs
@@ -59,24 +60,24 @@ same-length-2 c = search needs
 returns : tie.Need-returns
 unfolding bytesFor
 returns c =
-    let pre = c .before .before .before .before .before .before .before .before .before .before .before .before .before .before .before .before .before .before .before .before .before .before .before .before .pre in
-    let a = c .before .before .before .before .before .before .before .before .before .before .before .before .before .before .before .before .before .before .before .before .before .before .before .before .args in
-    let chosen = c .before .before .before .before .before .before .before .before .before .before .before .before .before .before .fill-words in
-    let lines = c .before .before .before .before .before .before .before .before .before .before .before .put-lines in
-    let formed = c .before .before .before .before .before .add-forms in
-    let T = now (a .table) in
+    let pre = c .pre in
+    let a = c .args in
+    let chosen = c .fill-words in
+    let lines = c .put-lines in
+    let formed = c .add-forms in
+    let vs = now (a .vectors) in
     let χ = now (a .chi) in
-    let small : (k : ℕ) → byteAt χ k < 256 = λ k. c .before .before .before .before .before .before .before .before .before .before .before .before .before .before .before .before .before .before .shared-slice-known4 .given k .fits in
-    let bytes : (k : ℕ) → byteAt T k < 256 = λ k. c .before .before .before .before .before .before .before .before .before .before .before .before .before .before .before .before .before .shared-slice-known5 .given k .fits in
+    let small : (k : ℕ) → byteAt χ k < 256 = λ k. c .shared-slice-known4 .given k .fits in
+    let bytes : (k : ℕ) → byteAt vs k < 256 = λ k. c .shared-slice-known5 .given k .fits in
     let X = blockBytes (a .k .m) (a .k .from) χ in
     let each : (q i : ℕ) → X q i < 256 = λ q i. small (q * a .k .m + a .k .from + i) in (
-      (λ e h. formed .ensures .0 X e each (chosen .ensures) h ∙ ap (bitXor (byteAt (now (a .quad)) e)) (form-is (a .k .n) (a .k .count) e (now (a .a)) X (λ k. laneAt T k e))),
+      (λ e h. formed .ensures .0 X e each (chosen .ensures) h ∙ ap (bitXor (byteAt (now (a .quad)) e)) (form-is (a .k .n) (a .k .count) e (now (a .a)) X (coordinateOf vs e))),
       (λ e h.
-          let g : ℕ → ℕ = λ k. laneAt T k e in
-          let gs : (k : ℕ) → g k < 256 = λ k. bytes (k * lanes + e) in
+          let g : ℕ → ℕ = coordinateOf vs e in
+          let gs : (k : ℕ) → g k < 256 = λ k. bytes (e * mostVariables + k) in
           formed .ensures .1 .0 X e each (chosen .ensures) h
-          ∙ ap₂ (λ (u v : ℕ). bitXor (bitXor (byteAt (now (a .lin)) e) u) v) (polar-is (a .k .n) (a .k .count) e (now (a .a)) X g gs (byteAt (now (a .xs))) (pre .10)) (lines-are (a .k .n) (a .k .count) e (now (a .a)) X g (now (a .b)) (lines .last .0) (lines .ensures))
-          ∙ middle-is (a .k .n) (a .k .count) e (now (a .a)) X g gs (byteAt (now (a .xs))) (pre .10) (now (a .b)) (byteAt (now (a .lin)) e)),
+          ∙ ap₂ (λ (u v : ℕ). bitXor (bitXor (byteAt (now (a .lin)) e) u) v) (polar-is (a .k .n) (a .k .count) e (now (a .a)) X g gs (byteAt (now (a .xs))) (pre .12)) (lines-are (a .k .n) (a .k .count) e (now (a .a)) X g (now (a .b)) (lines .last .0) (lines .ensures))
+          ∙ middle-is (a .k .n) (a .k .count) e (now (a .a)) X g gs (byteAt (now (a .xs))) (pre .12) (now (a .b)) (byteAt (now (a .lin)) e)),
     )
 
 pub batch-block-spec : {M : Type 1} → statement M

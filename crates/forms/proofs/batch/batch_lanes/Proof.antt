@@ -14,7 +14,7 @@ use Rattle.protocol.specs.Strings.{bit}
 use Rattle.protocol.specs.Shape.{mostVariables}
 use Rattle.protocol.proofs.StringLaws.{bit-lt}
 use Rattle.strings.specs.Sums.{byteAt}
-use Rattle.lanes.specs.Lanes.{laneAt}
+use Rattle.forms_columns.specs.Stacks.{coordinateOf}
 use Rattle.equations.specs.Equations.{rowOf, matrixOf}
 use Rattle.equations.proofs.RowLaws.{zeros}
 use Rattle.equations.proofs.BlockLaws.{bytes-enough}
@@ -36,18 +36,18 @@ slice-aggregate-unpack : tie.Need-slice-aggregate-unpack
 slice-aggregate-unpack c = search needs
 
 unpack-requires : tie.Need-unpack-requires
-unpack-requires c κs = (omega (arith, c .before .before .before .before .before .before .before .before .pre .2), omega (arith, c .before .before .before .before .before .before .before .before .pre .9, bytes-enough (c .before .before .before .before .before .before .before .before .args .d .n)))
+unpack-requires c κs = (omega (arith, c .pre .2), omega (arith, c .pre .11, bytes-enough (c .args .d .n)))
 
 slice-aggregate-batch-forms : tie.Need-slice-aggregate-batch-forms
 slice-aggregate-batch-forms c = search needs
 
 batch-forms-requires : tie.Need-batch-forms-requires
 batch-forms-requires c κs =
-    let pre = c .before .before .before .before .before .before .before .before .before .before .before .before .before .pre in
-    let a = c .before .before .before .before .before .before .before .before .before .before .before .before .before .args in
-    let unpacked = c .before .before .before .before .unpack in
+    let pre = c .pre in
+    let a = c .args in
+    let unpacked = c .unpack in
     let past : (k : ℕ) → a .d .n ≤ k → byteAt (unpacked .last .0) k ≡ 0 = λ k h. unpacked .ensures .1 k h ∙ zeros mostVariables k in
-    (pre .0, pre .1, pre .2, pre .3, pre .4, pre .5, pre .6, pre .7, pre .8, unpacked .kept .0, bits-lt (a .d .n) (now (a .x)) (unpacked .last .0) (unpacked .ensures .0) past, past, (λ e. absurd (false≢true (sym e))), pre .10)
+    (pre .0, pre .1, pre .2, pre .3, pre .4, pre .5, pre .6, pre .7, pre .8, pre .9, pre .10, unpacked .kept .0, bits-lt (a .d .n) (now (a .x)) (unpacked .last .0) (unpacked .ensures .0) past, past, (λ e. absurd (false≢true (sym e))), pre .12)
 
 same-length : tie.Need-same-length
 same-length c = search needs
@@ -57,16 +57,16 @@ same-length-2 c = search needs
 
 returns : tie.Need-returns
 returns c =
-    let a = c .before .before .before .before .before .before .before .before .before .before .before .before .before .before .before .before .before .before .args in
+    let a = c .args in
     let n = a .d .n in
-    let formed = c .before .before .before .before .batch-forms in
-    let unpacked = c .before .before .before .before .before .before .before .before .before .unpack in (
+    let formed = c .batch-forms in
+    let unpacked = c .unpack in (
       formed .ensures .0,
       (λ e h.
           formed .ensures .1 e h
           ∙ ap (bitXor (byteAt (now (a .qs1)) e))
-          (batch-same (a .d .m) (λ q i. byteAt (now (a .chi)) (q * a .d .m + i)) e _ (λ i. middleByte n (matrixOf n (now (a .a)) i) (rowOf n (now (a .b)) i) (bit (now (a .x))) (λ k. laneAt (now (a .table)) k e)) (λ i hi.
-          middle-bits n (matrixOf n (now (a .a)) i) (rowOf n (now (a .b)) i) (λ k. laneAt (now (a .table)) k e) (byteAt (unpacked .last .0)) (bit (now (a .x))) (unpacked .ensures .0)))),
+          (batch-same (a .d .m) (λ q i. byteAt (now (a .chi)) (q * a .d .m + i)) e _ (λ i. middleByte n (matrixOf n (now (a .a)) i) (rowOf n (now (a .b)) i) (bit (now (a .x))) (coordinateOf (now (a .vectors)) e)) (λ i hi.
+          middle-bits n (matrixOf n (now (a .a)) i) (rowOf n (now (a .b)) i) (coordinateOf (now (a .vectors)) e) (byteAt (unpacked .last .0)) (bit (now (a .x))) (unpacked .ensures .0)))),
     )
 
 pub batch-lanes-spec : {M : Type 1} → statement M
