@@ -3,13 +3,11 @@
 use borrow.Author.Needs.{needs}
 use Rattle.forms_folds.proofs.fold_last.Statement.{statement}
 use Rattle.forms_folds.proofs.fold_last.Tie as tie
-use Prim.Native.Nat.{ℕ, _+_, _*_, _-_, _≤_, _<_}
-use mathlib.Core.Path.{_≡_, sym, ap, _∙_}
+use Prim.Native.Nat.{_+_, _*_, _-_}
+use mathlib.Core.Path.{sym, ap, _∙_}
 use native.Mathlib.Nat.{add-assoc}
 use native.Mathlib.Omega.{arith}
 use denote.Ref.{now}
-use lib.ListN.{drop}
-use lib.Seq.{getD-drop}
 use Rattle.protocol.specs.Lists.{blockAt}
 use Rattle.strings.specs.Sums.{byteAt}
 use Rattle.strings.proofs.Rows.{row-byte}

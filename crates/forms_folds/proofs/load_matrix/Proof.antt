@@ -3,8 +3,8 @@
 use borrow.Author.Needs.{needs}
 use Rattle.forms_folds.proofs.load_matrix.Statement.{statement}
 use Rattle.forms_folds.proofs.load_matrix.Tie as tie
-use Prim.Native.Nat.{ℕ, _+_, _*_, _-_, _≤_, _<_}
-use mathlib.Core.Path.{_≡_, sym, ap, _∙_}
+use Prim.Native.Nat.{_+_, _*_, _-_}
+use mathlib.Core.Path.{sym, ap, _∙_}
 use native.Mathlib.Nat.{add-assoc}
 use native.Mathlib.Omega.{arith}
 use denote.Ref.{now}

@@ -3,7 +3,7 @@
 use borrow.Author.Needs.{needs}
 use Rattle.forms_folds.proofs.panel_of.Statement.{statement}
 use Rattle.forms_folds.proofs.panel_of.Tie as tie
-use Prim.Native.Nat.{ℕ, _+_, _*_, _-_, _≤_, _<_}
+use Prim.Native.Nat.{ℕ, _+_, _*_, _-_, _≤_}
 use mathlib.Core.Path.{_≡_, ap, _∙_}
 use native.Mathlib.Nat.{mul-le-mul-right, add-mul, mul-assoc, add-sub-cancel-left}
 use native.Mathlib.Omega.{arith}
