@@ -30,6 +30,10 @@ use Rattle.equations.proofs.RowLaws.{row-bit}
 use Rattle.forms.specs.Forms.{formByte, rowBit, middleByte}
 use Rattle.forms.specs.Batch.{batchByte}
 
+-- the batching bytes, as a function of repetition and equation
+abbrev pub bytesOf : ℕ → List ℕ → ℕ → ℕ → ℕ
+bytesOf m χ e i = byteAt χ (e * m + i)
+
 -- ---- batched sums
 
 pub batch-xor : (m : ℕ) (χ : List ℕ) (e : ℕ) (u v : ℕ → ℕ) → bitXor (batchByte m χ e u) (batchByte m χ e v) ≡ batchByte m χ e (λ i. bitXor (u i) (v i))
@@ -55,19 +59,19 @@ line-bit n m b L are i c hi hc =
 
 module _ (n m e : ℕ) (A T χ : List ℕ) where
   -- the sums of formSum, by rows
-  by-rows : (y W : ℕ → ℕ) → formSum n (bytesFor n) m A χ e y W ≡ xorSum m (λ i. byteProduct (byteAt χ (e * m + i)) (xorSum n (λ ρ. byteProduct (W ρ) (rowBit n (rowOf n (matrixOf n A i) ρ) y))))
+  by-rows : (y W : ℕ → ℕ) → formSum n (bytesFor n) m A (bytesOf m χ) e y W ≡ xorSum m (λ i. byteProduct (byteAt χ (e * m + i)) (xorSum n (λ ρ. byteProduct (W ρ) (rowBit n (rowOf n (matrixOf n A i) ρ) y))))
   unfolding formSum
   by-rows y W =
       sum-same m _ _ (λ i l. ap (byteProduct (byteAt χ (e * m + i))) (sum-same n _ _ (λ ρ k. ap (byteProduct (W ρ)) (sum-same n _ _ (λ c j.
       ap (λ x. x * y c) (row-bit (matrixOf n A i) (bytesFor n) ρ c (omega (arith, bytes-enough n))))))))
 
-  pub form-is : formSum n (bytesFor n) m A χ e (λ c. laneAt T c e) (λ c. laneAt T c e) ≡ batchByte m χ e (λ i. formByte n (matrixOf n A i) T e)
+  pub form-is : formSum n (bytesFor n) m A (bytesOf m χ) e (λ c. laneAt T c e) (λ c. laneAt T c e) ≡ batchByte m χ e (λ i. formByte n (matrixOf n A i) T e)
   unfolding byteProduct
   form-is = by-rows (λ c. laneAt T c e) (λ c. laneAt T c e)
 
   -- the batched lines at the vectors, where the lines are the rows of b
   pub lines-are : (b L : List ℕ) → ((i f : ℕ) → i < m → f < bytesFor n → cellAt L i f ≡ byteAt b (i * bytesFor n + f))
-      → xorSum n (λ c. byteProduct (laneAt T c e) (lineSum L m χ e c)) ≡ batchByte m χ e (λ i. selected n (rowOf n b i) T lanes e)
+      → xorSum n (λ c. byteProduct (laneAt T c e) (lineSum L m (bytesOf m χ) e c)) ≡ batchByte m χ e (λ i. selected n (rowOf n b i) T lanes e)
   unfolding byteProduct lineSum
   lines-are b L are =
       sum-same n _ (λ c. xorSum m (λ i. bit (rowOf n b i) c * byteProduct (byteAt χ (e * m + i)) (laneAt T c e))) (λ c l.
@@ -89,7 +93,7 @@ module _ (n m e : ℕ) (A T χ : List ℕ) where
     row-lt : (row : List ℕ) → rowBit n row x < 2
     row-lt row = sum-lt 1 n _ (lit< tt) (λ c l. bit-times-lt (bit row c) (x c) (bit-lt row c) (bits c))
 
-    pub polar-is : bitXor (formSum n (bytesFor n) m A χ e (λ c. laneAt T c e) x) (formSum n (bytesFor n) m A χ e x (λ c. laneAt T c e)) ≡ batchByte m χ e cross
+    pub polar-is : bitXor (formSum n (bytesFor n) m A (bytesOf m χ) e (λ c. laneAt T c e) x) (formSum n (bytesFor n) m A (bytesOf m χ) e x (λ c. laneAt T c e)) ≡ batchByte m χ e cross
     unfolding byteProduct cross
     polar-is =
         ap₂ bitXor

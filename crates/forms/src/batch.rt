@@ -76,7 +76,7 @@ pub fn batch_forms(
     let width = (n + 7) / BITS;
     let mut words = [0u64; WORDS];
     let mut lines = [0u8; LINES];
-    forms_choices::fives::fill_words(&mut words, chi, m, tau);
+    forms_choices::fives::fill_words(&mut words, chi, m, 0, m, tau);
     put_lines(&mut lines, b, width, m);
     let s = Batch {
         n,

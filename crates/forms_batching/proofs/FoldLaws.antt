@@ -13,7 +13,7 @@ use lib.Bits.{bitXor, xor-zero-l, xor-zero-r, xor-comm, xor-lt}
 use lib.Dec.{ltb, lit<}
 use Rattle.protocol.proofs.TestLaws.{ltb-yes, ltb-no}
 use Rattle.protocol.specs.Lists.{blockAt}
-use Rattle.strings.specs.Sums.{byteAt, xorSum}
+use Rattle.strings.specs.Sums.{xorSum}
 use Rattle.strings.proofs.SumLaws.{sum-same, sum-both, sum-none, sum-short, xor-scale, scale-xor}
 use Rattle.strings.proofs.Meaning.{bitOf-lt}
 use Rattle.chunks.proofs.BitSumLaws.{sum-swap, sum-blocks}
@@ -179,13 +179,13 @@ module _ (N n m : ℕ) (E : ℕ → ℕ → ℕ → ℕ) (χ : ℕ → ℕ) (bit
 
 -- ---- as the code has them
 
-module _ (N n w m : ℕ) (A χ : List ℕ) (e : ℕ) (most : n ≤ N * 16) (y : ℕ → ℕ) (gone : (c : ℕ) → n ≤ c → y c ≡ 0) where
+module _ (N n w m : ℕ) (A : List ℕ) (χ : ℕ → ℕ → ℕ) (e : ℕ) (most : n ≤ N * 16) (y : ℕ → ℕ) (gone : (c : ℕ) → n ≤ c → y c ≡ 0) where
   pub form-is : xorSum N (λ J. xorSum 16 (λ s. byteProduct (y (J * 16 + s)) (leftSum w (n * w) m A χ e y J (J * 16 + s)))) ≡ formSum n w m A χ e y y
   unfolding batchedByte foldedBit formSum
-  form-is = quad-folded N n m (λ i. entry w (blockAt A (n * w) i)) (λ i. byteAt χ (e * m + i)) (λ i ρ c. bitOf-lt _ (c % 8)) most y gone
+  form-is = quad-folded N n m (λ i. entry w (blockAt A (n * w) i)) (χ e) (λ i ρ c. bitOf-lt _ (c % 8)) most y gone
 
   pub polar-is : (x : ℕ → ℕ) → ((c : ℕ) → n ≤ c → x c ≡ 0)
       → bitXor (xorSum N (λ J. xorSum 16 (λ s. byteProduct (y (J * 16 + s)) (leftSum w (n * w) m A χ e x J (J * 16 + s))))) (xorSum N (λ J. xorSum 16 (λ s. byteProduct (x (J * 16 + s)) (leftSum w (n * w) m A χ e y J (J * 16 + s)))))
       ≡ bitXor (formSum n w m A χ e y x) (formSum n w m A χ e x y)
   unfolding batchedByte foldedBit formSum
-  polar-is x none = polar-folded N n m (λ i. entry w (blockAt A (n * w) i)) (λ i. byteAt χ (e * m + i)) (λ i ρ c. bitOf-lt _ (c % 8)) most y x gone none
+  polar-is x none = polar-folded N n m (λ i. entry w (blockAt A (n * w) i)) (χ e) (λ i ρ c. bitOf-lt _ (c % 8)) most y x gone none

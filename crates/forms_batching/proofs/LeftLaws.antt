@@ -17,6 +17,7 @@ use Rattle.strings.proofs.ProductLaws.{bit-times-lt}
 use Rattle.strings.proofs.Meaning.{bitOf-lt}
 use Rattle.chunks.specs.Chunks.{chunk, cellAt}
 use Rattle.chunks.proofs.BitSumLaws.{sum-swap, sum-blocks, bits-lt, times-sum, bit-sum}
+use Rattle.forms_choices.specs.Entries.{IsBytes}
 use Rattle.forms_folds.specs.Folds.{foldedBit, Folded}
 use Rattle.forms_columns.specs.Stacks.{byteProduct}
 use Rattle.forms_columns.proofs.ProductLaws.{product-zero}
@@ -88,28 +89,28 @@ module _ (w size : ℕ) (A : List ℕ) (x : ℕ → ℕ) (bits : (c : ℕ) → x
   unfolding leftOf
   left-lt i c = bits-lt ((c / 16 + 1) * 16) _ (λ ρ. term-lt i ρ c)
 
-module _ (w size m : ℕ) (A χ : List ℕ) (e : ℕ) (small : (k : ℕ) → byteAt χ k < 256) (x : ℕ → ℕ) (bits : (c : ℕ) → x c < 2) where
+module _ (w size m : ℕ) (A : List ℕ) (χ : ℕ → ℕ → ℕ) (e : ℕ) (small : IsBytes χ) (x : ℕ → ℕ) (bits : (c : ℕ) → x c < 2) where
   batched-lt : (ρ c : ℕ) → batchedByte w size m A χ e ρ c < 256
   unfolding batchedByte
-  batched-lt ρ c = sum-lt 8 m _ (lit< tt) (λ i l. scaled-lt (foldedBit w (blockAt A size i) ρ c) (byteAt χ (e * m + i)) (folded-bit-lt w (blockAt A size i) ρ c) (small (e * m + i)))
+  batched-lt ρ c = sum-lt 8 m _ (lit< tt) (λ i l. scaled-lt (foldedBit w (blockAt A size i) ρ c) (χ e i) (folded-bit-lt w (blockAt A size i) ρ c) (small e i))
 
-  left-sum : (c : ℕ) → xorSum m (λ i. leftOf w size A x i c * byteAt χ (e * m + i)) ≡ leftSum w size m A χ e x (c / 16) c
+  left-sum : (c : ℕ) → xorSum m (λ i. leftOf w size A x i c * χ e i) ≡ leftSum w size m A χ e x (c / 16) c
   unfolding leftOf batchedByte
   left-sum c =
-      sum-same m _ (λ i. xorSum ((c / 16 + 1) * 16) (λ ρ. x ρ * foldedBit w (blockAt A size i) ρ c * byteAt χ (e * m + i)))
-      (λ i l. times-sum ((c / 16 + 1) * 16) (λ ρ. x ρ * foldedBit w (blockAt A size i) ρ c) (byteAt χ (e * m + i)) (λ ρ. term-lt w size A x bits i ρ c))
-      ∙ sum-swap m ((c / 16 + 1) * 16) (λ i ρ. x ρ * foldedBit w (blockAt A size i) ρ c * byteAt χ (e * m + i))
+      sum-same m _ (λ i. xorSum ((c / 16 + 1) * 16) (λ ρ. x ρ * foldedBit w (blockAt A size i) ρ c * χ e i))
+      (λ i l. times-sum ((c / 16 + 1) * 16) (λ ρ. x ρ * foldedBit w (blockAt A size i) ρ c) (χ e i) (λ ρ. term-lt w size A x bits i ρ c))
+      ∙ sum-swap m ((c / 16 + 1) * 16) (λ i ρ. x ρ * foldedBit w (blockAt A size i) ρ c * χ e i)
       ∙ sum-same ((c / 16 + 1) * 16) _ _ (λ ρ l.
-      sum-same m _ _ (λ i k. mul-assoc (x ρ) (foldedBit w (blockAt A size i) ρ c) (byteAt χ (e * m + i)))
-      ∙ sym (bit-sum (x ρ) m (λ i. foldedBit w (blockAt A size i) ρ c * byteAt χ (e * m + i)) (bits ρ))
+      sum-same m _ _ (λ i k. mul-assoc (x ρ) (foldedBit w (blockAt A size i) ρ c) (χ e i))
+      ∙ sym (bit-sum (x ρ) m (λ i. foldedBit w (blockAt A size i) ρ c * χ e i) (bits ρ))
       ∙ sym (product-scale (x ρ) (batchedByte w size m A χ e ρ c) (bits ρ) (batched-lt ρ c)))
 
   line-added : (L₀ L : List ℕ) (c : ℕ) → ((i : ℕ) → i < m → Added w size A x L₀ L i c) → lineSum L m χ e c ≡ bitXor (lineSum L₀ m χ e c) (leftSum w size m A χ e x (c / 16) c)
   unfolding lineSum
   line-added L₀ L c are =
-      sum-same m _ (λ i. bitXor (lineBit L₀ i c * byteAt χ (e * m + i)) (leftOf w size A x i c * byteAt χ (e * m + i)))
-      (λ i l. ap (λ b. b * byteAt χ (e * m + i)) (are i l) ∙ xor-scale (lineBit L₀ i c) (leftOf w size A x i c) (byteAt χ (e * m + i)) (bitOf-lt _ (c % 8)) (left-lt w size A x bits i c))
-      ∙ sum-both m (λ i. lineBit L₀ i c * byteAt χ (e * m + i)) (λ i. leftOf w size A x i c * byteAt χ (e * m + i))
+      sum-same m _ (λ i. bitXor (lineBit L₀ i c * χ e i) (leftOf w size A x i c * χ e i))
+      (λ i l. ap (λ b. b * χ e i) (are i l) ∙ xor-scale (lineBit L₀ i c) (leftOf w size A x i c) (χ e i) (bitOf-lt _ (c % 8)) (left-lt w size A x bits i c))
+      ∙ sum-both m (λ i. lineBit L₀ i c * χ e i) (λ i. leftOf w size A x i c * χ e i)
       ∙ ap (bitXor (lineSum L₀ m χ e c)) (left-sum c)
 
   module _ (N n : ℕ) (enough : n ≤ N * 16) (y : ℕ → ℕ) (gone : (c : ℕ) → n ≤ c → y c ≡ 0) where

@@ -9,20 +9,17 @@ use native.Mathlib.Numerals.{add-one}
 use native.Mathlib.Omega.{arith}
 use lib.Arith.{digits-div, digits-mod}
 use lib.Bits.{bitXor, bitAnd}
-use lib.Dec.{lit<}
 use lib.ListN.{length, set, take, length-set}
 use lib.Seq.{getD-set-same, getD-set-other, getD-take}
-use Rattle.protocol.specs.Lists.{blockAt}
 use Rattle.strings.specs.Sums.{byteAt, bitOf, xorSum}
-use Rattle.strings.proofs.Rows.{row-byte, row-lt}
 use Rattle.strings.proofs.SumLaws.{sum-same, sum-lt}
 use Rattle.strings.proofs.Meaning.{bitOf-lt, bitOf-sum, bit-times, times-bit}
 use Rattle.field.specs.Gf256.{gf256}
 use Rattle.field.proofs.ProductLaws.{mask-times}
 use Rattle.chunks.specs.Chunks.{chunk, cellAt}
 use Rattle.chunks.proofs.BitSumLaws.{sum-swap, sum-blocks}
-use Rattle.forms_choices.specs.Entries.{Tabled, choice, Chosen, lookedUp, Weighed}
-use Rattle.forms_choices.proofs.ChoiceLaws.{chosen-sum}
+use Rattle.forms_choices.specs.Entries.{Tabled, choice, upTo, IsBytes, ChosenAll, lookedUp, Weighed}
+use Rattle.forms_choices.proofs.ChoiceLaws.{up-to-first, chosen-sum}
 use Rattle.forms_columns.specs.Stacks.{alpha, byteProduct}
 use Rattle.forms_columns.proofs.ProductLaws.{product-comm, byte-bits}
 use Rattle.protocol.specs.Shape.{mostVariables}
@@ -119,13 +116,13 @@ element-is S χ m sums W G r planes v c weighed small hc are bits =
     ∙ planes-sum S χ m (c / 8) (c % 8) (weighed .3)
 
 -- the words of a repetition, among those of all
-pub weighed-rows : (S sums W χ : List ℕ) (m G tau : ℕ) → Tabled S sums (G * 32) → length S ≡ m * chunk → m ≤ G * 5 → G ≤ 32 → ((k : ℕ) → byteAt χ k < 256)
-    → ((r : ℕ) → r < tau * 8 → Chosen χ m W r) → (q : ℕ) → q < tau → Weighed S (byteAt (blockAt χ m q)) m sums W G (q * 8)
+pub weighed-rows : (S sums W : List ℕ) (χ : ℕ → ℕ → ℕ) (m G tau : ℕ) → Tabled S sums (G * 32) → length S ≡ m * chunk → m ≤ G * 5 → G ≤ 32 → IsBytes χ
+    → ChosenAll χ m tau W → (q : ℕ) → q < tau → Weighed S (upTo m (χ q)) m sums W G (q * 8)
 weighed-rows S sums W χ m G tau tabled long enough few small chosen q h =
-    (tabled, long, enough, (λ i l. row-lt χ m q 256 (lit< tt) small i), λ p g hp hg. chosen (q * 8 + p) (omega arith) g (omega arith) ∙ ap₂ (λ x y. choice (byteAt (blockAt χ m x)) y g) (digits-div q hp) (digits-mod q hp))
+    (tabled, long, enough, (λ i l. rw (up-to-first m (χ q) i l) (small q i)), λ p g hp hg. chosen (q * 8 + p) (omega arith) g (omega arith) ∙ ap₂ (λ x y. choice (upTo m (χ x)) y g) (digits-div q hp) (digits-mod q hp))
 
 -- the lines, as the front of what is lent
-pub line-sum : (L χ : List ℕ) (m e c : ℕ) → c < 256 → xorSum m (λ i. lineBit (take (m * chunk) L) i c * byteAt (blockAt χ m e) i) ≡ lineSum L m χ e c
+pub line-sum : (L : List ℕ) (χ : ℕ → ℕ → ℕ) (m e c : ℕ) → c < 256 → xorSum m (λ i. lineBit (take (m * chunk) L) i c * upTo m (χ e) i) ≡ lineSum L m χ e c
 unfolding lineSum
 line-sum L χ m e c h =
-    sum-same m _ _ (λ i l. ap₂ (λ x y. bitOf x (c % 8) * y) (getD-take (m * chunk) L (i * chunk + c / 8) 0 (omega arith)) (row-byte χ m e i l))
+    sum-same m _ _ (λ i l. ap₂ (λ x y. bitOf x (c % 8) * y) (getD-take (m * chunk) L (i * chunk + c / 8) 0 (omega arith)) (up-to-first m (χ e) i l))

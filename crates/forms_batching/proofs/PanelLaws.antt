@@ -21,10 +21,10 @@ use Rattle.forms_batching.proofs.FormLaws.{product-scale, product-lt}
 no-polar : (J : ℕ) (x L : ℕ → ℕ) → ((c : ℕ) → x c ≡ 0) → xorSum 16 (λ s. byteProduct (x (J * 16 + s)) (L (J * 16 + s))) ≡ 0
 no-polar J x L none = sum-same 16 _ (λ s. 0) (λ s l. ap (λ v. byteProduct v (L (J * 16 + s))) (none (J * 16 + s)) ∙ product-zero _) ∙ sum-none 16
 
-module _ (n w m : ℕ) (A χ cells : List ℕ) (e J : ℕ) (loaded : Folded n w m A J cells) where
+module _ (n w m : ℕ) (A : List ℕ) (χ : ℕ → ℕ → ℕ) (cells : List ℕ) (e J : ℕ) (loaded : Folded n w m A J cells) where
   cell-is : (q h f z : ℕ) → q ≤ J → h < 2 → f < 16 → z < 8 → q * 16 + f < n → J * 16 + (h * 8 + z) < n → cellSum cells m χ e q (h * 16 + f) z ≡ batchedByte w (n * w) m A χ e (q * 16 + f) (J * 16 + (h * 8 + z))
   unfolding cellSum batchedByte
-  cell-is q h f z hq hh hf hz row col = sum-same m _ _ (λ i l. ap (λ x. x * byteAt χ (e * m + i)) (loaded q i h f z hq l hh hf hz row col))
+  cell-is q h f z hq hh hf hz row col = sum-same m _ _ (λ i l. ap (λ x. x * χ e i) (loaded q i h f z hq l hh hf hz row col))
 
   module _ (W : ℕ → ℕ) (none : (ρ : ℕ) → n ≤ ρ → W ρ ≡ 0) where
     -- there are no rows from n on

@@ -6,7 +6,6 @@
 --   leftSum w size m A χ e W J c == Σ_ρ W(ρ)·Σ_i χ(e, i)·F_i(ρ, c), over the rows up to the J-th sixteen
 --   formSum n w m A χ e y W == Σ_i χ(e, i)·Σ_ρ W(ρ)·Σ_c A_i(ρ, c)·y(c), where A_i is matrix i of A, of n rows of w
 --     bytes
---   IsBytes χ == each entry is a byte
 --   weighedBit S χ m f z == Σ_i χ(i)·b_i, where b_i is bit z of byte f of row i of S
 --   WeighedAll S χ m sums W G τ == Weighed for each of τ repetitions
 --   VectorsFit τ vs, VectorsAre τ T vs == vs has, one after the other, τ vectors of as many coordinates as a key may
@@ -32,29 +31,26 @@ use lib.Bits.{bitXor}
 use lib.ListN.{length}
 use Rattle.protocol.specs.Lists.{blockAt}
 use Rattle.protocol.specs.Strings.{bytesFor}
-use Rattle.protocol.specs.Shape.{mostVariables, mostEquations}
+use Rattle.protocol.specs.Shape.{mostVariables}
 use Rattle.strings.specs.Sums.{byteAt, bitOf, xorSum}
 use Rattle.lanes.specs.Lanes.{lanes, laneAt}
-use Rattle.chunks.specs.Chunks.{chunk, cellAt}
-use Rattle.forms_choices.specs.Entries.{mostSums, Weighed, ChosenAll, GroupsFor, WordsFit}
+use Rattle.chunks.specs.Chunks.{mostBlock, chunk, cellAt}
+use Rattle.forms_choices.specs.Entries.{mostSums, Weighed, IsBytes, ChosenAll, GroupsFor, WordsFit}
 use Rattle.forms_folds.specs.Folds.{entry, foldedBit, Folded}
 use Rattle.forms_columns.specs.Stacks.{byteProduct, stackOf, columnOf, IsBits}
 
-unfoldable pub cellSum : List ℕ → ℕ → List ℕ → ℕ → ℕ → ℕ → ℕ → ℕ
-cellSum cells m χ e q f z = xorSum m (λ i. bitOf (cellAt cells (q * m + i) f) z * byteAt χ (e * m + i))
+unfoldable pub cellSum : List ℕ → ℕ → (ℕ → ℕ → ℕ) → ℕ → ℕ → ℕ → ℕ → ℕ
+cellSum cells m χ e q f z = xorSum m (λ i. bitOf (cellAt cells (q * m + i) f) z * χ e i)
 
-unfoldable pub batchedByte : ℕ → ℕ → ℕ → List ℕ → List ℕ → ℕ → ℕ → ℕ → ℕ
-batchedByte w size m A χ e ρ c = xorSum m (λ i. foldedBit w (blockAt A size i) ρ c * byteAt χ (e * m + i))
+unfoldable pub batchedByte : ℕ → ℕ → ℕ → List ℕ → (ℕ → ℕ → ℕ) → ℕ → ℕ → ℕ → ℕ
+batchedByte w size m A χ e ρ c = xorSum m (λ i. foldedBit w (blockAt A size i) ρ c * χ e i)
 
-abbrev pub leftSum : ℕ → ℕ → ℕ → List ℕ → List ℕ → ℕ → (ℕ → ℕ) → ℕ → ℕ → ℕ
+abbrev pub leftSum : ℕ → ℕ → ℕ → List ℕ → (ℕ → ℕ → ℕ) → ℕ → (ℕ → ℕ) → ℕ → ℕ → ℕ
 leftSum w size m A χ e W J c = xorSum ((J + 1) * 16) (λ ρ. byteProduct (W ρ) (batchedByte w size m A χ e ρ c))
 
-unfoldable pub formSum : ℕ → ℕ → ℕ → List ℕ → List ℕ → ℕ → (ℕ → ℕ) → (ℕ → ℕ) → ℕ
+unfoldable pub formSum : ℕ → ℕ → ℕ → List ℕ → (ℕ → ℕ → ℕ) → ℕ → (ℕ → ℕ) → (ℕ → ℕ) → ℕ
 formSum n w m A χ e y W =
-    xorSum m (λ i. byteProduct (byteAt χ (e * m + i)) (xorSum n (λ ρ. byteProduct (W ρ) (xorSum n (λ c. entry w (blockAt A (n * w) i) ρ c * y c)))))
-
-abbrev pub IsBytes : List ℕ → Type 0
-IsBytes χ = (k : ℕ) → byteAt χ k < 256
+    xorSum m (λ i. byteProduct (χ e i) (xorSum n (λ ρ. byteProduct (W ρ) (xorSum n (λ c. entry w (blockAt A (n * w) i) ρ c * y c)))))
 
 abbrev pub weighedBit : List ℕ → (ℕ → ℕ) → ℕ → ℕ → ℕ → ℕ
 weighedBit S χ m f z = xorSum m (λ i. bitOf (cellAt S i f) z * χ i)
@@ -72,7 +68,7 @@ abbrev pub PanelCells : ℕ → ℕ → List ℕ → Type 0
 PanelCells m J cells = (J + 1) * (m * chunk) ≤ length cells
 
 abbrev pub CellsRoom : List ℕ → Type 0
-CellsRoom cells = length cells ≡ 26 * (mostEquations * chunk)
+CellsRoom cells = length cells ≡ 26 * (mostBlock * chunk)
 
 abbrev pub SumsRoom : List ℕ → Type 0
 SumsRoom sums = length sums ≡ mostSums
@@ -82,23 +78,23 @@ rowTimes vs e first S χ m h f z = byteProduct (byteAt vs (e * mostVariables + (
 
 abbrev pub Collected : ℕ → ℕ → ℕ → List ℕ → List ℕ → List ℕ → List ℕ → List ℕ → Type 0
 Collected τ J m W cells vs old new =
-    (χ : List ℕ) (e h f z : ℕ) → IsBytes χ → ChosenAll χ m τ W → e < τ → h < 2 → f < 16
+    (χ : ℕ → ℕ → ℕ) (e h f z : ℕ) → IsBytes χ → ChosenAll χ m τ W → e < τ → h < 2 → f < 16
     → stackOf new e (h * 16 + f) z
     ≡ bitXor (stackOf old e (h * 16 + f) z) (xorSum (J + 1) (λ q. byteProduct (byteAt vs (e * mostVariables + (q * 16 + f))) (cellSum cells m χ e q (h * 16 + f) z)))
 
 abbrev pub PanelStacked : ℕ → ℕ → ℕ → List ℕ → List ℕ → List ℕ → List ℕ → Type 0
 PanelStacked τ J m W cells vs stacks =
-    (A χ T : List ℕ) (n w e s : ℕ) → Folded n w m A J cells → IsBytes χ → ChosenAll χ m τ W → VectorsAre τ T vs → length T ≡ n * lanes → e < τ → s < 16 → J * 16 + s < n
+    (A : List ℕ) (χ : ℕ → ℕ → ℕ) (T : List ℕ) (n w e s : ℕ) → Folded n w m A J cells → IsBytes χ → ChosenAll χ m τ W → VectorsAre τ T vs → length T ≡ n * lanes → e < τ → s < 16 → J * 16 + s < n
     → columnOf stacks e s ≡ leftSum w (n * w) m A χ e (λ ρ. laneAt T ρ e) J (J * 16 + s)
 
 abbrev pub vectorOf : List ℕ → ℕ → ℕ → ℕ
 vectorOf T e c = laneAt T c e
 
-abbrev pub polarSum : ℕ → ℕ → ℕ → List ℕ → List ℕ → ℕ → (ℕ → ℕ) → (ℕ → ℕ) → ℕ
+abbrev pub polarSum : ℕ → ℕ → ℕ → List ℕ → (ℕ → ℕ → ℕ) → ℕ → (ℕ → ℕ) → (ℕ → ℕ) → ℕ
 polarSum n w m A χ e x y = bitXor (formSum n w m A χ e y x) (formSum n w m A χ e x y)
 
 abbrev pub BatchFits : ℕ → ℕ → ℕ → ℕ → ℕ → List ℕ → List ℕ → List ℕ → List ℕ → List ℕ → List ℕ → List ℕ → Bool → Type 0
 BatchFits n w m τ G quad mid lines A W table xs polar =
-    (length quad ≡ lanes) × (length mid ≡ lanes) × (length A ≡ m * (n * w)) × (w ≡ bytesFor n) × (n ≤ mostVariables) × (0 < m) × (m ≤ mostEquations) × (0 < τ) × (τ ≤ lanes)
+    (length quad ≡ lanes) × (length mid ≡ lanes) × (length A ≡ m * (n * w)) × (w ≡ bytesFor n) × (n ≤ mostVariables) × (0 < m) × (m ≤ mostBlock) × (0 < τ) × (τ ≤ lanes)
     × GroupsFor m G × WordsFit τ W × (length table ≡ n * lanes) × (length xs ≡ mostVariables) × IsBits xs × ((c : ℕ) → n ≤ c → byteAt xs c ≡ 0)
     × (polar ≡ false → (c : ℕ) → byteAt xs c ≡ 0) × (m * chunk ≤ length lines)

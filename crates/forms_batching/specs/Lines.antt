@@ -36,8 +36,8 @@ leftByte cells m bits i J k = xorSum (J + 1) (λ q. bitAnd (cellAt cells (q * m 
 unfoldable pub leftBit : List ℕ → ℕ → (ℕ → ℕ) → ℕ → ℕ → ℕ → ℕ → ℕ
 leftBit cells m x i J h z = xorSum ((J + 1) * 16) (λ ρ. x ρ * bitOf (cellAt cells (ρ / 16 * m + i) (h * 16 + ρ % 16)) z)
 
-unfoldable pub lineSum : List ℕ → ℕ → List ℕ → ℕ → ℕ → ℕ
-lineSum L m χ e c = xorSum m (λ i. lineBit L i c * byteAt χ (e * m + i))
+unfoldable pub lineSum : List ℕ → ℕ → (ℕ → ℕ → ℕ) → ℕ → ℕ → ℕ
+lineSum L m χ e c = xorSum m (λ i. lineBit L i c * χ e i)
 
 unfoldable pub leftOf : ℕ → ℕ → List ℕ → (ℕ → ℕ) → ℕ → ℕ → ℕ
 leftOf w size A x i c = xorSum ((c / 16 + 1) * 16) (λ ρ. x ρ * foldedBit w (blockAt A size i) ρ c)
@@ -59,5 +59,5 @@ weighedLine S χ m c = xorSum m (λ i. lineBit S i c * χ i)
 abbrev pub lineProduct : List ℕ → ℕ → (ℕ → ℕ) → ℕ
 lineProduct vs e f = xorSum mostVariables (λ c. byteProduct (byteAt vs (e * mostVariables + c)) (f c))
 
-abbrev pub lineForm : ℕ → List ℕ → ℕ → List ℕ → ℕ → (ℕ → ℕ) → ℕ
+abbrev pub lineForm : ℕ → List ℕ → ℕ → (ℕ → ℕ → ℕ) → ℕ → (ℕ → ℕ) → ℕ
 lineForm n L m χ e y = xorSum n (λ c. byteProduct (y c) (lineSum L m χ e c))

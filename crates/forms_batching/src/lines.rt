@@ -8,14 +8,14 @@ ghost use mathlib.Core.List.{List};
 ghost use Prim.Native.Nat.{ℕ, _+_, _*_, _/_, _%_, _<_, _≤_};
 ghost use lib.ListN.{length};
 ghost use lib.Bits.{bitXor, bitAnd};
-ghost use Rattle.protocol.specs.Shape.{mostVariables, mostEquations};
+ghost use Rattle.protocol.specs.Shape.{mostVariables};
 ghost use Rattle.strings.specs.Sums.{byteAt, bitOf, xorSum};
 ghost use Rattle.strings.specs.Rows.{RowsKept};
 ghost use Rattle.lanes.specs.Lanes.{lanes};
-ghost use Rattle.chunks.specs.Chunks.{chunk, cellAt};
-ghost use Rattle.forms_choices.specs.Entries.{mostSums, lookedUp, InWords, ChosenAll, WordsFit, GroupsFor, Weighed};
+ghost use Rattle.chunks.specs.Chunks.{mostBlock, chunk, cellAt};
+ghost use Rattle.forms_choices.specs.Entries.{mostSums, lookedUp, InWords, IsBytes, ChosenAll, WordsFit, GroupsFor, Weighed};
 ghost use Rattle.forms_columns.specs.Stacks.{byteProduct};
-ghost use Rattle.forms_batching.specs.Batched.{IsBytes, WeighedAll, VectorsFit, PanelCells, SumsRoom};
+ghost use Rattle.forms_batching.specs.Batched.{WeighedAll, VectorsFit, PanelCells, SumsRoom};
 ghost use Rattle.forms_batching.specs.Lines.{leftByte, lineSum, LeftAdded, LinesBeside, weighedLine, lineProduct};
 use chunks::CHUNK;
 use chunks::cells::copy_part;
@@ -48,7 +48,7 @@ fn add_masked(acc: &mut [u8; CHUNK], cells: &[u8], at: usize, bits: &[u8], from:
 
 // Chunk i of the sums becomes the sum of the panel's chunks of matrix i, in the rows whose bits are set.
 fn sum_left(sums: &mut [u8], i: usize, cells: &[u8], m: usize, panel: usize, bits: &[u8])
-    requires { ⌜ (i < m) × (m * chunk ≤ length (now sums)) × PanelCells m panel (now cells) × (panel < 10) × (m ≤ mostEquations) × (length (now bits) ≡ mostVariables) ⌝ }
+    requires { ⌜ (i < m) × (m * chunk ≤ length (now sums)) × PanelCells m panel (now cells) × (panel < 10) × (m ≤ mostBlock) × (length (now bits) ≡ mostVariables) ⌝ }
     ensures { λ _. ⌜ ((k : ℕ) → k < chunk → cellAt (now (sums .exit)) i k ≡ leftByte (now (cells .entry)) m (now (bits .entry)) i panel k) ⌝ }
     ensures { λ _. ⌜ RowsKept chunk i (now (sums .entry)) (now (sums .exit)) ⌝ }
 {
@@ -63,7 +63,7 @@ fn sum_left(sums: &mut [u8], i: usize, cells: &[u8], m: usize, panel: usize, bit
 
 // The same for each of the m matrices.
 fn sum_each(sums: &mut [u8], cells: &[u8], m: usize, panel: usize, bits: &[u8])
-    requires { ⌜ (m * chunk ≤ length (now sums)) × PanelCells m panel (now cells) × (panel < 10) × (m ≤ mostEquations) × (length (now bits) ≡ mostVariables) ⌝ }
+    requires { ⌜ (m * chunk ≤ length (now sums)) × PanelCells m panel (now cells) × (panel < 10) × (m ≤ mostBlock) × (length (now bits) ≡ mostVariables) ⌝ }
     ensures { λ _. ⌜ ((i k : ℕ) → i < m → k < chunk → cellAt (now (sums .exit)) i k ≡ leftByte (now (cells .entry)) m (now (bits .entry)) i panel k) ⌝ }
 {
     let mut i = 0;
@@ -76,7 +76,7 @@ fn sum_each(sums: &mut [u8], cells: &[u8], m: usize, panel: usize, bits: &[u8])
 // Adds to each line its two sums of sixteen bytes, at the panel's columns. They are taken from memory: of a chunk in
 // registers the compiler would make a chain of bytes.
 fn add_each(lines: &mut [u8], sums: &[u8], m: usize, panel: usize)
-    requires { ⌜ (m * chunk ≤ length (now lines)) × (m * chunk ≤ length (now sums)) × (panel < 10) × (m ≤ mostEquations) ⌝ }
+    requires { ⌜ (m * chunk ≤ length (now lines)) × (m * chunk ≤ length (now sums)) × (panel < 10) × (m ≤ mostBlock) ⌝ }
     ensures { λ _. ⌜ ((i h : ℕ) → i < m → h < 2
         → cellAt (now (lines .exit)) i (panel * 2 + h) ≡ bitXor (cellAt (now (lines .entry)) i (panel * 2 + h)) (xorSum 16 (λ f. cellAt (now (sums .entry)) i (h * 16 + f)))) ⌝ }
     ensures { λ _. ⌜ LinesBeside panel (now (lines .entry)) (now (lines .exit)) ⌝ }
@@ -101,7 +101,7 @@ pub fn add_left(
     bits: &[u8],
     polar: bool,
 )
-    requires { ⌜ (m * chunk ≤ length (now lines)) × PanelCells m panel (now cells) × (panel < 10) × (m ≤ mostEquations)
+    requires { ⌜ (m * chunk ≤ length (now lines)) × PanelCells m panel (now cells) × (panel < 10) × (m ≤ mostBlock)
         × (length (now bits) ≡ mostVariables) × (m * chunk ≤ length (now sums)) ⌝ }
     ensures { λ _. ⌜ (polar ≡ true → LeftAdded m panel (now (bits .entry)) (now (cells .entry)) (now (lines .entry)) (now (lines .exit))) ⌝ }
     ensures { λ _. ⌜ LinesBeside panel (now (lines .entry)) (now (lines .exit)) ⌝ }
@@ -212,8 +212,8 @@ pub fn add_lines(
     vectors: &[u8],
 )
     requires { ⌜ (length (now mid) ≡ lanes) × SumsRoom (now sums) × (m * chunk ≤ length (now lines))
-        × (0 < m) × (m ≤ mostEquations) × (tau ≤ lanes) × GroupsFor m groups × WordsFit tau (now words) × VectorsFit tau (now vectors) ⌝ }
-    ensures { λ _. ⌜ ((χ : List ℕ) (e : ℕ) → IsBytes χ → ChosenAll χ m tau (now (words .entry)) → e < tau
+        × (0 < m) × (m ≤ mostBlock) × (tau ≤ lanes) × GroupsFor m groups × WordsFit tau (now words) × VectorsFit tau (now vectors) ⌝ }
+    ensures { λ _. ⌜ ((χ : ℕ → ℕ → ℕ) (e : ℕ) → IsBytes χ → ChosenAll χ m tau (now (words .entry)) → e < tau
         → byteAt (now (mid .exit)) e ≡ bitXor (byteAt (now (mid .entry)) e) (lineProduct (now (vectors .entry)) e (lineSum (now (lines .entry)) m χ e))) ⌝ }
 {
     forms_choices::sums::fill_sums(sums, groups, m, &lines[..m * CHUNK]);

@@ -5,28 +5,29 @@ ghost use Prim.Native.Nat.{ℕ, _+_, _*_, _/_, _%_, _<_, _≤_};
 ghost use lib.ListN.{length};
 ghost use lib.Bits.{bitXor};
 ghost use Rattle.protocol.specs.Strings.{bytesFor};
-ghost use Rattle.protocol.specs.Shape.{mostVariables, mostEquations};
+ghost use Rattle.protocol.specs.Shape.{mostVariables};
 ghost use Rattle.strings.specs.Sums.{byteAt};
 ghost use Rattle.lanes.specs.Lanes.{lanes};
-ghost use Rattle.forms_choices.specs.Entries.{ChosenAll, WordsFit, GroupsFor};
+ghost use Rattle.chunks.specs.Chunks.{mostBlock};
+ghost use Rattle.forms_choices.specs.Entries.{IsBytes, ChosenAll, WordsFit, GroupsFor};
 ghost use Rattle.forms_columns.specs.Stacks.{StacksFit};
 ghost use Rattle.forms_folds.specs.Folds.{FoldedSet};
-ghost use Rattle.forms_batching.specs.Batched.{formSum, IsBytes, CellsRoom, VectorsFit, PanelCells, SumsRoom, PanelStacked, vectorOf, polarSum, BatchFits};
+ghost use Rattle.forms_batching.specs.Batched.{formSum, CellsRoom, VectorsFit, PanelCells, SumsRoom, PanelStacked, vectorOf, polarSum, BatchFits};
 ghost use Rattle.forms_batching.specs.Lines.{lineForm, LinesAdded};
 use chunks::CHUNK;
-use format::sizes::MOST_EQUATIONS;
+use chunks::MOST_BLOCK;
 use format::sizes::MOST_VARIABLES;
 use forms_choices::sums::ENTRIES;
 use forms_columns::STACK;
 use lanes::LANES;
 use strings::SIXTEEN;
 
-// The chunks of a set of panels: of 26 times sixteen rows, one for each equation.
-const CELLS: usize = 26 * MOST_EQUATIONS * CHUNK;
+// The chunks of a set of panels: of 26 times sixteen rows, one for each equation of a block.
+const CELLS: usize = 26 * MOST_BLOCK * CHUNK;
 
 // The table of sums of as many equations: 32 entries for each five. Before it is filled, space for a chunk of each
 // line.
-const SUMS: usize = MOST_EQUATIONS / 5 * ENTRIES * CHUNK;
+const SUMS: usize = MOST_BLOCK / 5 * ENTRIES * CHUNK;
 
 // The bits of a witness, each as a mask.
 fn widen(bits: &mut [u8], xs: &[u8])
@@ -42,7 +43,7 @@ fn widen(bits: &mut [u8], xs: &[u8])
 
 // Panels are loaded four at a time, by the first of them; the others stand there already.
 fn load(cells: &mut [u8], a: &[u8], n: usize, width: usize, m: usize, panel: usize)
-    requires { ⌜ CellsRoom (now cells) × (length (now a) ≡ m * (n * width)) × (width ≡ bytesFor n) × (n ≤ mostVariables) × (m ≤ mostEquations) × (panel * 16 < n) ⌝ }
+    requires { ⌜ CellsRoom (now cells) × (length (now a) ≡ m * (n * width)) × (width ≡ bytesFor n) × (n ≤ mostVariables) × (m ≤ mostBlock) × (panel * 16 < n) ⌝ }
     requires { ⌜ ((panel % 4 ≡ 0 → ⊥) → FoldedSet n width m (now a) (panel / 4 * 4) (now cells)) ⌝ }
     ensures { λ _. ⌜ FoldedSet n width m (now (a .entry)) (panel / 4 * 4) (now (cells .exit)) ⌝ }
 {
@@ -75,7 +76,7 @@ fn stack_panel(
     vectors: &[u8],
 )
     requires { ⌜ StacksFit tau (now stacks) × SumsRoom (now sums) × PanelCells m panel (now cells) × (panel * 16 + 16 ≤ mostVariables)
-        × (0 < m) × (m ≤ mostEquations) × (0 < tau) × (tau ≤ lanes) × GroupsFor m groups × WordsFit tau (now words) × VectorsFit tau (now vectors) ⌝ }
+        × (0 < m) × (m ≤ mostBlock) × (0 < tau) × (tau ≤ lanes) × GroupsFor m groups × WordsFit tau (now words) × VectorsFit tau (now vectors) ⌝ }
     ensures { λ _. ⌜ PanelStacked tau panel m (now (words .entry)) (now (cells .entry)) (now (vectors .entry)) (now (stacks .exit)) ⌝ }
 {
     strings::clear(&mut stacks[..tau * STACK]);
@@ -98,10 +99,10 @@ pub fn add_forms(
     s: Batch,
 )
     requires { ⌜ BatchFits (s .n) (s .width) (s .m) (s .tau) (s .groups) (now quad) (now mid) (now lines) (now a) (now words) (now table) (now xs) polar ⌝ }
-    ensures { λ _. ⌜ ((χ : List ℕ) (e : ℕ) → IsBytes χ → ChosenAll χ (s .m) (s .tau) (now (words .entry)) → e < s .tau
+    ensures { λ _. ⌜ ((χ : ℕ → ℕ → ℕ) (e : ℕ) → IsBytes χ → ChosenAll χ (s .m) (s .tau) (now (words .entry)) → e < s .tau
         → byteAt (now (quad .exit)) e
         ≡ bitXor (byteAt (now (quad .entry)) e) (formSum (s .n) (s .width) (s .m) (now (a .entry)) χ e (vectorOf (now (table .entry)) e) (vectorOf (now (table .entry)) e))) ⌝ }
-    ensures { λ _. ⌜ ((χ : List ℕ) (e : ℕ) → IsBytes χ → ChosenAll χ (s .m) (s .tau) (now (words .entry)) → e < s .tau
+    ensures { λ _. ⌜ ((χ : ℕ → ℕ → ℕ) (e : ℕ) → IsBytes χ → ChosenAll χ (s .m) (s .tau) (now (words .entry)) → e < s .tau
         → byteAt (now (mid .exit)) e
         ≡ bitXor (bitXor (byteAt (now (mid .entry)) e) (polarSum (s .n) (s .width) (s .m) (now (a .entry)) χ e (byteAt (now (xs .entry))) (vectorOf (now (table .entry)) e)))
         (lineForm (s .n) (now (lines .entry)) (s .m) χ e (vectorOf (now (table .entry)) e))) ⌝ }

@@ -5,11 +5,11 @@ ghost use mathlib.Core.List.{List};
 ghost use Prim.Native.Nat.{ℕ, _+_, _*_, _<_, _≤_};
 ghost use lib.ListN.{length};
 ghost use lib.Bits.{bitXor};
-ghost use Rattle.protocol.specs.Shape.{mostVariables, mostEquations};
+ghost use Rattle.protocol.specs.Shape.{mostVariables};
 ghost use Rattle.strings.specs.Sums.{byteAt};
 ghost use Rattle.strings.specs.Rows.{RowsKept};
 ghost use Rattle.lanes.specs.Lanes.{lanes, laneAt};
-ghost use Rattle.chunks.specs.Chunks.{chunk, Masks};
+ghost use Rattle.chunks.specs.Chunks.{mostBlock, chunk, Masks};
 ghost use Rattle.forms_choices.specs.Entries.{mostSums, InWords, WordsFit, GroupsFor, Weighed};
 ghost use Rattle.forms_columns.specs.Stacks.{byteProduct, planes, stackAt, stackOf, StacksFit};
 ghost use Rattle.forms_batching.specs.Batched.{weighedBit, WeighedAll, VectorsFit, VectorsAre, PanelCells, SumsRoom, rowTimes, Collected};
@@ -158,7 +158,7 @@ pub fn collect(
     vectors: &[u8],
 )
     requires { ⌜ StacksFit tau (now stacks) × SumsRoom (now sums) × PanelCells m panel (now cells) × (panel * 16 + 16 ≤ mostVariables)
-        × (0 < m) × (m ≤ mostEquations) × (0 < tau) × (tau ≤ lanes) × GroupsFor m groups × WordsFit tau (now words) × VectorsFit tau (now vectors) ⌝ }
+        × (0 < m) × (m ≤ mostBlock) × (0 < tau) × (tau ≤ lanes) × GroupsFor m groups × WordsFit tau (now words) × VectorsFit tau (now vectors) ⌝ }
     ensures { λ _. ⌜ Collected tau panel m (now (words .entry)) (now (cells .entry)) (now (vectors .entry)) (now (stacks .entry)) (now (stacks .exit)) ⌝ }
 {
     let mut q = 0;

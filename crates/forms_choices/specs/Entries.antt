@@ -1,5 +1,7 @@
 -- The table of the sums of each five rows of a table of chunks, and the entries of it that the bits of bytes choose.
---   mostSums == the bytes of the longest table of sums: of 32 entries for each five of the most equations
+--   byteValues == the values of a byte;  fives == the fives of the most equations of a block;  mostSums == the bytes of
+--     the longest table of sums: of 32 entries for each of these fives
+--   twoSixteens == the bytes of two sixteens of fives, eight rows each
 --   entryByte S k f == byte f of entry k of the table of sums: of the rows 5·⌊k/32⌋ + s, s < 5, those with bit s of k
 --     mod 32 set
 --   Tabled S sums count == sums holds the first count entries, one after the other
@@ -9,9 +11,11 @@
 --   fivesWord P at == the word of the ten fives that P has from at on
 --   rowFive W r g == five g of row r of W: a row is four words, of ten fives each, and has 32: the last eight of the
 --     fourth word are not its own
+--   upTo m f i == f(i) for the first m, and 0 past them
+--   IsBytes χ == each χ(e, i) is a byte
 --   Chosen χ m W r == five g of row r of W, g < 32, is the number of the entry, among the 32 of the rows 5·g, .., 5·g +
---     4, which bit r mod 8 of the m bytes χ
---     of repetition ⌊r/8⌋ chooses
+--     4, which bit r mod 8 of the m bytes χ(e, 0), .., χ(e, m - 1) of repetition e = ⌊r/8⌋ chooses; those past them
+--     count as 0
 --   ChosenAll χ m τ W == Chosen for each of the eight rows of each of τ repetitions;  WordsFit τ W == W has room for
 --     these rows
 --   wordByte sums k n w f == byte f of the sum of the entries that the first n fives of w choose, in the tables of the
@@ -20,19 +24,28 @@
 --   InWords G == G fives are whole words of ten, three at most, or all 32
 --   GroupsFor m G == the same, and they are enough for m rows
 --   Weighed S χ m sums W G r == the first 32·G entries of sums are those of the m rows S, m ≤ 5·G, χ is bytes below m,
---     and the eight rows of W from r on hold,
---     for G fives, the entries which the bits of χ choose
+--     and the eight rows of W from r on hold, for G fives, the entries which the bits of χ choose
 -- Assumes nothing.
 use mathlib.Core.Path.{_≡_}
+use mathlib.Core.Bool.{cond}
 use mathlib.Core.List.{List}
 use Prim.Native.Nat.{ℕ, _+_, _*_, _/_, _%_, _^_, _≤_, _<_}
+use lib.Dec.{ltb}
 use lib.ListN.{length}
-use Rattle.protocol.specs.Lists.{blockAt}
 use Rattle.strings.specs.Sums.{byteAt, bitOf, xorSum}
-use Rattle.chunks.specs.Chunks.{chunk, cellAt}
+use Rattle.chunks.specs.Chunks.{mostBlock, chunk, cellAt}
+
+abbrev pub byteValues : ℕ
+byteValues = 256
+
+abbrev pub fives : ℕ
+fives = mostBlock / 5
 
 abbrev pub mostSums : ℕ
-mostSums = 32768
+mostSums = fives * 32 * chunk
+
+abbrev pub twoSixteens : ℕ
+twoSixteens = 2 * 128
 
 abbrev pub entryByte : List ℕ → ℕ → ℕ → ℕ
 entryByte S k f = xorSum 5 (λ s. bitOf (k % 32) s * cellAt S (k / 32 * 5 + s) f)
@@ -57,10 +70,16 @@ fivesWord P at =
 abbrev pub rowFive : List ℕ → ℕ → ℕ → ℕ
 rowFive W r g = five (byteAt W (r * 4 + g / 10)) (g % 10)
 
-abbrev pub Chosen : List ℕ → ℕ → List ℕ → ℕ → Type 0
-Chosen χ m W r = (g : ℕ) → g < 32 → rowFive W r g ≡ choice (byteAt (blockAt χ m (r / 8))) (r % 8) g
+unfoldable pub upTo : ℕ → (ℕ → ℕ) → ℕ → ℕ
+upTo m f i = cond (ltb i m) (f i) 0
 
-abbrev pub ChosenAll : List ℕ → ℕ → ℕ → List ℕ → Type 0
+abbrev pub IsBytes : (ℕ → ℕ → ℕ) → Type 0
+IsBytes χ = (e i : ℕ) → χ e i < byteValues
+
+abbrev pub Chosen : (ℕ → ℕ → ℕ) → ℕ → List ℕ → ℕ → Type 0
+Chosen χ m W r = (g : ℕ) → g < fives → rowFive W r g ≡ choice (upTo m (χ (r / 8))) (r % 8) g
+
+abbrev pub ChosenAll : (ℕ → ℕ → ℕ) → ℕ → ℕ → List ℕ → Type 0
 ChosenAll χ m τ W = (r : ℕ) → r < τ * 8 → Chosen χ m W r
 
 abbrev pub WordsFit : ℕ → List ℕ → Type 0
@@ -73,10 +92,10 @@ abbrev pub lookedUp : List ℕ → List ℕ → ℕ → ℕ → ℕ → ℕ
 lookedUp sums W r G f = xorSum G (λ g. cellAt sums (g * 32 + rowFive W r g) f)
 
 abbrev pub InWords : ℕ → Type 0
-InWords G = (G ≤ 32) × (G ≤ 30 → G % 10 ≡ 0) × (30 < G → G ≡ 32)
+InWords G = (G ≤ fives) × (G ≤ 30 → G % 10 ≡ 0) × (30 < G → G ≡ fives)
 
 abbrev pub GroupsFor : ℕ → ℕ → Type 0
 GroupsFor m G = InWords G × (m ≤ G * 5)
 
 abbrev pub Weighed : List ℕ → (ℕ → ℕ) → ℕ → List ℕ → List ℕ → ℕ → ℕ → Type 0
-Weighed S χ m sums W G r = Tabled S sums (G * 32) × (length S ≡ m * chunk) × (m ≤ G * 5) × ((i : ℕ) → i < m → χ i < 256) × ((p g : ℕ) → p < 8 → g < G → rowFive W (r + p) g ≡ choice χ p g)
+Weighed S χ m sums W G r = Tabled S sums (G * 32) × (length S ≡ m * chunk) × (m ≤ G * 5) × ((i : ℕ) → i < m → χ i < byteValues) × ((p g : ℕ) → p < 8 → g < G → rowFive W (r + p) g ≡ choice χ p g)

@@ -4,9 +4,9 @@
 ghost use mathlib.Core.Path.{_≡_};
 ghost use Prim.Native.Nat.{ℕ, _+_, _*_, _<_, _≤_};
 ghost use lib.ListN.{length};
-ghost use Rattle.protocol.specs.Shape.{mostEquations};
 ghost use Rattle.strings.specs.Sums.{byteAt};
 ghost use Rattle.strings.specs.Rows.{RowsKept};
+ghost use Rattle.chunks.specs.Chunks.{mostBlock};
 ghost use Rattle.forms_choices.specs.Entries.{fivesWord, Chosen, ChosenAll, WordsFit, GroupsFor};
 use super::picks::FIVES;
 use super::picks::PICKS;
@@ -14,17 +14,17 @@ use super::picks::SIXTEENS;
 use super::picks::TAKEN;
 use super::picks::choose_all;
 use super::picks::fill_rows;
+use chunks::MOST_BLOCK;
 use chunks::cells::copy_front;
-use field::Gf256;
-use format::sizes::MOST_EQUATIONS;
+use strings::BITS;
 use strings::least;
 use strings::word;
 
 // The words of a row.
 pub const ROW_WORDS: usize = 4;
 
-// Room for the bytes of the most equations, and for what is taken where the last five begins.
-const BYTES: usize = MOST_EQUATIONS + TAKEN;
+// Room for the bytes of the most equations of a block, and for what is taken where the last five begins.
+const BYTES: usize = MOST_BLOCK + TAKEN;
 
 // Four numbers, five bits to each.
 fn four_at(picks: &[u8], at: usize) -> u64
@@ -81,19 +81,20 @@ fn put_rows(words: &mut [u64], e: usize, picks: &[u8])
     ensures { λ _. ⌜ ((q k : ℕ) → q < e * 8 → k < 4 → byteAt (now (words .exit)) (q * 4 + k) ≡ byteAt (now (words .entry)) (q * 4 + k)) ⌝ }
 {
     let mut p = 0;
-    while p < Gf256::DEGREE {
-        put_row(words, e * Gf256::DEGREE + p, p, picks);
+    while p < BITS {
+        put_row(words, e * BITS + p, p, picks);
         p += 1;
     }
 }
 
-fn fill_repetition(words: &mut [u64], e: usize, chi: &[u8], m: usize)
-    requires { ⌜ (m ≤ mostEquations) × ((e * 8 + 8) * 4 ≤ length (now words)) × (e * m + m ≤ length (now chi)) ⌝ }
-    ensures { λ _. ⌜ ((p : ℕ) → p < 8 → Chosen (now (chi .entry)) m (now (words .exit)) (e * 8 + p)) ⌝ }
+// The rows of repetition e, whose m bytes stand in chi from `at` on.
+fn fill_repetition(words: &mut [u64], e: usize, chi: &[u8], at: usize, m: usize)
+    requires { ⌜ (m ≤ mostBlock) × ((e * 8 + 8) * 4 ≤ length (now words)) × (at + m ≤ length (now chi)) ⌝ }
+    ensures { λ _. ⌜ ((χ : ℕ → ℕ → ℕ) (p : ℕ) → p < 8 → ((i : ℕ) → i < m → χ e i ≡ byteAt (now (chi .entry)) (at + i)) → Chosen χ m (now (words .exit)) (e * 8 + p)) ⌝ }
     ensures { λ _. ⌜ ((q k : ℕ) → q < e * 8 → k < 4 → byteAt (now (words .exit)) (q * 4 + k) ≡ byteAt (now (words .entry)) (q * 4 + k)) ⌝ }
 {
     let mut bytes = [0u8; BYTES];
-    copy_front(&mut bytes, chi, e * m, m);
+    copy_front(&mut bytes, chi, at, m);
     let mut rows = [0u8; SIXTEENS];
     fill_rows(&mut rows, 0, &bytes);
     fill_rows(&mut rows, 1, &bytes);
@@ -104,20 +105,21 @@ fn fill_repetition(words: &mut [u64], e: usize, chi: &[u8], m: usize)
 
 // The fives that are looked up for m equations: those of whole words of ten, or all 32.
 pub fn groups_for(m: usize) -> usize
-    requires { ⌜ m ≤ mostEquations ⌝ }
+    requires { ⌜ m ≤ mostBlock ⌝ }
     ensures { λ r. ⌜ GroupsFor m r ⌝ }
 {
     least((m + 49) / 50 * 10, FIVES)
 }
 
-// The words of what the m bytes of each of tau repetitions choose.
-pub fn fill_words(words: &mut [u64], chi: &[u8], m: usize, tau: usize)
-    requires { ⌜ (m ≤ mostEquations) × WordsFit tau (now words) × (length (now chi) ≡ tau * m) ⌝ }
-    ensures { λ _. ⌜ ChosenAll (now (chi .entry)) m tau (now (words .exit)) ⌝ }
+// The words of what m bytes of each of tau repetitions choose. Those of repetition e stand in chi from e·stride + from
+// on: a block of equations is batched by a part of each repetition's bytes.
+pub fn fill_words(words: &mut [u64], chi: &[u8], stride: usize, from: usize, m: usize, tau: usize)
+    requires { ⌜ (m ≤ mostBlock) × (from + m ≤ stride) × WordsFit tau (now words) × (length (now chi) ≡ tau * stride) ⌝ }
+    ensures { λ _. ⌜ ChosenAll (λ e i. byteAt (now (chi .entry)) (e * stride + from + i)) m tau (now (words .exit)) ⌝ }
 {
     let mut e = 0;
     while e < tau {
-        fill_repetition(words, e, chi, m);
+        fill_repetition(words, e, chi, e * stride + from, m);
         e += 1;
     }
 }

@@ -6,18 +6,20 @@ ghost use Prim.Native.Nat.{ℕ, _+_, _*_, _/_, _%_, _<_, _≤_};
 ghost use lib.ListN.{length};
 ghost use Rattle.strings.specs.Sums.{byteAt};
 ghost use Rattle.strings.specs.Rows.{RowsKept};
-ghost use Rattle.forms_choices.specs.Entries.{choice, inRows};
+ghost use Rattle.chunks.specs.Chunks.{mostBlock};
+ghost use Rattle.forms_choices.specs.Entries.{choice, inRows, twoSixteens};
+use chunks::MOST_BLOCK;
 use chunks::cells::copy_apart;
 use chunks::turns::EIGHT_ROWS;
 use chunks::turns::part;
-use field::Gf256;
+use strings::BITS;
 use strings::SIXTEEN;
 
 // The numbers of one bit, for the most fives.
-pub const FIVES: usize = 32;
+pub const FIVES: usize = MOST_BLOCK / 5;
 
 // The numbers of all bits, with room for ten where the last two begin.
-pub const PICKS: usize = Gf256::DEGREE * FIVES + 8;
+pub const PICKS: usize = BITS * FIVES + 8;
 
 // So many bytes are taken where each five begins: as many as rows are merged into.
 pub const TAKEN: usize = 8;
@@ -27,7 +29,7 @@ pub const SIXTEENS: usize = 2 * EIGHT_ROWS;
 
 // The rows of the sixteen fives h. They are taken eight bytes apart: after each, three bytes of the next.
 pub fn fill_rows(rows: &mut [u8], h: usize, bytes: &[u8])
-    requires { ⌜ (h < 2) × (length (now rows) ≡ 256) × (163 ≤ length (now bytes)) ⌝ }
+    requires { ⌜ (h < 2) × (length (now rows) ≡ twoSixteens) × (mostBlock + 3 ≤ length (now bytes)) ⌝ }
     ensures { λ _. ⌜ ((i : ℕ) → i < 128 → byteAt (now (rows .exit)) (h * 128 + i) ≡ byteAt (now (bytes .entry)) (h * 80 + i % 16 * 5 + i / 16)) ⌝ }
     ensures { λ _. ⌜ RowsKept 128 h (now (rows .entry)) (now (rows .exit)) ⌝ }
 {
@@ -39,7 +41,7 @@ pub fn fill_rows(rows: &mut [u8], h: usize, bytes: &[u8])
 
 // Bit p of each of five bytes, the first lowest.
 fn choose(rows: &[u8], h: usize, g: usize, p: usize) -> u8
-    requires { ⌜ (h < 2) × (g < 16) × (length (now rows) ≡ 256) × (p < 8) ⌝ }
+    requires { ⌜ (h < 2) × (g < 16) × (length (now rows) ≡ twoSixteens) × (p < 8) ⌝ }
     ensures { λ r. ⌜ r ≡ choice (inRows (now (rows .entry))) p (h * 16 + g) ⌝ }
 {
     let at = h * EIGHT_ROWS + g;
@@ -50,7 +52,7 @@ fn choose(rows: &[u8], h: usize, g: usize, p: usize) -> u8
 }
 
 fn choose_both(plane: &mut [u8], rows: &[u8], p: usize)
-    requires { ⌜ (length (now plane) ≡ 32) × (length (now rows) ≡ 256) × (p < 8) ⌝ }
+    requires { ⌜ (length (now plane) ≡ 32) × (length (now rows) ≡ twoSixteens) × (p < 8) ⌝ }
     ensures { λ _. ⌜ ((g : ℕ) → g < 32 → byteAt (now (plane .exit)) g ≡ choice (inRows (now (rows .entry))) p g) ⌝ }
 {
     let mut g = 0;
@@ -62,7 +64,7 @@ fn choose_both(plane: &mut [u8], rows: &[u8], p: usize)
 }
 
 fn choose_at(picks: &mut [u8], rows: &[u8], p: usize)
-    requires { ⌜ (length (now picks) ≡ 264) × (length (now rows) ≡ 256) × (p < 8) ⌝ }
+    requires { ⌜ (length (now picks) ≡ 264) × (length (now rows) ≡ twoSixteens) × (p < 8) ⌝ }
     ensures { λ _. ⌜ ((g : ℕ) → g < 32 → byteAt (now (picks .exit)) (p * 32 + g) ≡ choice (inRows (now (rows .entry))) p g) ⌝ }
     ensures { λ _. ⌜ RowsKept 32 p (now (picks .entry)) (now (picks .exit)) ⌝ }
 {
@@ -72,11 +74,11 @@ fn choose_at(picks: &mut [u8], rows: &[u8], p: usize)
 
 // All eight bits, before any is written on, so that they stay in registers.
 pub fn choose_all(picks: &mut [u8], rows: &[u8])
-    requires { ⌜ (length (now picks) ≡ 264) × (length (now rows) ≡ 256) ⌝ }
+    requires { ⌜ (length (now picks) ≡ 264) × (length (now rows) ≡ twoSixteens) ⌝ }
     ensures { λ _. ⌜ ((p g : ℕ) → p < 8 → g < 32 → byteAt (now (picks .exit)) (p * 32 + g) ≡ choice (inRows (now (rows .entry))) p g) ⌝ }
 {
     let mut p = 0;
-    while p < Gf256::DEGREE {
+    while p < BITS {
         choose_at(picks, rows, p);
         p += 1;
     }

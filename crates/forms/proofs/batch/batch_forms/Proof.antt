@@ -2,14 +2,17 @@
 -- of the batched matrix with the lines (`BatchLaws`).
 -- Assumes nothing.
 use borrow.Author.Needs.{needs}
-use Prim.Native.Nat.{ℕ, _<_}
+use Prim.Native.Nat.{ℕ, _+_, _*_, _<_}
 use mathlib.Core.Path.{refl, ap, ap₂, _∙_}
+use native.Mathlib.Nat.{add-zero}
 use native.Mathlib.Omega.{arith}
 use denote.Ref.{now}
 use lib.Bits.{bitXor}
 use Rattle.protocol.specs.Strings.{bytesFor}
 use Rattle.strings.specs.Sums.{byteAt}
-use Rattle.forms.proofs.BatchLaws.{form-is, polar-is, lines-are, middle-is}
+use Rattle.forms_choices.specs.Entries.{ChosenAll}
+use Rattle.forms_choices.proofs.ChoiceLaws.{chosen-same}
+use Rattle.forms.proofs.BatchLaws.{bytesOf, form-is, polar-is, lines-are, middle-is}
 use Rattle.forms.proofs.batch.batch_forms.Statement.{statement}
 use Rattle.forms.proofs.batch.batch_forms.Tie as tie
 
@@ -65,10 +68,11 @@ returns c =
     let T = now (a .table) in
     let χ = now (a .chi) in
     let small : (k : ℕ) → byteAt χ k < 256 = λ k. c .before .before .before .before .before .before .before .before .before .before .before .before .before .before .before .before .before .before .shared-slice-known4 .given k .fits in
-    let bytes : (k : ℕ) → byteAt T k < 256 = λ k. c .before .before .before .before .before .before .before .before .before .before .before .before .before .before .before .before .before .shared-slice-known5 .given k .fits in (
-      (λ e h. formed .ensures .0 χ e small (chosen .ensures) h ∙ ap (bitXor (byteAt (now (a .quad)) e)) (form-is (a .d .n) (a .d .m) e (now (a .a)) T χ)),
+    let bytes : (k : ℕ) → byteAt T k < 256 = λ k. c .before .before .before .before .before .before .before .before .before .before .before .before .before .before .before .before .before .shared-slice-known5 .given k .fits in
+    let picked : ChosenAll (bytesOf (a .d .m) χ) (a .d .m) (a .d .tau) (chosen .last .0) = chosen-same _ (bytesOf (a .d .m) χ) (a .d .m) (a .d .tau) (chosen .last .0) (λ q i l. ap (λ (k : ℕ). byteAt χ (k + i)) (add-zero (q * a .d .m))) (chosen .ensures) in (
+      (λ e h. formed .ensures .0 (bytesOf (a .d .m) χ) e (λ q i. small (q * a .d .m + i)) picked h ∙ ap (bitXor (byteAt (now (a .quad)) e)) (form-is (a .d .n) (a .d .m) e (now (a .a)) T χ)),
       (λ e h.
-          formed .ensures .1 .0 χ e small (chosen .ensures) h
+          formed .ensures .1 .0 (bytesOf (a .d .m) χ) e (λ q i. small (q * a .d .m + i)) picked h
           ∙ ap₂ (λ (u v : ℕ). bitXor (bitXor (byteAt (now (a .lin)) e) u) v) (polar-is (a .d .n) (a .d .m) e (now (a .a)) T χ bytes (byteAt (now (a .xs))) (pre .10)) (lines-are (a .d .n) (a .d .m) e (now (a .a)) T χ (now (a .b)) (lines .last .0) (lines .ensures))
           ∙ middle-is (a .d .n) (a .d .m) e (now (a .a)) T χ bytes (byteAt (now (a .xs))) (pre .10) (now (a .b)) (byteAt (now (a .lin)) e)),
     )

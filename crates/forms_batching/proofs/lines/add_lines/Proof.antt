@@ -8,11 +8,10 @@ use denote.Ref.{now}
 use lib.ListN.{length, take}
 use lib.Seq.{length-take-le}
 use lib.Bits.{bitXor}
-use Rattle.protocol.specs.Lists.{blockAt}
 use Rattle.strings.specs.Sums.{byteAt}
 use Rattle.strings.proofs.SumLaws.{sum-same}
 use Rattle.chunks.specs.Chunks.{chunk}
-use Rattle.forms_choices.specs.Entries.{Tabled}
+use Rattle.forms_choices.specs.Entries.{Tabled, upTo}
 use Rattle.forms_columns.specs.Stacks.{byteProduct}
 use Rattle.protocol.specs.Shape.{mostVariables}
 use Rattle.forms_batching.proofs.LineLaws.{weighed-rows, line-sum}
@@ -52,7 +51,7 @@ returns c =
     let long : length S ≡ a .m * chunk = length-take-le (a .m * chunk) (now (a .lines)) (pre .2) in
     let few : a .groups ≤ 32 = pre .6 .0 .0 in
     λ χ e small chosen he.
-    done .ensures S (λ q. byteAt (blockAt χ (a .m) q)) (a .m) e (weighed-rows S (filled .last .0) (now (a .words)) χ (a .m) (a .groups) (a .tau) tabled long (pre .6 .1) few small chosen) he
+    done .ensures S (λ q. upTo (a .m) (χ q)) (a .m) e (weighed-rows S (filled .last .0) (now (a .words)) χ (a .m) (a .groups) (a .tau) tabled long (pre .6 .1) few small chosen) he
     ∙ ap (bitXor (byteAt (now (a .mid)) e)) (sum-same mostVariables _ _ (λ j l. ap (byteProduct (byteAt (now (a .vectors)) (e * mostVariables + j))) (line-sum (now (a .lines)) χ (a .m) e j (omega arith))))
 
 pub add-lines-spec : {M : Type 1} → statement M

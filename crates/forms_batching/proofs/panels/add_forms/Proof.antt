@@ -15,7 +15,7 @@ use Rattle.strings.specs.Sums.{byteAt, xorSum}
 use Rattle.strings.proofs.SumLaws.{sum-same, sum-short, sum-step}
 use Rattle.lanes.specs.Lanes.{lanes, laneAt}
 use Rattle.chunks.specs.Chunks.{chunk, cellAt}
-use Rattle.forms_choices.specs.Entries.{Chosen}
+use Rattle.forms_choices.specs.Entries.{IsBytes, ChosenAll}
 use Rattle.forms_folds.specs.Folds.{Folded, FoldedSet}
 use Rattle.forms_columns.specs.Stacks.{byteProduct, columnOf}
 use Rattle.forms_columns.proofs.ProductLaws.{product-zero}
@@ -30,10 +30,10 @@ use Rattle.forms_batching.proofs.panels.add_forms.Statement.{statement}
 use Rattle.forms_batching.proofs.panels.add_forms.Tie as tie
 
 -- what panel J gives
-abbrev term : ℕ → ℕ → ℕ → List ℕ → List ℕ → List ℕ → ℕ → ℕ → ℕ
+abbrev term : ℕ → ℕ → ℕ → List ℕ → List ℕ → (ℕ → ℕ → ℕ) → ℕ → ℕ → ℕ
 term n w m A T χ e J = xorSum 16 (λ s. byteProduct (laneAt T (J * 16 + s) e) (leftSum w (n * w) m A χ e (λ ρ. laneAt T ρ e) J (J * 16 + s)))
 
-abbrev half : ℕ → ℕ → ℕ → List ℕ → List ℕ → List ℕ → List ℕ → ℕ → ℕ → ℕ
+abbrev half : ℕ → ℕ → ℕ → List ℕ → List ℕ → List ℕ → (ℕ → ℕ → ℕ) → ℕ → ℕ → ℕ
 half n w m A T xs χ e J = xorSum 16 (λ s. byteProduct (byteAt xs (J * 16 + s)) (leftSum w (n * w) m A χ e (λ ρ. laneAt T ρ e) J (J * 16 + s)))
 
 -- a panel that is not the first of a set is of the set of the panel before it
@@ -51,7 +51,7 @@ all-added false w size A xs L₀ L i c on off none =
     ap (λ l. lineBit l i c) (off refl) ∙ sym (ap (bitXor (lineBit L₀ i c)) (left-none w size A (byteAt xs) i c (none refl)) ∙ xor-zero-r _)
 
 abbrev Inv-loop : tie.InvT-loop
-Inv-loop quad₀ mid₀ lines₀ a words table xs asked n m tau width groups cells₀ sums₀ vectors bits stacks₀ panel₀ quad mid lines cells sums stacks panel = (panel * 16 < n + 16) × (length quad ≡ lanes) × (length mid ≡ lanes) × (length cells ≡ 133120) × (length sums ≡ 32768) × ((e c : ℕ) → e < tau → c < mostVariables → byteAt vectors (e * mostVariables + c) ≡ laneAt table c e) × ((c : ℕ) → c < mostVariables → byteAt bits c ≡ byteAt xs c * 255) × ((χ : List ℕ) (e : ℕ) → ((k : ℕ) → byteAt χ k < 256) → ((r : ℕ) → r < tau * 8 → Chosen χ m words r) → e < tau → byteAt quad e ≡ bitXor (byteAt quad₀ e) (xorSum panel (term n width m a table χ e))) × ((χ : List ℕ) (e : ℕ) → ((k : ℕ) → byteAt χ k < 256) → ((r : ℕ) → r < tau * 8 → Chosen χ m words r) → e < tau → byteAt mid e ≡ bitXor (byteAt mid₀ e) (xorSum panel (half n width m a table xs χ e))) × (length vectors ≡ 7680) × (length bits ≡ mostVariables) × ((panel % 4 ≡ 0 → ⊥) → FoldedSet n width m a (panel / 4 * 4) cells) × (length stacks ≡ 23040) × (length lines ≡ length lines₀) × (asked ≡ true → (i c : ℕ) → i < m → c < n → c < panel * 16 → Added width (n * width) a (byteAt xs) lines₀ lines i c) × ((i k : ℕ) → k < chunk → panel * 2 ≤ k → cellAt lines i k ≡ cellAt lines₀ i k) × (asked ≡ false → lines ≡ lines₀)
+Inv-loop quad₀ mid₀ lines₀ a words table xs asked n m tau width groups cells₀ sums₀ vectors bits stacks₀ panel₀ quad mid lines cells sums stacks panel = (panel * 16 < n + 16) × (length quad ≡ lanes) × (length mid ≡ lanes) × (length cells ≡ 133120) × (length sums ≡ 32768) × ((e c : ℕ) → e < tau → c < mostVariables → byteAt vectors (e * mostVariables + c) ≡ laneAt table c e) × ((c : ℕ) → c < mostVariables → byteAt bits c ≡ byteAt xs c * 255) × ((χ : ℕ → ℕ → ℕ) (e : ℕ) → IsBytes χ → ChosenAll χ m tau words → e < tau → byteAt quad e ≡ bitXor (byteAt quad₀ e) (xorSum panel (term n width m a table χ e))) × ((χ : ℕ → ℕ → ℕ) (e : ℕ) → IsBytes χ → ChosenAll χ m tau words → e < tau → byteAt mid e ≡ bitXor (byteAt mid₀ e) (xorSum panel (half n width m a table xs χ e))) × (length vectors ≡ 7680) × (length bits ≡ mostVariables) × ((panel % 4 ≡ 0 → ⊥) → FoldedSet n width m a (panel / 4 * 4) cells) × (length stacks ≡ 23040) × (length lines ≡ length lines₀) × (asked ≡ true → (i c : ℕ) → i < m → c < n → c < panel * 16 → Added width (n * width) a (byteAt xs) lines₀ lines i c) × ((i k : ℕ) → k < chunk → panel * 2 ≤ k → cellAt lines i k ≡ cellAt lines₀ i k) × (asked ≡ false → lines ≡ lines₀)
 
 abbrev μ-loop : tie.MeasureT-loop
 μ-loop quad₀ mid₀ lines₀ a words table xs asked n m tau width groups cells₀ sums₀ vectors bits stacks₀ panel₀ quad mid lines cells sums stacks panel = n + 16 - panel * 16

@@ -17,17 +17,18 @@ use Rattle.strings.proofs.Rows.{row-end, row-byte}
 use Rattle.strings.proofs.SumLaws.{sum-same, sum-none, sum-step}
 use Rattle.strings.proofs.Meaning.{bitOf-zero}
 use Rattle.chunks.specs.Chunks.{chunk, cellAt}
-use Rattle.forms_choices.specs.Entries.{Tabled, Chosen, Weighed}
+use Rattle.forms_choices.specs.Entries.{Tabled, upTo, IsBytes, ChosenAll, Weighed}
+use Rattle.forms_choices.proofs.ChoiceLaws.{up-to-first}
 use Rattle.forms_columns.specs.Stacks.{byteProduct, planes, stackOf}
 use Rattle.protocol.specs.Shape.{mostVariables}
-use Rattle.forms_batching.specs.Batched.{cellSum}
+use Rattle.forms_batching.specs.Batched.{cellSum, SumsRoom}
 use Rattle.forms_batching.proofs.StackLaws.{stack-same}
 use Rattle.forms_batching.proofs.LineLaws.{weighed-rows}
 use Rattle.forms_batching.proofs.stacks.collect.Statement.{statement}
 use Rattle.forms_batching.proofs.stacks.collect.Tie as tie
 
 -- what the sixteen rows q add to a byte of the stack of repetition e
-abbrev term : List ℕ → ℕ → List ℕ → List ℕ → ℕ → ℕ → ℕ → ℕ → ℕ → ℕ
+abbrev term : List ℕ → ℕ → (ℕ → ℕ → ℕ) → List ℕ → ℕ → ℕ → ℕ → ℕ → ℕ → ℕ
 term cells m χ vectors e h f z q = byteProduct (byteAt vectors (e * mostVariables + (q * 16 + f))) (cellSum cells m χ e q (h * 16 + f) z)
 
 -- the first entry of a table of sums is 0
@@ -49,15 +50,15 @@ unchanged S sums old new count pos tabled low high b = go (decLt b chunk)
 place : (q m i f : ℕ) → q * (m * chunk) + (i * chunk + f) ≡ (q * m + i) * chunk + f
 place q m i f = ap (λ x. x + (i * chunk + f)) (sym (mul-assoc q m chunk)) ∙ sym (add-assoc (q * m * chunk) (i * chunk) f) ∙ ap (λ x. x + f) (sym (add-mul (q * m) i chunk))
 
-sum-is : (cells χ : List ℕ) (m e q f z : ℕ) → f < chunk → xorSum m (λ i. bitOf (cellAt (blockAt cells (m * chunk) q) i f) z * byteAt (blockAt χ m e) i) ≡ cellSum cells m χ e q f z
+sum-is : (cells : List ℕ) (χ : ℕ → ℕ → ℕ) (m e q f z : ℕ) → f < chunk → xorSum m (λ i. bitOf (cellAt (blockAt cells (m * chunk) q) i f) z * upTo m (χ e) i) ≡ cellSum cells m χ e q f z
 unfolding cellSum
 sum-is cells χ m e q f z h =
     sum-same m _ _ (λ i l.
     let inside : i * chunk + f < m * chunk = omega arith in
-    ap₂ (λ x y. bitOf x z * y) (row-byte cells (m * chunk) q (i * chunk + f) inside ∙ ap (byteAt cells) (place q m i f)) (row-byte χ m e i l))
+    ap₂ (λ x y. bitOf x z * y) (row-byte cells (m * chunk) q (i * chunk + f) inside ∙ ap (byteAt cells) (place q m i f)) (up-to-first m (χ e) i l))
 
 abbrev Inv-loop : tie.InvT-loop
-Inv-loop stacks₀ sums₀ cells panel m tau words groups vectors q₀ stacks sums q = (q ≤ panel + 1) × (length stacks ≡ length stacks₀) × (length sums ≡ 32768) × ((χ : List ℕ) (e h f z : ℕ) → ((k : ℕ) → byteAt χ k < 256) → ((r : ℕ) → r < tau * 8 → Chosen χ m words r) → e < tau → h < 2 → f < 16 → stackOf stacks e (h * 16 + f) z ≡ bitXor (stackOf stacks₀ e (h * 16 + f) z) (xorSum q (term cells m χ vectors e h f z)))
+Inv-loop stacks₀ sums₀ cells panel m tau words groups vectors q₀ stacks sums q = (q ≤ panel + 1) × (length stacks ≡ length stacks₀) × SumsRoom sums × ((χ : ℕ → ℕ → ℕ) (e h f z : ℕ) → IsBytes χ → ChosenAll χ m tau words → e < tau → h < 2 → f < 16 → stackOf stacks e (h * 16 + f) z ≡ bitXor (stackOf stacks₀ e (h * 16 + f) z) (xorSum q (term cells m χ vectors e h f z)))
 
 abbrev μ-loop : tie.MeasureT-loop
 μ-loop stacks₀ sums₀ cells panel m tau words groups vectors q₀ stacks sums q = panel + 1 - q
@@ -132,14 +133,14 @@ loop-again c =
     let few : a .groups ≤ 32 = pre .8 .0 .0 in
     let some : 0 < a .groups * 32 = omega (arith, pre .8 .1, pre .4) in
     let same = unchanged S (filled .last .0) (l .stacks) (settled .last .0) (a .groups * 32) some tabled (settled .ensures .0) (settled .ensures .1) in
-    let all : (χ : List ℕ) → ((k : ℕ) → byteAt χ k < 256) → ((r : ℕ) → r < a .tau * 8 → Chosen χ (a .m) (now (a .words)) r) → (q : ℕ) → q < a .tau → Weighed S (byteAt (blockAt χ (a .m) q)) (a .m) (filled .last .0) (now (a .words)) (a .groups) (q * 8) =
+    let all : (χ : ℕ → ℕ → ℕ) → IsBytes χ → ChosenAll χ (a .m) (a .tau) (now (a .words)) → (q : ℕ) → q < a .tau → Weighed S (upTo (a .m) (χ q)) (a .m) (filled .last .0) (now (a .words)) (a .groups) (q * 8) =
     λ χ. weighed-rows S (filled .last .0) (now (a .words)) χ (a .m) (a .groups) (a .tau) tabled long (pre .8 .1) few in (
       omega (arith, c .before .before .before .before .before .before .before .before .before .before .before .before .before .before .before .loop-test .taken),
       done .kept .0 ∙ settled .kept .0 ∙ l .inv .1,
       filled .kept .0 ∙ l .inv .2,
       (λ χ e h f z small chosen he hh hf.
           let inside : h * 16 + f < chunk = omega arith in
-          done .ensures S (λ q. byteAt (blockAt χ (a .m) q)) (a .m) e h f z (all χ small chosen) he hh hf
+          done .ensures S (λ q. upTo (a .m) (χ q)) (a .m) e h f z (all χ small chosen) he hh hf
           ∙ ap₂ (λ (y x : ℕ). bitXor y (byteProduct (byteAt (now (a .vectors)) (e * mostVariables + (l .q * 16 + f))) x))
           (stack-same (settled .last .0) (l .stacks) e (h * 16 + f) z inside (λ b k. same (e * (planes * chunk) + b)))
           (sum-is cells χ (a .m) e (l .q) (h * 16 + f) z inside)

@@ -1,5 +1,5 @@
 -- `forms_choices::fives::fill_repetition` meets its contract. The bytes of the repetition are taken with zeros past
--- them, as its block has them.
+-- them, as `upTo` has them.
 -- Assumes nothing.
 use borrow.Author.Needs.{needs}
 use Prim.Native.Nat.{ℕ, _+_, _*_, _/_, _%_, _≤_, _<_}
@@ -10,30 +10,25 @@ use native.Mathlib.Decide.{decLt}
 use native.Mathlib.Omega.{arith}
 use denote.Ref.{now}
 use lib.ListN.{getD-replicate, replicate}
-use Rattle.protocol.specs.Lists.{blockAt}
 use Rattle.strings.specs.Sums.{byteAt}
-use Rattle.strings.proofs.Rows.{RowsAre, rows-more, row-byte}
-use Rattle.chunks.proofs.BlockLaws.{block-past}
-use Rattle.forms_choices.specs.Entries.{five, inRows}
-use Rattle.forms_choices.proofs.ChoiceLaws.{choice-lt, choice-same, word-five}
+use Rattle.strings.proofs.Rows.{RowsAre, rows-more}
+use Rattle.forms_choices.specs.Entries.{five, inRows, upTo}
+use Rattle.forms_choices.proofs.ChoiceLaws.{choice-lt, choice-same, up-to-first, up-to-past, word-five}
 use Rattle.forms_choices.proofs.PickLaws.{rows-held}
 use Rattle.forms_choices.proofs.fives.fill_repetition.Statement.{statement}
 use Rattle.forms_choices.proofs.fives.fill_repetition.Tie as tie
 
--- the bytes of a block, and zeros
-padded : (bytes χ : List ℕ) (m e : ℕ) → ((f : ℕ) → f < m → byteAt bytes f ≡ byteAt χ (e * m + f)) → ((f : ℕ) → m ≤ f → byteAt bytes f ≡ byteAt (replicate 168 0) f)
-    → (i : ℕ) → i < 168 → byteAt bytes i ≡ byteAt (blockAt χ m e) i
-padded bytes χ m e front rest i h = go (decLt i m)
+-- the bytes of the repetition, and zeros
+padded : (bytes chi : List ℕ) (f : ℕ → ℕ) (m at : ℕ) → ((i : ℕ) → i < m → f i ≡ byteAt chi (at + i)) → ((i : ℕ) → i < m → byteAt bytes i ≡ byteAt chi (at + i))
+    → ((i : ℕ) → m ≤ i → byteAt bytes i ≡ byteAt (replicate 168 0) i) → (i : ℕ) → i < 168 → byteAt bytes i ≡ upTo m f i
+padded bytes chi f m at are front rest i h = go (decLt i m)
   where
-    go : Dec (i < m) → byteAt bytes i ≡ byteAt (blockAt χ m e) i
-    go (yes k) = front i k ∙ sym (row-byte χ m e i k)
-    go (no k) = rest i (omega arith) ∙ getD-replicate 168 i 0 0 h ∙ sym (block-past χ m e i (omega arith))
+    go : Dec (i < m) → byteAt bytes i ≡ upTo m f i
+    go (yes k) = front i k ∙ sym (up-to-first m f i k ∙ are i k)
+    go (no k) = rest i (omega arith) ∙ getD-replicate 168 i 0 0 h ∙ sym (up-to-past m f i (omega arith))
 
 slice-aggregate-copy-front : tie.Need-slice-aggregate-copy-front
 slice-aggregate-copy-front c = search needs
-
-mul-copy-front : tie.Need-mul-copy-front
-mul-copy-front c = search needs
 
 copy-front-requires : tie.Need-copy-front-requires
 copy-front-requires c κs = search needs
@@ -90,7 +85,7 @@ returns c =
     rows-more (λ h i. byteAt bytes (h * 80 + i % 16 * 5 + i / 16)) (first .last .0) rows 1 128
     (rows-more (λ h i. byteAt bytes (h * 80 + i % 16 * 5 + i / 16)) (replicate 256 0) (first .last .0) 0 128 (λ q i h. absurd (omega arith)) (first .ensures .0) (first .ensures .1))
     (second .ensures .0) (second .ensures .1) in (
-      (λ p hp g hg.
+      (λ χ p hp are g hg.
           let at : ℕ = p * 32 + g / 10 * 10 in
           let own : at + g % 10 ≡ p * 32 + g = omega arith in
           let q : (a .e * 8 + p) / 8 ≡ a .e = omega arith in
@@ -102,7 +97,7 @@ returns c =
           ∙ word-five (picks .last .0) at (g % 10) (omega arith) small
           ∙ ap (byteAt (picks .last .0)) own
           ∙ picks .ensures p g hp hg
-          ∙ choice-same (inRows rows) (byteAt (blockAt chi (a .m) (a .e))) p g (λ i hi. rows-held bytes rows held i (omega (arith, hg, hi)) ∙ padded bytes chi (a .m) (a .e) (copy .ensures .0) (copy .ensures .1) i (omega (arith, hg, hi))))),
+          ∙ choice-same (inRows rows) (upTo (a .m) (χ (a .e))) p g (λ i hi. rows-held bytes rows held i (omega (arith, hg, hi)) ∙ padded bytes chi (χ (a .e)) (a .m) (a .at) are (copy .ensures .0) (copy .ensures .1) i (omega (arith, hg, hi))))),
       put .ensures .1,
     )
 
@@ -111,7 +106,6 @@ fill-repetition-spec =
     tie.close
     (tie.spec
     slice-aggregate-copy-front
-    mul-copy-front
     copy-front-requires
     slice-aggregate-fill-rows
     slice-aggregate-fill-rows-2
