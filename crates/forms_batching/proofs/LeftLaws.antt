@@ -7,31 +7,35 @@ use native.Mathlib.Nat.{zero-mul, mul-assoc}
 use native.Mathlib.Decide.{decLt}
 use native.Mathlib.Omega.{arith}
 use lib.Arith.{digits-div}
-use lib.Bits.{bitXor, xor-comm}
+use lib.Bits.{bitXor, xor-comm, xor-zero-r}
 use lib.Dec.{lit<}
 use Rattle.protocol.specs.Lists.{blockAt}
 use Rattle.strings.specs.Sums.{byteAt, bitOf, xorSum}
 use Rattle.strings.proofs.XorLaws.{xor-assoc}
-use Rattle.strings.proofs.SumLaws.{sum-same, sum-none, sum-short, sum-both, sum-lt, xor-scale}
+use Rattle.strings.proofs.SumLaws.{sum-same, sum-none, sum-short, sum-both, sum-parts, sum-lt, xor-scale}
 use Rattle.strings.proofs.ProductLaws.{bit-times-lt}
 use Rattle.strings.proofs.Meaning.{bitOf-lt}
 use Rattle.chunks.specs.Chunks.{chunk, cellAt}
 use Rattle.chunks.proofs.BitSumLaws.{sum-swap, sum-blocks, bits-lt, times-sum, bit-sum}
 use Rattle.forms_choices.specs.Entries.{IsBytes}
-use Rattle.forms_folds.specs.Folds.{foldedBit, Folded}
+use Rattle.forms_folds.specs.Folds.{foldedBit}
 use Rattle.forms_columns.specs.Stacks.{byteProduct}
 use Rattle.forms_columns.proofs.ProductLaws.{product-zero}
 use Rattle.forms_batching.specs.Batched.{batchedByte, leftSum}
-use Rattle.forms_batching.specs.Lines.{lineBit, leftBit, lineSum, leftOf}
+use Rattle.forms_batching.specs.Lines.{lineByte, lineBit, leftBit, lineSum, leftPart, leftOf, LinesBeside}
 use Rattle.forms_batching.proofs.FormLaws.{product-scale, product-xor}
 use Rattle.forms_batching.proofs.FoldLaws.{folded-bit-lt}
 use Rattle.forms_batching.proofs.StackLaws.{scaled-lt}
 
--- ---- the lines, panel by panel
+-- ---- the lines, part by part
 
 -- bit c of line i has got its sum
-abbrev pub Added : ℕ → ℕ → List ℕ → (ℕ → ℕ) → List ℕ → List ℕ → ℕ → ℕ → Type 0
-Added w size A x L₀ L i c = lineBit L i c ≡ bitXor (lineBit L₀ i c) (leftOf w size A x i c)
+abbrev pub Added : ℕ → ℕ → ℕ → List ℕ → (ℕ → ℕ) → List ℕ → List ℕ → ℕ → ℕ → Type 0
+Added w size m A x L₀ L i c = lineBit L m i c ≡ bitXor (lineBit L₀ m i c) (leftOf w size A x i c)
+
+-- bit c of line i has got the part of its sum that the rows of the first t sixteens are
+abbrev pub AddedUpTo : ℕ → ℕ → ℕ → List ℕ → (ℕ → ℕ) → List ℕ → List ℕ → ℕ → ℕ → ℕ → Type 0
+AddedUpTo w size m A x L₀ L i c t = lineBit L m i c ≡ bitXor (lineBit L₀ m i c) (leftPart w size A x i 0 t c)
 
 -- bits that are 0 add nothing
 pub left-none : (w size : ℕ) (A : List ℕ) (x : ℕ → ℕ) (i c : ℕ) → ((ρ : ℕ) → x ρ ≡ 0) → leftOf w size A x i c ≡ 0
@@ -39,45 +43,81 @@ unfolding leftOf
 left-none w size A x i c none =
     sum-same ((c / 16 + 1) * 16) _ (λ ρ. 0) (λ ρ l. ap (λ v. v * foldedBit w (blockAt A size i) ρ c) (none ρ) ∙ zero-mul (foldedBit w (blockAt A size i) ρ c)) ∙ sum-none ((c / 16 + 1) * 16)
 
-module _ (n w m : ℕ) (A cells : List ℕ) (J : ℕ) (loaded : Folded n w m A J cells) (x : ℕ → ℕ) (none : (ρ : ℕ) → n ≤ ρ → x ρ ≡ 0) where
+module _ (w size : ℕ) (A : List ℕ) (x : ℕ → ℕ) (i : ℕ) where
+  -- two parts, one after the other
+  pub part-parts : (top rows more c : ℕ) → leftPart w size A x i top (rows + more) c ≡ bitXor (leftPart w size A x i top rows c) (leftPart w size A x i (top + rows) more c)
+  unfolding leftPart
+  part-parts top rows more c =
+      let all : (rows + more) * 16 ≡ rows * 16 + more * 16 = omega arith in
+      ap (λ k. xorSum k (λ ρ. x (top * 16 + ρ) * foldedBit w (blockAt A size i) (top * 16 + ρ) c)) all
+      ∙ sum-parts (rows * 16) (more * 16) (λ ρ. x (top * 16 + ρ) * foldedBit w (blockAt A size i) (top * 16 + ρ) c)
+      ∙ ap (bitXor (leftPart w size A x i top rows c)) (sum-same (more * 16) _ _ (λ ρ l.
+      let place : top * 16 + (rows * 16 + ρ) ≡ (top + rows) * 16 + ρ = omega arith in
+      ap (λ k. x k * foldedBit w (blockAt A size i) k c) place))
+
+  -- the parts up to the column's own sixteen are all
+  pub part-all : (c : ℕ) → leftPart w size A x i 0 (c / 16 + 1) c ≡ leftOf w size A x i c
+  unfolding leftPart leftOf
+  part-all c =
+      sum-same ((c / 16 + 1) * 16) _ _ (λ ρ l.
+      let place : 0 * 16 + ρ ≡ ρ = omega arith in
+      ap (λ k. x k * foldedBit w (blockAt A size i) k c) place)
+
+  module _ (m : ℕ) (L₀ : List ℕ) where
+    pub added-start : (c : ℕ) → AddedUpTo w size m A x L₀ L₀ i c 0
+    unfolding leftPart xorSum
+    added-start c = sym (xor-zero-r (lineBit L₀ m i c))
+
+    pub added-end : (L : List ℕ) (c t : ℕ) → t ≡ c / 16 + 1 → AddedUpTo w size m A x L₀ L i c t → Added w size m A x L₀ L i c
+    added-end L c t end added = added ∙ ap (bitXor (lineBit L₀ m i c)) (ap (λ k. leftPart w size A x i 0 k c) end ∙ part-all c)
+
+    -- what is added to a panel leaves the columns of the others
+    pub added-beside : (L L′ : List ℕ) (J c t : ℕ) → i < m → (c / 16 ≡ J → ⊥) → LinesBeside m J L L′ → AddedUpTo w size m A x L₀ L i c t → AddedUpTo w size m A x L₀ L′ i c t
+    added-beside L L′ J c t hi other beside added =
+        let twice : c / 8 / 2 ≡ c / 16 = omega arith in
+        ap (λ b. bitOf b (c % 8)) (beside i (c / 8) hi (λ e. other (sym twice ∙ e))) ∙ added
+
+-- the cells have `rows` sixteens of rows, from the sixteen `top` on, of panel J of m folded matrices of n rows
+abbrev pub PartFolded : ℕ → ℕ → ℕ → List ℕ → ℕ → ℕ → ℕ → List ℕ → Type 0
+PartFolded n w m A J top rows cells =
+    (q i h f z : ℕ) → q < rows → i < m → h < 2 → f < 16 → z < 8 → (top + q) * 16 + f < n → J * 16 + (h * 8 + z) < n
+    → bitOf (byteAt cells ((q * m + i) * chunk + (h * 16 + f))) z ≡ foldedBit w (blockAt A (n * w) i) ((top + q) * 16 + f) (J * 16 + (h * 8 + z))
+
+module _ (n w m : ℕ) (A cells : List ℕ) (J top rows : ℕ) (loaded : PartFolded n w m A J top rows cells) (x : ℕ → ℕ) (none : (ρ : ℕ) → n ≤ ρ → x ρ ≡ 0) where
   -- there are no rows from n on
-  term-is : (i h z ρ : ℕ) → i < m → h < 2 → z < 8 → J * 16 + (h * 8 + z) < n → ρ < (J + 1) * 16
-      → x ρ * bitOf (cellAt cells (ρ / 16 * m + i) (h * 16 + ρ % 16)) z ≡ x ρ * foldedBit w (blockAt A (n * w) i) ρ (J * 16 + (h * 8 + z))
-  term-is i h z ρ hi hh hz col l = go (decLt ρ n)
+  term-is : (i h z ρ : ℕ) → i < m → h < 2 → z < 8 → J * 16 + (h * 8 + z) < n → ρ < rows * 16
+      → x (top * 16 + ρ) * bitOf (cellAt cells (ρ / 16 * m + i) (h * 16 + ρ % 16)) z ≡ x (top * 16 + ρ) * foldedBit w (blockAt A (n * w) i) (top * 16 + ρ) (J * 16 + (h * 8 + z))
+  term-is i h z ρ hi hh hz col l = go (decLt (top * 16 + ρ) n)
     where
-      go : Dec (ρ < n) → x ρ * bitOf (cellAt cells (ρ / 16 * m + i) (h * 16 + ρ % 16)) z ≡ x ρ * foldedBit w (blockAt A (n * w) i) ρ (J * 16 + (h * 8 + z))
+      go : Dec (top * 16 + ρ < n) → x (top * 16 + ρ) * bitOf (cellAt cells (ρ / 16 * m + i) (h * 16 + ρ % 16)) z ≡ x (top * 16 + ρ) * foldedBit w (blockAt A (n * w) i) (top * 16 + ρ) (J * 16 + (h * 8 + z))
       go (yes row) =
-          let e : ρ / 16 * 16 + ρ % 16 ≡ ρ = omega arith in
-          ap (λ y. x ρ * y)
+          let e : (top + ρ / 16) * 16 + ρ % 16 ≡ top * 16 + ρ = omega arith in
+          ap (λ y. x (top * 16 + ρ) * y)
           (loaded (ρ / 16) i h (ρ % 16) z (omega arith) hi hh (omega arith) hz (omega arith) col ∙ ap (λ k. foldedBit w (blockAt A (n * w) i) k (J * 16 + (h * 8 + z))) e)
       go (no past) =
-          let zero : x ρ ≡ 0 = none ρ (omega arith) in
-          rw zero (zero-mul (bitOf (cellAt cells (ρ / 16 * m + i) (h * 16 + ρ % 16)) z) ∙ sym (zero-mul (foldedBit w (blockAt A (n * w) i) ρ (J * 16 + (h * 8 + z)))))
+          let zero : x (top * 16 + ρ) ≡ 0 = none (top * 16 + ρ) (omega arith) in
+          rw zero (zero-mul (bitOf (cellAt cells (ρ / 16 * m + i) (h * 16 + ρ % 16)) z) ∙ sym (zero-mul (foldedBit w (blockAt A (n * w) i) (top * 16 + ρ) (J * 16 + (h * 8 + z)))))
 
-  left-is : (i h z : ℕ) → i < m → h < 2 → z < 8 → J * 16 + (h * 8 + z) < n → leftBit cells m x i J h z ≡ leftOf w (n * w) A x i (J * 16 + (h * 8 + z))
-  unfolding leftBit leftOf
-  left-is i h z hi hh hz col =
-      let inside : h * 8 + z < 16 = omega arith in
-      sum-same ((J + 1) * 16) _ _ (λ ρ l. term-is i h z ρ hi hh hz col l)
-      ∙ ap (λ k. xorSum ((k + 1) * 16) (λ ρ. x ρ * foldedBit w (blockAt A (n * w) i) ρ (J * 16 + (h * 8 + z)))) (sym (digits-div J inside))
+  left-is : (i h z : ℕ) → i < m → h < 2 → z < 8 → J * 16 + (h * 8 + z) < n → leftBit cells m x i top rows h z ≡ leftPart w (n * w) A x i top rows (J * 16 + (h * 8 + z))
+  unfolding leftBit leftPart
+  left-is i h z hi hh hz col = sum-same (rows * 16) _ _ (λ ρ l. term-is i h z ρ hi hh hz col l)
 
-  -- one panel more
-  pub lines-more : n ≤ 160 → (L₀ L L′ : List ℕ)
-      → ((i h z : ℕ) → i < m → h < 2 → z < 8 → bitOf (cellAt L′ i (J * 2 + h)) z ≡ bitXor (bitOf (cellAt L i (J * 2 + h)) z) (leftBit cells m x i J h z))
-      → ((i k : ℕ) → k < chunk → (k / 2 ≡ J → ⊥) → cellAt L′ i k ≡ cellAt L i k)
-      → ((i c : ℕ) → i < m → c < n → c < J * 16 → Added w (n * w) A x L₀ L i c) → ((i k : ℕ) → k < chunk → J * 2 ≤ k → cellAt L i k ≡ cellAt L₀ i k)
-      → (i c : ℕ) → i < m → c < n → c < (J + 1) * 16 → Added w (n * w) A x L₀ L′ i c
-  lines-more most L₀ L L′ here there old rest i c hi hc l = go (decLt c (J * 16))
-    where
-      go : Dec (c < J * 16) → Added w (n * w) A x L₀ L′ i c
-      go (yes less) = ap (λ b. bitOf b (c % 8)) (there i (c / 8) (omega arith) (λ e. omega arith)) ∙ old i c hi hc less
-      go (no past) =
-          let byte : J * 2 + c / 8 % 2 ≡ c / 8 = omega arith in
-          let place : J * 16 + (c / 8 % 2 * 8 + c % 8) ≡ c = omega arith in
-          ap (λ k. bitOf (cellAt L′ i k) (c % 8)) (sym byte)
-          ∙ here i (c / 8 % 2) (c % 8) hi (omega arith) (omega arith)
-          ∙ ap₂ bitXor (ap (λ b. bitOf b (c % 8)) (rest i (J * 2 + c / 8 % 2) (omega arith) (omega arith)) ∙ ap (λ k. bitOf (cellAt L₀ i k) (c % 8)) byte)
-          (left-is i (c / 8 % 2) (c % 8) hi (omega arith) (omega arith) (omega arith) ∙ ap (leftOf w (n * w) A x i) place)
+  -- one part more
+  pub added-more : (L₀ L L′ : List ℕ)
+      → ((i h z : ℕ) → i < m → h < 2 → z < 8 → bitOf (lineByte L′ m i (J * 2 + h)) z ≡ bitXor (bitOf (lineByte L m i (J * 2 + h)) z) (leftBit cells m x i top rows h z))
+      → (i c : ℕ) → i < m → c < n → c / 16 ≡ J → AddedUpTo w (n * w) m A x L₀ L i c top → AddedUpTo w (n * w) m A x L₀ L′ i c (top + rows)
+  added-more L₀ L L′ here i c hi hc own added =
+      let h = c / 8 % 2 in
+      let z = c % 8 in
+      let byte : J * 2 + c / 8 % 2 ≡ c / 8 = omega arith in
+      let place : J * 16 + (c / 8 % 2 * 8 + c % 8) ≡ c = omega arith in
+      let start : 0 + top ≡ top = omega arith in
+      ap (λ k. bitOf (lineByte L′ m i k) z) (sym byte)
+      ∙ here i h z hi (omega arith) (omega arith)
+      ∙ ap₂ bitXor (ap (λ k. bitOf (lineByte L m i k) z) byte ∙ added) (left-is i h z hi (omega arith) (omega arith) (omega arith) ∙ ap (leftPart w (n * w) A x i top rows) place)
+      ∙ xor-assoc (lineBit L₀ m i c) (leftPart w (n * w) A x i 0 top c) (leftPart w (n * w) A x i top rows c)
+      ∙ ap (bitXor (lineBit L₀ m i c))
+      (ap (λ k. bitXor (leftPart w (n * w) A x i 0 top c) (leftPart w (n * w) A x i k rows c)) (sym start) ∙ sym (part-parts w (n * w) A x i 0 top rows c))
 
 -- ---- the lines at the vectors, batched
 
@@ -105,12 +145,12 @@ module _ (w size m : ℕ) (A : List ℕ) (χ : ℕ → ℕ → ℕ) (e : ℕ) (s
       ∙ sym (bit-sum (x ρ) m (λ i. foldedBit w (blockAt A size i) ρ c * χ e i) (bits ρ))
       ∙ sym (product-scale (x ρ) (batchedByte w size m A χ e ρ c) (bits ρ) (batched-lt ρ c)))
 
-  line-added : (L₀ L : List ℕ) (c : ℕ) → ((i : ℕ) → i < m → Added w size A x L₀ L i c) → lineSum L m χ e c ≡ bitXor (lineSum L₀ m χ e c) (leftSum w size m A χ e x (c / 16) c)
+  line-added : (L₀ L : List ℕ) (c : ℕ) → ((i : ℕ) → i < m → Added w size m A x L₀ L i c) → lineSum L m χ e c ≡ bitXor (lineSum L₀ m χ e c) (leftSum w size m A χ e x (c / 16) c)
   unfolding lineSum
   line-added L₀ L c are =
-      sum-same m _ (λ i. bitXor (lineBit L₀ i c * χ e i) (leftOf w size A x i c * χ e i))
-      (λ i l. ap (λ b. b * χ e i) (are i l) ∙ xor-scale (lineBit L₀ i c) (leftOf w size A x i c) (χ e i) (bitOf-lt _ (c % 8)) (left-lt w size A x bits i c))
-      ∙ sum-both m (λ i. lineBit L₀ i c * χ e i) (λ i. leftOf w size A x i c * χ e i)
+      sum-same m _ (λ i. bitXor (lineBit L₀ m i c * χ e i) (leftOf w size A x i c * χ e i))
+      (λ i l. ap (λ b. b * χ e i) (are i l) ∙ xor-scale (lineBit L₀ m i c) (leftOf w size A x i c) (χ e i) (bitOf-lt _ (c % 8)) (left-lt w size A x bits i c))
+      ∙ sum-both m (λ i. lineBit L₀ m i c * χ e i) (λ i. leftOf w size A x i c * χ e i)
       ∙ ap (bitXor (lineSum L₀ m χ e c)) (left-sum c)
 
   module _ (N n : ℕ) (enough : n ≤ N * 16) (y : ℕ → ℕ) (gone : (c : ℕ) → n ≤ c → y c ≡ 0) where
@@ -120,7 +160,7 @@ module _ (w size m : ℕ) (A : List ℕ) (χ : ℕ → ℕ → ℕ) (e : ℕ) (s
         ∙ sym (sum-blocks N 16 (λ c. byteProduct (y c) (leftSum w size m A χ e x (c / 16) c)))
         ∙ sum-same N _ _ (λ J l. sum-same 16 _ _ (λ s k. ap (λ j. byteProduct (y (J * 16 + s)) (leftSum w size m A χ e x j (J * 16 + s))) (digits-div J k)))
 
-    pub lines-added : (L₀ L : List ℕ) → ((i c : ℕ) → i < m → c < n → Added w size A x L₀ L i c)
+    pub lines-added : (L₀ L : List ℕ) → ((i c : ℕ) → i < m → c < n → Added w size m A x L₀ L i c)
         → xorSum n (λ c. byteProduct (y c) (lineSum L m χ e c))
         ≡ bitXor (xorSum n (λ c. byteProduct (y c) (lineSum L₀ m χ e c))) (xorSum N (λ J. xorSum 16 (λ s. byteProduct (y (J * 16 + s)) (leftSum w size m A χ e x J (J * 16 + s)))))
     lines-added L₀ L are =

@@ -37,6 +37,7 @@ use Rattle.lanes.specs.Lanes.{lanes, laneAt}
 use Rattle.chunks.specs.Chunks.{mostBlock, chunk, cellAt}
 use Rattle.forms_choices.specs.Entries.{mostSums, Weighed, IsBytes, ChosenAll, GroupsFor, WordsFit}
 use Rattle.forms_folds.specs.Folds.{entry, foldedBit, Folded}
+use Rattle.forms_batching.specs.Lines.{LinesFit}
 use Rattle.forms_columns.specs.Stacks.{byteProduct, stackOf, columnOf, IsBits}
 
 unfoldable pub cellSum : List ℕ → ℕ → (ℕ → ℕ → ℕ) → ℕ → ℕ → ℕ → ℕ → ℕ
@@ -97,4 +98,4 @@ abbrev pub BatchFits : ℕ → ℕ → ℕ → ℕ → ℕ → List ℕ → List
 BatchFits n w m τ G quad mid lines A W table xs polar =
     (length quad ≡ lanes) × (length mid ≡ lanes) × (length A ≡ m * (n * w)) × (w ≡ bytesFor n) × (n ≤ mostVariables) × (0 < m) × (m ≤ mostBlock) × (0 < τ) × (τ ≤ lanes)
     × GroupsFor m G × WordsFit τ W × (length table ≡ n * lanes) × (length xs ≡ mostVariables) × IsBits xs × ((c : ℕ) → n ≤ c → byteAt xs c ≡ 0)
-    × (polar ≡ false → (c : ℕ) → byteAt xs c ≡ 0) × (m * chunk ≤ length lines)
+    × (polar ≡ false → (c : ℕ) → byteAt xs c ≡ 0) × LinesFit m lines

@@ -1,25 +1,35 @@
--- The lines of the equations, and their batch. A line is the coefficients of a linear form, a bit for each coordinate:
--- those of line i stand in chunk i.
---   lineBit L i c == coefficient c of line i: bit c mod 8 of byte ⌊c/8⌋ of chunk i
---   leftByte cells m bits i J k == byte k of the sum of chunk i of each sixteen up to the J-th, each row under its
---     mask, a byte of bits
---   leftBit cells m x i J h z == Σ_ρ x(ρ)·b_ρ over the rows ρ up to the J-th sixteen, b_ρ bit z of row ρ of byte column
---     h of chunk i of its sixteen
---   lineSum L m χ e c == Σ_i χ(e, i)·lineBit L i c
---   leftOf w size A x i c == Σ_ρ x(ρ)·F_i(ρ, c) over the rows ρ up to the sixteen of c, where F_i is string i of A, of
---     size bytes, in rows of w bytes, folded
---   LeftAdded m J bits cells old new == where the bits are masks of x, leftBit is added to each line at the columns of
---     panel J
---   LinesBeside J old new == the lines are as they were at the other columns
+-- The lines of the equations, and their batch. A line is the coefficients of a linear form, a bit for each coordinate.
+-- The lines of m equations stand in tables of chunks, one chunk for each line: table g has the coordinates from g times
+-- chunkBits on.
+--   chunkBits == the coordinates of a chunk, a bit each
+--   linesTables == so many tables do the lines of as many variables have as a key may have
+--   LinesFit m L == L has room for these tables of m lines
+--   lineByte L m i k == byte k of line i of m: it stands in chunk i of table ⌊k/chunk⌋
+--   lineBit L m i c == coefficient c of line i: bit c mod 8 of its byte ⌊c/8⌋
+--   PartCells m rows cells == the cells have so many sixteens of rows, of m matrices
+--   maskByte == the mask of a bit that is set;  MasksOf x bits == the bytes of bits are the masks of the bits x
+--   leftByte cells m bits i top rows k == byte k of the sum of chunk i of each of so many sixteens of rows, each row
+--     under its mask, a byte of bits: the first row's is byte 16·top
+--   leftBit cells m x i top rows h z == Σ_ρ x(16·top + ρ)·b_ρ over these rows ρ, b_ρ bit z of row ρ of byte column h of
+--     chunk i of its sixteen
+--   lineSum L m χ e c == Σ_i χ(e, i)·lineBit L m i c
+--   leftPart w size A x i top rows c == Σ_ρ x(ρ)·F_i(ρ, c) over the rows ρ of so many sixteens from the sixteen top on,
+--     where F_i is string i of A, of size bytes, in rows of w bytes, folded
+--   leftOf w size A x i c == the same over all rows up to the sixteen of c
+--   LeftAdded m J top rows bits cells old new == where the bits are masks of x, leftBit is added to each line at the
+--     columns of panel J
+--   LinesBeside m J old new == the lines are as they were at the other columns
 --   LinesAdded n w m A x old new == leftOf is added to each of m lines, at its first n coordinates
---   weighedLine S χ m c == Σ_i χ(i)·lineBit S i c
---   lineProduct vs e f == Σ_c f(c)·(coordinate c of vector e of vs)
+--   weighedLine S χ m c == Σ_i χ(i)·(bit c of chunk i of the table S)
+--   lineProduct vs e from count f == Σ_c f(c)·(coordinate from + c of vector e of vs), over so many coordinates
+--   VectorsEnd n τ vs == the vectors of τ repetitions have no coordinates from n on
 --   lineForm n L m χ e y == Σ_c y(c)·lineSum L m χ e c, over n coordinates
 -- Assumes nothing.
 use mathlib.Core.Path.{_≡_}
 use mathlib.Core.List.{List}
-use Prim.Native.Nat.{ℕ, _+_, _*_, _/_, _%_, _<_}
+use Prim.Native.Nat.{ℕ, _+_, _*_, _-_, _/_, _%_, _≤_, _<_}
 use lib.Bits.{bitAnd, bitXor}
+use lib.ListN.{length}
 use Rattle.protocol.specs.Lists.{blockAt}
 use Rattle.protocol.specs.Shape.{mostVariables}
 use Rattle.strings.specs.Sums.{byteAt, bitOf, xorSum}
@@ -27,37 +37,64 @@ use Rattle.chunks.specs.Chunks.{chunk, cellAt}
 use Rattle.forms_folds.specs.Folds.{foldedBit}
 use Rattle.forms_columns.specs.Stacks.{byteProduct}
 
-abbrev pub lineBit : List ℕ → ℕ → ℕ → ℕ
-lineBit L i c = bitOf (cellAt L i (c / 8)) (c % 8)
+abbrev pub chunkBits : ℕ
+chunkBits = 8 * chunk
 
-abbrev pub leftByte : List ℕ → ℕ → List ℕ → ℕ → ℕ → ℕ → ℕ
-leftByte cells m bits i J k = xorSum (J + 1) (λ q. bitAnd (cellAt cells (q * m + i) k) (byteAt bits (q * 16 + k % 16)))
+abbrev pub linesTables : ℕ
+linesTables = (mostVariables + (chunkBits - 1)) / chunkBits
 
-unfoldable pub leftBit : List ℕ → ℕ → (ℕ → ℕ) → ℕ → ℕ → ℕ → ℕ → ℕ
-leftBit cells m x i J h z = xorSum ((J + 1) * 16) (λ ρ. x ρ * bitOf (cellAt cells (ρ / 16 * m + i) (h * 16 + ρ % 16)) z)
+abbrev pub LinesFit : ℕ → List ℕ → Type 0
+LinesFit m L = linesTables * (m * chunk) ≤ length L
+
+abbrev pub lineByte : List ℕ → ℕ → ℕ → ℕ → ℕ
+lineByte L m i k = cellAt L (k / chunk * m + i) (k % chunk)
+
+abbrev pub lineBit : List ℕ → ℕ → ℕ → ℕ → ℕ
+lineBit L m i c = bitOf (lineByte L m i (c / 8)) (c % 8)
+
+abbrev pub PartCells : ℕ → ℕ → List ℕ → Type 0
+PartCells m rows cells = rows * (m * chunk) ≤ length cells
+
+abbrev pub maskByte : ℕ
+maskByte = 255
+
+abbrev pub MasksOf : (ℕ → ℕ) → List ℕ → Type 0
+MasksOf x bits = (c : ℕ) → c < mostVariables → byteAt bits c ≡ x c * maskByte
+
+abbrev pub leftByte : List ℕ → ℕ → List ℕ → ℕ → ℕ → ℕ → ℕ → ℕ
+leftByte cells m bits i top rows k = xorSum rows (λ q. bitAnd (cellAt cells (q * m + i) k) (byteAt bits ((top + q) * 16 + k % 16)))
+
+unfoldable pub leftBit : List ℕ → ℕ → (ℕ → ℕ) → ℕ → ℕ → ℕ → ℕ → ℕ → ℕ
+leftBit cells m x i top rows h z = xorSum (rows * 16) (λ ρ. x (top * 16 + ρ) * bitOf (cellAt cells (ρ / 16 * m + i) (h * 16 + ρ % 16)) z)
 
 unfoldable pub lineSum : List ℕ → ℕ → (ℕ → ℕ → ℕ) → ℕ → ℕ → ℕ
-lineSum L m χ e c = xorSum m (λ i. lineBit L i c * χ e i)
+lineSum L m χ e c = xorSum m (λ i. lineBit L m i c * χ e i)
+
+unfoldable pub leftPart : ℕ → ℕ → List ℕ → (ℕ → ℕ) → ℕ → ℕ → ℕ → ℕ → ℕ
+leftPart w size A x i top rows c = xorSum (rows * 16) (λ ρ. x (top * 16 + ρ) * foldedBit w (blockAt A size i) (top * 16 + ρ) c)
 
 unfoldable pub leftOf : ℕ → ℕ → List ℕ → (ℕ → ℕ) → ℕ → ℕ → ℕ
 leftOf w size A x i c = xorSum ((c / 16 + 1) * 16) (λ ρ. x ρ * foldedBit w (blockAt A size i) ρ c)
 
-abbrev pub LeftAdded : ℕ → ℕ → List ℕ → List ℕ → List ℕ → List ℕ → Type 0
-LeftAdded m J bits cells old new =
-    (x : ℕ → ℕ) (i h z : ℕ) → ((c : ℕ) → x c < 2) → ((c : ℕ) → c < mostVariables → byteAt bits c ≡ x c * 255) → i < m → h < 2 → z < 8
-    → bitOf (cellAt new i (J * 2 + h)) z ≡ bitXor (bitOf (cellAt old i (J * 2 + h)) z) (leftBit cells m x i J h z)
+abbrev pub LeftAdded : ℕ → ℕ → ℕ → ℕ → List ℕ → List ℕ → List ℕ → List ℕ → Type 0
+LeftAdded m J top rows bits cells old new =
+    (x : ℕ → ℕ) (i h z : ℕ) → ((c : ℕ) → x c < 2) → MasksOf x bits → i < m → h < 2 → z < 8
+    → bitOf (lineByte new m i (J * 2 + h)) z ≡ bitXor (bitOf (lineByte old m i (J * 2 + h)) z) (leftBit cells m x i top rows h z)
 
-abbrev pub LinesBeside : ℕ → List ℕ → List ℕ → Type 0
-LinesBeside J old new = (i k : ℕ) → k < chunk → (k / 2 ≡ J → ⊥) → cellAt new i k ≡ cellAt old i k
+abbrev pub LinesBeside : ℕ → ℕ → List ℕ → List ℕ → Type 0
+LinesBeside m J old new = (i k : ℕ) → i < m → (k / 2 ≡ J → ⊥) → lineByte new m i k ≡ lineByte old m i k
 
 abbrev pub LinesAdded : ℕ → ℕ → ℕ → List ℕ → (ℕ → ℕ) → List ℕ → List ℕ → Type 0
-LinesAdded n w m A x old new = (i c : ℕ) → i < m → c < n → lineBit new i c ≡ bitXor (lineBit old i c) (leftOf w (n * w) A x i c)
+LinesAdded n w m A x old new = (i c : ℕ) → i < m → c < n → lineBit new m i c ≡ bitXor (lineBit old m i c) (leftOf w (n * w) A x i c)
 
 abbrev pub weighedLine : List ℕ → (ℕ → ℕ) → ℕ → ℕ → ℕ
-weighedLine S χ m c = xorSum m (λ i. lineBit S i c * χ i)
+weighedLine S χ m c = xorSum m (λ i. bitOf (cellAt S i (c / 8)) (c % 8) * χ i)
 
-abbrev pub lineProduct : List ℕ → ℕ → (ℕ → ℕ) → ℕ
-lineProduct vs e f = xorSum mostVariables (λ c. byteProduct (byteAt vs (e * mostVariables + c)) (f c))
+abbrev pub lineProduct : List ℕ → ℕ → ℕ → ℕ → (ℕ → ℕ) → ℕ
+lineProduct vs e from count f = xorSum count (λ c. byteProduct (byteAt vs (e * mostVariables + (from + c))) (f c))
+
+abbrev pub VectorsEnd : ℕ → ℕ → List ℕ → Type 0
+VectorsEnd n τ vs = (e c : ℕ) → e < τ → n ≤ c → c < mostVariables → byteAt vs (e * mostVariables + c) ≡ 0
 
 abbrev pub lineForm : ℕ → List ℕ → ℕ → (ℕ → ℕ → ℕ) → ℕ → (ℕ → ℕ) → ℕ
 lineForm n L m χ e y = xorSum n (λ c. byteProduct (y c) (lineSum L m χ e c))

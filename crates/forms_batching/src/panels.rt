@@ -14,6 +14,7 @@ ghost use Rattle.forms_columns.specs.Stacks.{StacksFit};
 ghost use Rattle.forms_folds.specs.Folds.{FoldedSet};
 ghost use Rattle.forms_batching.specs.Batched.{formSum, CellsRoom, VectorsFit, PanelCells, SumsRoom, PanelStacked, vectorOf, polarSum, BatchFits};
 ghost use Rattle.forms_batching.specs.Lines.{lineForm, LinesAdded};
+use super::lines::Part;
 use chunks::CHUNK;
 use chunks::MOST_BLOCK;
 use format::sizes::MOST_VARIABLES;
@@ -124,7 +125,13 @@ pub fn add_forms(
     while panel * SIXTEEN < n {
         load(&mut cells, a, n, width, m, panel);
         let held = forms_folds::panel_of(&cells, m, panel);
-        super::lines::add_left(lines, &mut sums, held, m, panel, &bits, polar);
+        let part = Part {
+            m,
+            panel,
+            top: 0,
+            rows: panel + 1,
+        };
+        super::lines::add_left(lines, &mut sums, held, &bits, polar, part);
         stack_panel(
             &mut stacks,
             &mut sums,
@@ -139,5 +146,5 @@ pub fn add_forms(
         forms_columns::finish(quad, mid, &stacks, panel, tau, n, table, xs, polar);
         panel += 1;
     }
-    super::lines::add_lines(mid, &mut sums, lines, m, tau, words, groups, &vectors);
+    super::lines::add_lines(mid, &mut sums, lines, words, &vectors, s);
 }

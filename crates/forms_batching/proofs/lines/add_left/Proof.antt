@@ -11,6 +11,7 @@ use lib.Bits.{bitXor}
 use Rattle.strings.specs.Sums.{bitOf, xorSum}
 use Rattle.strings.proofs.Meaning.{bitOf-xor}
 use Rattle.chunks.specs.Chunks.{cellAt}
+use Rattle.forms_batching.specs.Lines.{lineByte}
 use Rattle.forms_batching.proofs.LineLaws.{half-left-bit}
 use Rattle.forms_batching.proofs.lines.add_left.Statement.{statement}
 use Rattle.forms_batching.proofs.lines.add_left.Tie as tie
@@ -21,7 +22,7 @@ sum-each-requires c κs = search needs
 add-each-requires : tie.Need-add-each-requires
 add-each-requires c κs =
     let pre = c .before .before .before .before .before .before .before .before .before .before .before .pre in
-    (pre .0, omega (arith, pre .5, c .before .before .before .before .sum-each .kept .0), pre .2, pre .3)
+    (pre .0, omega (arith, pre .1, c .before .before .before .before .sum-each .kept .0), pre .4, pre .5)
 
 same-length : tie.Need-same-length
 same-length c = search needs
@@ -37,8 +38,8 @@ returns c =
     let chunk-of : ℕ → ℕ → ℕ = cellAt (summed .last .0) in (
       (λ on x i h z bit masks hi hh hz.
           ap (λ (b : ℕ). bitOf b z) (each .ensures .0 i h hi hh)
-          ∙ bitOf-xor (cellAt (now (a .lines)) i (a .panel * 2 + h)) (xorSum 16 (λ f. chunk-of i (h * 16 + f))) z
-          ∙ ap (bitXor (bitOf (cellAt (now (a .lines)) i (a .panel * 2 + h)) z)) (half-left-bit (now (a .cells)) (now (a .bits)) (chunk-of i) x (a .m) i (a .panel) h z (λ k. c .before .before .before .before .before .before .before .before .before .before .before .shared-slice-known .given k .fits) bit masks (c .before .before .before .before .before .before .before .before .before .before .before .before .before .before .pre .2) hh (λ k. summed .ensures i k hi))),
+          ∙ bitOf-xor (lineByte (now (a .lines)) (a .s .m) i (a .s .panel * 2 + h)) (xorSum 16 (λ f. chunk-of i (h * 16 + f))) z
+          ∙ ap (bitXor (bitOf (lineByte (now (a .lines)) (a .s .m) i (a .s .panel * 2 + h)) z)) (half-left-bit (now (a .cells)) (now (a .bits)) (chunk-of i) x (a .s .m) i (a .s .top) (a .s .rows) h z (λ k. c .before .before .before .before .before .before .before .before .before .before .before .shared-slice-known .given k .fits) bit masks (c .before .before .before .before .before .before .before .before .before .before .before .before .before .before .pre .6) hh (λ k. summed .ensures i k hi))),
       (each .ensures .1, λ off. absurd (true≢false (sym (c .before .before .before .before .before .before .before .before .before .if1 .taken) ∙ off))),
     )
 

@@ -12,24 +12,22 @@ use native.Mathlib.Omega.{arith}
 use lib.ListN.{length, length-set}
 use lib.Seq.{getD-set-same, getD-set-other}
 use lib.Bits.{bitXor}
-use Rattle.strings.specs.Sums.{byteAt, xorSum}
+use Rattle.strings.specs.Sums.{byteAt}
 use Rattle.lanes.specs.Lanes.{lanes}
 use Rattle.forms_choices.specs.Entries.{Weighed}
-use Rattle.forms_columns.specs.Stacks.{byteProduct}
-use Rattle.protocol.specs.Shape.{mostVariables}
-use Rattle.forms_batching.specs.Lines.{lineBit}
+use Rattle.forms_batching.specs.Lines.{weighedLine, lineProduct}
 use Rattle.forms_batching.proofs.lines.add_products.Statement.{statement}
 use Rattle.forms_batching.proofs.lines.add_products.Tie as tie
 
 -- the batched line of repetition e times its vector
-abbrev term : List ℕ → (ℕ → ℕ → ℕ) → ℕ → List ℕ → ℕ → ℕ
-term S χ m vectors e = xorSum mostVariables (λ c. byteProduct (byteAt vectors (e * mostVariables + c)) (xorSum m (λ i. lineBit S i c * χ e i)))
+abbrev term : List ℕ → (ℕ → ℕ → ℕ) → ℕ → List ℕ → ℕ → ℕ → ℕ → ℕ
+term S χ m vectors from count e = lineProduct vectors e from count (weighedLine S (χ e) m)
 
 abbrev Inv-loop : tie.InvT-loop
-Inv-loop mid₀ tau words groups sums vectors e₀ mid e = (e ≤ tau) × (length mid ≡ lanes) × ((S : List ℕ) (χ : ℕ → ℕ → ℕ) (m d : ℕ) → ((q : ℕ) → q < tau → Weighed S (χ q) m sums words groups (q * 8)) → d < e → byteAt mid d ≡ bitXor (byteAt mid₀ d) (term S χ m vectors d)) × ((d : ℕ) → e ≤ d → byteAt mid d ≡ byteAt mid₀ d)
+Inv-loop mid₀ tau words groups sums vectors from count e₀ mid e = (e ≤ tau) × (length mid ≡ lanes) × ((S : List ℕ) (χ : ℕ → ℕ → ℕ) (m d : ℕ) → ((q : ℕ) → q < tau → Weighed S (χ q) m sums words groups (q * 8)) → d < e → byteAt mid d ≡ bitXor (byteAt mid₀ d) (term S χ m vectors from count d)) × ((d : ℕ) → e ≤ d → byteAt mid d ≡ byteAt mid₀ d)
 
 abbrev μ-loop : tie.MeasureT-loop
-μ-loop mid₀ tau words groups sums vectors e₀ mid e = tau - e
+μ-loop mid₀ tau words groups sums vectors from count e₀ mid e = tau - e
 
 loop-holds : tie.Need-loop-holds Inv-loop μ-loop
 loop-holds c = (search needs, c .before .before .before .before .pre .0, (λ S χ m d w h. absurd (omega arith)), λ d h. refl)
@@ -38,7 +36,7 @@ line-product-requires : tie.Need-line-product-requires Inv-loop μ-loop
 line-product-requires c κs =
     let pre = c .before .before .before .before .before .before .pre in
     let lt = c .loop-test .taken in
-    (omega (arith, pre .2, lt), omega (arith, pre .1, lt), pre .3, pre .4, omega (arith, pre .5, lt))
+    (omega (arith, pre .2, lt), omega (arith, pre .1, lt), pre .3, pre .4, omega (arith, pre .5, lt), pre .6, pre .7)
 
 slice-read-mid : tie.Need-slice-read-mid Inv-loop μ-loop
 slice-read-mid c = search needs

@@ -10,7 +10,6 @@ use lib.Bits.{bitXor}
 use Rattle.strings.specs.Sums.{byteAt, xorSum}
 use Rattle.strings.proofs.SumLaws.{sum-more}
 use Rattle.forms_columns.specs.Stacks.{byteProduct}
-use Rattle.protocol.specs.Shape.{mostVariables}
 use Rattle.forms_batching.proofs.lines.dot.Statement.{statement}
 use Rattle.forms_batching.proofs.lines.dot.Tie as tie
 
@@ -18,10 +17,10 @@ abbrev term : List ℕ → List ℕ → ℕ → ℕ
 term f t c = byteProduct (byteAt f c) (byteAt t c)
 
 abbrev Inv-loop : tie.InvT-loop
-Inv-loop f t sum₀ c₀ sum c = (c ≤ mostVariables) × (sum ≡ xorSum c (term f t))
+Inv-loop f t count sum₀ c₀ sum c = (c ≤ count) × (sum ≡ xorSum c (term f t))
 
 abbrev μ-loop : tie.MeasureT-loop
-μ-loop f t sum₀ c₀ sum c = mostVariables - c
+μ-loop f t count sum₀ c₀ sum c = count - c
 
 loop-holds : tie.Need-loop-holds Inv-loop μ-loop
 unfolding xorSum
@@ -52,7 +51,7 @@ loop-again c =
 returns : tie.Need-returns Inv-loop μ-loop
 returns c =
     let l = c .before .loop in
-    let end : l .c ≡ mostVariables = omega arith in
+    let end : l .c ≡ c .before .before .before .before .args .count = omega arith in
     rw end at (l .inv .1)
 
 pub dot-spec : {M : Type 1} → statement M

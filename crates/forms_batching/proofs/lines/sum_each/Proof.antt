@@ -13,10 +13,10 @@ use Rattle.forms_batching.proofs.lines.sum_each.Statement.{statement}
 use Rattle.forms_batching.proofs.lines.sum_each.Tie as tie
 
 abbrev Inv-loop : tie.InvT-loop
-Inv-loop sums₀ cells m panel bits i₀ sums i = (i ≤ m) × (length sums ≡ length sums₀) × RowsAre (λ j. leftByte cells m bits j panel) sums i chunk
+Inv-loop sums₀ cells bits m top rows i₀ sums i = (i ≤ m) × (length sums ≡ length sums₀) × RowsAre (λ j. leftByte cells m bits j top rows) sums i chunk
 
 abbrev μ-loop : tie.MeasureT-loop
-μ-loop sums₀ cells m panel bits i₀ sums i = m - i
+μ-loop sums₀ cells bits m top rows i₀ sums i = m - i
 
 loop-holds : tie.Need-loop-holds Inv-loop μ-loop
 loop-holds c = (search needs, refl, λ j k h. absurd (omega arith))
@@ -37,7 +37,7 @@ loop-again c =
     let done = c .before .before .sum-left in (
       omega arith,
       done .kept .0 ∙ l .inv .1,
-      rows-more (λ j. leftByte (now (a .cells)) (a .m) (now (a .bits)) j (a .panel)) (l .sums) (done .last .0) (l .i) chunk (l .inv .2) (done .ensures .0) (done .ensures .1),
+      rows-more (λ j. leftByte (now (a .cells)) (a .m) (now (a .bits)) j (a .top) (a .rows)) (l .sums) (done .last .0) (l .i) chunk (l .inv .2) (done .ensures .0) (done .ensures .1),
     )
 
 same-length : tie.Need-same-length Inv-loop μ-loop

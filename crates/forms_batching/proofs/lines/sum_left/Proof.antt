@@ -17,22 +17,22 @@ use Rattle.forms_batching.proofs.lines.sum_left.Statement.{statement}
 use Rattle.forms_batching.proofs.lines.sum_left.Tie as tie
 
 -- what the sixteen rows q add to byte k
-abbrev masked : List ℕ → List ℕ → ℕ → ℕ → ℕ → ℕ → ℕ
-masked cells bits m i k q = bitAnd (byteAt cells ((q * m + i) * chunk + k)) (byteAt bits (q * 16 + k % 16))
+abbrev masked : List ℕ → List ℕ → ℕ → ℕ → ℕ → ℕ → ℕ → ℕ
+masked cells bits m top i k q = bitAnd (byteAt cells ((q * m + i) * chunk + k)) (byteAt bits ((top + q) * 16 + k % 16))
 
--- a chunk of a panel, among all
-chunk-end : (q i m J : ℕ) → q < J + 1 → i < m → (q * m + i) * chunk + chunk ≤ (J + 1) * (m * chunk)
-chunk-end q i m J hq hi =
-    let end = row-end q (J + 1) (m * chunk) hq in
+-- a chunk of the rows, among all
+chunk-end : (q i m rows : ℕ) → q < rows → i < m → (q * m + i) * chunk + chunk ≤ rows * (m * chunk)
+chunk-end q i m rows hq hi =
+    let end = row-end q rows (m * chunk) hq in
     let row = row-end i m chunk hi in
     let all : q * m * chunk ≡ q * (m * chunk) = mul-assoc q m chunk in
     omega arith
 
 abbrev Inv-loop : tie.InvT-loop
-Inv-loop sums i cells m panel bits acc₀ q₀ acc q = (q ≤ panel + 1) × (length acc ≡ chunk) × ((k : ℕ) → k < chunk → byteAt acc k ≡ xorSum q (masked cells bits m i k))
+Inv-loop sums i cells bits m top rows acc₀ q₀ acc q = (q ≤ rows) × (length acc ≡ chunk) × ((k : ℕ) → k < chunk → byteAt acc k ≡ xorSum q (masked cells bits m top i k))
 
 abbrev μ-loop : tie.MeasureT-loop
-μ-loop sums i cells m panel bits acc₀ q₀ acc q = panel + 1 - q
+μ-loop sums i cells bits m top rows acc₀ q₀ acc q = rows - q
 
 loop-holds : tie.Need-loop-holds Inv-loop μ-loop
 unfolding xorSum
@@ -42,22 +42,25 @@ mul-add-masked : tie.Need-mul-add-masked Inv-loop μ-loop
 mul-add-masked c =
     let a = c .before .before .before .before .before .before .args in
     let l = c .before .before .loop in
-    let end = chunk-end (l .q) (a .i) (a .m) (a .panel) (omega arith) (omega arith) in
+    let end = chunk-end (l .q) (a .i) (a .m) (a .rows) (omega arith) (omega arith) in
     omega (arith, end)
 
 add-add-masked : tie.Need-add-add-masked Inv-loop μ-loop
 add-add-masked c =
     let a = c .before .before .before .before .before .before .args in
     let l = c .before .before .loop in
-    let end = chunk-end (l .q) (a .i) (a .m) (a .panel) (omega arith) (omega arith) in
+    let end = chunk-end (l .q) (a .i) (a .m) (a .rows) (omega arith) (omega arith) in
     omega (arith, end)
 
 mul-add-masked-2 : tie.Need-mul-add-masked-2 Inv-loop μ-loop
 mul-add-masked-2 c =
     let a = c .before .before .before .before .before .before .args in
     let l = c .before .before .loop in
-    let end = chunk-end (l .q) (a .i) (a .m) (a .panel) (omega arith) (omega arith) in
+    let end = chunk-end (l .q) (a .i) (a .m) (a .rows) (omega arith) (omega arith) in
     omega (arith, end)
+
+add-add-masked-2 : tie.Need-add-add-masked-2 Inv-loop μ-loop
+add-add-masked-2 c = search needs
 
 mul-add-masked-3 : tie.Need-mul-add-masked-3 Inv-loop μ-loop
 mul-add-masked-3 c = search needs
@@ -66,7 +69,7 @@ add-masked-requires : tie.Need-add-masked-requires Inv-loop μ-loop
 add-masked-requires c κs =
     let a = c .before .before .before .before .before .before .args in
     let l = c .before .before .loop in
-    let end = chunk-end (l .q) (a .i) (a .m) (a .panel) (omega arith) (omega arith) in
+    let end = chunk-end (l .q) (a .i) (a .m) (a .rows) (omega arith) (omega arith) in
     (l .inv .1, omega (arith, end, c .before .before .before .before .before .before .pre .2), search needs)
 
 add-q : tie.Need-add-q Inv-loop μ-loop
@@ -82,7 +85,7 @@ loop-again c =
     let done = c .add-masked in (
       omega arith,
       done .ensures .0,
-      (λ k h. done .ensures .1 k h ∙ ap (λ (x : ℕ). bitXor x (masked (now (a .cells)) (now (a .bits)) (a .m) (a .i) k (l .q))) (l .inv .2 k h) ∙ sym (sum-more (l .q) (masked (now (a .cells)) (now (a .bits)) (a .m) (a .i) k))),
+      (λ k h. done .ensures .1 k h ∙ ap (λ (x : ℕ). bitXor x (masked (now (a .cells)) (now (a .bits)) (a .m) (a .top) (a .i) k (l .q))) (l .inv .2 k h) ∙ sym (sum-more (l .q) (masked (now (a .cells)) (now (a .bits)) (a .m) (a .top) (a .i) k))),
     )
 
 slice-aggregate-copy-part : tie.Need-slice-aggregate-copy-part Inv-loop μ-loop
@@ -99,7 +102,7 @@ returns : tie.Need-returns Inv-loop μ-loop
 returns c =
     let l = c .before .before .before .before .before .before .loop in
     let done = c .before .before .copy-part in
-    let end : l .q ≡ c .before .before .before .before .before .before .before .before .before .before .args .panel + 1 = omega arith in
+    let end : l .q ≡ c .before .before .before .before .before .before .before .before .before .before .args .rows = omega arith in
     ((λ k h. rw zero-add at (done .ensures .0 k h) ∙ rw end at (l .inv .2 k h)), done .ensures .1)
 
 pub sum-left-spec : {M : Type 1} → statement M
@@ -112,6 +115,7 @@ sum-left-spec =
     mul-add-masked
     add-add-masked
     mul-add-masked-2
+    add-add-masked-2
     mul-add-masked-3
     add-masked-requires
     add-q

@@ -11,21 +11,20 @@ use native.Mathlib.Omega.{arith}
 use denote.Ref.{now}
 use lib.ListN.{length}
 use lib.Bits.{bitXor, xor-zero-r}
-use Rattle.strings.specs.Sums.{byteAt, xorSum}
-use Rattle.strings.proofs.SumLaws.{sum-same, sum-short, sum-step}
+use Rattle.protocol.specs.Lists.{blockAt}
+use Rattle.strings.specs.Sums.{byteAt, bitOf, xorSum}
+use Rattle.strings.proofs.SumLaws.{sum-same, sum-step}
 use Rattle.lanes.specs.Lanes.{lanes, laneAt}
-use Rattle.chunks.specs.Chunks.{chunk, cellAt}
 use Rattle.forms_choices.specs.Entries.{IsBytes, ChosenAll}
-use Rattle.forms_folds.specs.Folds.{Folded, FoldedSet}
+use Rattle.forms_folds.specs.Folds.{foldedBit, Folded, FoldedSet}
 use Rattle.forms_columns.specs.Stacks.{byteProduct, columnOf}
-use Rattle.forms_columns.proofs.ProductLaws.{product-zero}
 use Rattle.protocol.specs.Shape.{mostVariables}
 use Rattle.forms_batching.specs.Batched.{leftSum}
-use Rattle.forms_batching.specs.Lines.{lineBit, lineSum}
+use Rattle.forms_batching.specs.Lines.{lineByte, lineBit, leftBit, lineSum, LinesBeside}
 use Rattle.forms_batching.proofs.FoldLaws.{form-is, polar-is}
 use Rattle.forms_batching.proofs.StackLaws.{lane-past}
 use Rattle.forms_batching.proofs.PanelLaws.{quad-is, mid-is}
-use Rattle.forms_batching.proofs.LeftLaws.{Added, left-none, lines-more, lines-added, both-halves}
+use Rattle.forms_batching.proofs.LeftLaws.{Added, AddedUpTo, PartFolded, left-none, added-start, added-more, added-beside, added-end, lines-added, both-halves}
 use Rattle.forms_batching.proofs.panels.add_forms.Statement.{statement}
 use Rattle.forms_batching.proofs.panels.add_forms.Tie as tie
 
@@ -44,17 +43,36 @@ same-set J later = go (decLt ((J + 1) % 4) 1)
     go (yes h) = let none : (J + 1) % 4 ≡ 0 = omega arith in absurd (later none)
     go (no h) = omega arith
 
+-- the rows of a panel, as one part
+one-part : (n w m : ℕ) (A cells : List ℕ) (J : ℕ) → Folded n w m A J cells → PartFolded n w m A J 0 (J + 1) cells
+one-part n w m A cells J loaded q i h f z hq hi hh hf hz row col =
+    let same : q * 16 + f ≡ (0 + q) * 16 + f = omega arith in
+    loaded q i h f z (omega arith) hi hh hf hz (omega arith) col ∙ ap (λ k. foldedBit w (blockAt A (n * w) i) k (J * 16 + (h * 8 + z))) same
+
+-- one panel more
+lines-more : (n w m : ℕ) (A cells : List ℕ) (J : ℕ) → Folded n w m A J cells → (x : ℕ → ℕ) → ((ρ : ℕ) → n ≤ ρ → x ρ ≡ 0) → (L₀ L L′ : List ℕ)
+    → ((i h z : ℕ) → i < m → h < 2 → z < 8 → bitOf (lineByte L′ m i (J * 2 + h)) z ≡ bitXor (bitOf (lineByte L m i (J * 2 + h)) z) (leftBit cells m x i 0 (J + 1) h z))
+    → LinesBeside m J L L′ → ((i c : ℕ) → i < m → c < n → c < J * 16 → AddedUpTo w (n * w) m A x L₀ L i c (c / 16 + 1)) → ((i c : ℕ) → i < m → c < n → J * 16 ≤ c → AddedUpTo w (n * w) m A x L₀ L i c 0)
+    → (i c : ℕ) → i < m → c < n → c < (J + 1) * 16 → AddedUpTo w (n * w) m A x L₀ L′ i c (c / 16 + 1)
+lines-more n w m A cells J loaded x none L₀ L L′ here beside old rest i c hi hc l = go (decLt c (J * 16))
+  where
+    go : Dec (c < J * 16) → AddedUpTo w (n * w) m A x L₀ L′ i c (c / 16 + 1)
+    go (yes less) = added-beside w (n * w) A x i m L₀ L L′ J c (c / 16 + 1) hi (λ e. omega arith) beside (old i c hi hc less)
+    go (no past) =
+        let all : 0 + (J + 1) ≡ c / 16 + 1 = omega arith in
+        rw all at (added-more n w m A cells J 0 (J + 1) (one-part n w m A cells J loaded) x none L₀ L L′ here i c hi hc (omega arith) (rest i c hi hc (omega arith)))
+
 -- where the polar form is not asked for, what would be added is 0
-all-added : (asked : Bool) (w size : ℕ) (A xs L₀ L : List ℕ) (i c : ℕ) → (asked ≡ true → Added w size A (byteAt xs) L₀ L i c) → (asked ≡ false → L ≡ L₀) → (asked ≡ false → (k : ℕ) → byteAt xs k ≡ 0) → Added w size A (byteAt xs) L₀ L i c
-all-added true w size A xs L₀ L i c on off none = on refl
-all-added false w size A xs L₀ L i c on off none =
-    ap (λ l. lineBit l i c) (off refl) ∙ sym (ap (bitXor (lineBit L₀ i c)) (left-none w size A (byteAt xs) i c (none refl)) ∙ xor-zero-r _)
+all-added : (asked : Bool) (w size m : ℕ) (A xs L₀ L : List ℕ) (i c : ℕ) → (asked ≡ true → Added w size m A (byteAt xs) L₀ L i c) → (asked ≡ false → L ≡ L₀) → (asked ≡ false → (k : ℕ) → byteAt xs k ≡ 0) → Added w size m A (byteAt xs) L₀ L i c
+all-added true w size m A xs L₀ L i c on off none = on refl
+all-added false w size m A xs L₀ L i c on off none =
+    ap (λ l. lineBit l m i c) (off refl) ∙ sym (ap (bitXor (lineBit L₀ m i c)) (left-none w size A (byteAt xs) i c (none refl)) ∙ xor-zero-r _)
 
 abbrev Inv-loop : tie.InvT-loop
-Inv-loop quad₀ mid₀ lines₀ a words table xs asked n m tau width groups cells₀ sums₀ vectors bits stacks₀ panel₀ quad mid lines cells sums stacks panel = (panel * 16 < n + 16) × (length quad ≡ lanes) × (length mid ≡ lanes) × (length cells ≡ 133120) × (length sums ≡ 32768) × ((e c : ℕ) → e < tau → c < mostVariables → byteAt vectors (e * mostVariables + c) ≡ laneAt table c e) × ((c : ℕ) → c < mostVariables → byteAt bits c ≡ byteAt xs c * 255) × ((χ : ℕ → ℕ → ℕ) (e : ℕ) → IsBytes χ → ChosenAll χ m tau words → e < tau → byteAt quad e ≡ bitXor (byteAt quad₀ e) (xorSum panel (term n width m a table χ e))) × ((χ : ℕ → ℕ → ℕ) (e : ℕ) → IsBytes χ → ChosenAll χ m tau words → e < tau → byteAt mid e ≡ bitXor (byteAt mid₀ e) (xorSum panel (half n width m a table xs χ e))) × (length vectors ≡ 7680) × (length bits ≡ mostVariables) × ((panel % 4 ≡ 0 → ⊥) → FoldedSet n width m a (panel / 4 * 4) cells) × (length stacks ≡ 23040) × (length lines ≡ length lines₀) × (asked ≡ true → (i c : ℕ) → i < m → c < n → c < panel * 16 → Added width (n * width) a (byteAt xs) lines₀ lines i c) × ((i k : ℕ) → k < chunk → panel * 2 ≤ k → cellAt lines i k ≡ cellAt lines₀ i k) × (asked ≡ false → lines ≡ lines₀)
+Inv-loop quad₀ mid₀ lines₀ a words table xs asked s n m tau width groups cells₀ sums₀ vectors bits stacks₀ panel₀ quad mid lines cells sums stacks panel = (panel * 16 < n + 16) × (length quad ≡ lanes) × (length mid ≡ lanes) × (length cells ≡ 133120) × (length sums ≡ 32768) × ((e c : ℕ) → e < tau → c < mostVariables → byteAt vectors (e * mostVariables + c) ≡ laneAt table c e) × ((c : ℕ) → c < mostVariables → byteAt bits c ≡ byteAt xs c * 255) × ((χ : ℕ → ℕ → ℕ) (e : ℕ) → IsBytes χ → ChosenAll χ m tau words → e < tau → byteAt quad e ≡ bitXor (byteAt quad₀ e) (xorSum panel (term n width m a table χ e))) × ((χ : ℕ → ℕ → ℕ) (e : ℕ) → IsBytes χ → ChosenAll χ m tau words → e < tau → byteAt mid e ≡ bitXor (byteAt mid₀ e) (xorSum panel (half n width m a table xs χ e))) × (length vectors ≡ 7680) × (length bits ≡ mostVariables) × ((panel % 4 ≡ 0 → ⊥) → FoldedSet n width m a (panel / 4 * 4) cells) × (length stacks ≡ 23040) × (length lines ≡ length lines₀) × (asked ≡ true → (i c : ℕ) → i < m → c < n → c < panel * 16 → AddedUpTo width (n * width) m a (byteAt xs) lines₀ lines i c (c / 16 + 1)) × (asked ≡ true → (i c : ℕ) → i < m → c < n → panel * 16 ≤ c → AddedUpTo width (n * width) m a (byteAt xs) lines₀ lines i c 0) × (asked ≡ false → lines ≡ lines₀)
 
 abbrev μ-loop : tie.MeasureT-loop
-μ-loop quad₀ mid₀ lines₀ a words table xs asked n m tau width groups cells₀ sums₀ vectors bits stacks₀ panel₀ quad mid lines cells sums stacks panel = n + 16 - panel * 16
+μ-loop quad₀ mid₀ lines₀ a words table xs asked s n m tau width groups cells₀ sums₀ vectors bits stacks₀ panel₀ quad mid lines cells sums stacks panel = n + 16 - panel * 16
 
 slice-aggregate-fill-vectors : tie.Need-slice-aggregate-fill-vectors Inv-loop μ-loop
 slice-aggregate-fill-vectors c = search needs
@@ -78,7 +96,7 @@ loop-holds c =
     let pre = c .before .before .before .before .before .before .before .before .before .before .before .before .before .pre in
     let filled = c .before .before .before .before .fill-vectors in
     let widened = c .before .widen in
-    (omega (arith, pre .5), pre .0, pre .1, refl, refl, filled .ensures, (λ i h. widened .ensures i h), (λ χ e s k l. sym (xor-zero-r _)), (λ χ e s k l. sym (xor-zero-r _)), filled .kept .0, widened .kept .0, (λ later. absurd (later refl)), refl, refl, (λ on i k hi hk l. absurd (omega (arith, l))), (λ i k h l. refl), λ off. refl)
+    (omega (arith, pre .5), pre .0, pre .1, refl, refl, filled .ensures, (λ i h. widened .ensures i h), (λ χ e s k l. sym (xor-zero-r _)), (λ χ e s k l. sym (xor-zero-r _)), filled .kept .0, widened .kept .0, (λ later. absurd (later refl)), refl, refl, (λ on i k hi hk l. absurd (omega (arith, l))), (λ on i k hi hk l. added-start _ _ (now (c .before .before .before .before .before .before .before .before .before .before .before .before .before .args .a)) _ i _ (now (c .before .before .before .before .before .before .before .before .before .before .before .before .before .args .lines)) k), λ off. refl)
 
 mul-loop : tie.Need-mul-loop Inv-loop μ-loop
 mul-loop c = search needs
@@ -99,6 +117,11 @@ panel-of-requires : tie.Need-panel-of-requires Inv-loop μ-loop
 panel-of-requires c κs =
     (omega (arith, c .before .before .before .before .loop-test .taken, c .before .before .before .before .before .before .before .before .before .before .before .before .before .before .before .before .before .before .before .pre .4), c .before .before .before .before .before .before .before .before .before .before .before .before .before .before .before .before .before .before .before .pre .6, omega (arith, c .before .before .before .before .before .before .before .before .before .before .before .before .before .before .before .before .before .before .before .pre .6, c .before .before .load .kept .0, c .before .before .before .before .before .loop .inv .3))
 
+add-t28 : tie.Need-add-t28 Inv-loop μ-loop
+add-t28 c =
+    let few : c .before .before .before .before .before .before .loop .panel ≤ mostVariables = omega (arith, c .before .before .before .before .before .before .before .before .before .before .before .before .before .before .before .before .before .before .before .before .pre .4, c .before .before .before .before .before .loop-test .taken) in
+    search (needs, few)
+
 slice-aggregate-add-left : tie.Need-slice-aggregate-add-left Inv-loop μ-loop
 slice-aggregate-add-left c = search needs
 
@@ -110,8 +133,8 @@ add-left-requires c κs =
     let pre = c .before .before .before .before .before .before .before .before .before .before .before .before .before .before .before .before .before .before .before .before .before .before .before .pre in
     let l = c .before .before .before .before .before .before .before .before .before .loop in
     let there = c .before .before .before .panel-of in
-    let few : l .panel < 10 = omega (arith, pre .4, c .before .before .before .before .before .before .before .before .loop-test .taken) in
-    (omega (arith, pre .16, l .inv .13), omega (arith, there .ensures .0), few, pre .6, l .inv .10, omega (arith, pre .6, l .inv .4))
+    let inside = c .before .before .before .before .before .before .before .before .loop-test .taken in
+    (omega (arith, pre .16, l .inv .13), omega (arith, pre .6, l .inv .4), omega (arith, there .ensures .0), l .inv .10, pre .6, omega (arith, pre .4, inside), omega (arith, pre .4, inside))
 
 slice-aggregate-stack-panel : tie.Need-slice-aggregate-stack-panel Inv-loop μ-loop
 slice-aggregate-stack-panel c = search needs
@@ -183,8 +206,8 @@ loop-again c =
           rw first (load .ensures)),
       stacked .kept .0 ∙ l .inv .12,
       left .kept .0 ∙ l .inv .13,
-      (λ on. lines-more (a .s .n) (a .s .width) (a .s .m) (now (a .a)) (now (there .result)) (l .panel) folded x (pre .14) (pre .4) (now (a .lines)) (l .lines) (left .last .0) (λ i h z hi hh hz. left .ensures .0 on x i h z (pre .13) (l .inv .6) hi hh hz) (left .ensures .1 .0) (l .inv .14 on) (l .inv .15)),
-      (λ i k hk h. left .ensures .1 .0 i k hk (λ e. omega (arith, h, e)) ∙ l .inv .15 i k hk (omega (arith, h))),
+      (λ on. lines-more (a .s .n) (a .s .width) (a .s .m) (now (a .a)) (now (there .result)) (l .panel) folded x (pre .14) (now (a .lines)) (l .lines) (left .last .0) (λ i h z hi hh hz. left .ensures .0 on x i h z (pre .13) (l .inv .6) hi hh hz) (left .ensures .1 .0) (l .inv .14 on) (l .inv .15 on)),
+      (λ on i k hi hk h. added-beside (a .s .width) (a .s .n * a .s .width) (now (a .a)) x i (a .s .m) (now (a .lines)) (l .lines) (left .last .0) (l .panel) k 0 hi (λ e. omega (arith, h, e)) (left .ensures .1 .0) (l .inv .15 on i k hi hk (omega (arith, h)))),
       (λ off. left .ensures .1 .1 off ∙ l .inv .16 off),
     )
 
@@ -198,7 +221,9 @@ add-lines-requires : tie.Need-add-lines-requires Inv-loop μ-loop
 add-lines-requires c κs =
     let pre = c .before .before .before .before .before .before .before .before .before .before .before .before .before .before .before .before .before .before .before .pre in
     let l = c .before .before .before .before .before .loop in
-    (l .inv .2, l .inv .4, omega (arith, pre .16, l .inv .13), pre .5, pre .6, pre .8, pre .9, pre .10, omega (arith, pre .8, l .inv .9))
+    let a = c .before .before .before .before .before .before .before .before .before .before .before .before .before .before .before .before .before .before .before .args in
+    let T = now (a .table) in
+    (l .inv .2, l .inv .4, omega (arith, pre .16, l .inv .13), pre .4, pre .6, pre .8, pre .9, pre .10, omega (arith, pre .8, l .inv .9), λ e k he h inside. l .inv .5 e k he inside ∙ lane-past T (a .s .n) k e (pre .11) h)
 
 same-length : tie.Need-same-length Inv-loop μ-loop
 same-length c = search needs
@@ -220,8 +245,8 @@ returns c =
     let L = now (a .lines) in
     let enough : a .s .n ≤ l .panel * 16 = omega arith in
     let gone : (e k : ℕ) → a .s .n ≤ k → laneAt T k e ≡ 0 = λ e k h. lane-past T (a .s .n) k e (pre .11) h in
-    let added : (i k : ℕ) → i < a .s .m → k < a .s .n → Added (a .s .width) (a .s .n * a .s .width) A x L (l .lines) i k =
-    λ i k hi hk. all-added (a .polar) (a .s .width) (a .s .n * a .s .width) A (now (a .xs)) L (l .lines) i k (λ on. l .inv .14 on i k hi hk (omega (arith, enough, hk))) (l .inv .16) (pre .15) in (
+    let added : (i k : ℕ) → i < a .s .m → k < a .s .n → Added (a .s .width) (a .s .n * a .s .width) (a .s .m) A x L (l .lines) i k =
+    λ i k hi hk. all-added (a .polar) (a .s .width) (a .s .n * a .s .width) (a .s .m) A (now (a .xs)) L (l .lines) i k (λ on. added-end (a .s .width) (a .s .n * a .s .width) A x i (a .s .m) L (l .lines) k (k / 16 + 1) refl (l .inv .14 on i k hi hk (omega (arith, enough, hk)))) (l .inv .16) (pre .15) in (
       (λ χ e small chosen he. l .inv .7 χ e small chosen he ∙ ap (bitXor (byteAt (now (a .quad)) e)) (form-is (l .panel) (a .s .n) (a .s .width) (a .s .m) A χ e enough (λ k. laneAt T k e) (gone e))),
       (
         (λ χ e small chosen he.
@@ -231,8 +256,7 @@ returns c =
             let added-left = xorSum (l .panel) (λ J. xorSum 16 (λ s. byteProduct (y (J * 16 + s)) (leftSum (a .s .width) (a .s .n * a .s .width) (a .s .m) A χ e x J (J * 16 + s)))) in
             c .before .before .before .add-lines .ensures χ e small chosen he
             ∙ ap₂ bitXor (l .inv .8 χ e small chosen he)
-            (sum-same mostVariables _ (λ k. byteProduct (y k) (lineSum (l .lines) (a .s .m) χ e k)) (λ k h. ap (λ (v : ℕ). byteProduct v (lineSum (l .lines) (a .s .m) χ e k)) (l .inv .5 e k he h))
-            ∙ sum-short (a .s .n) mostVariables (λ k. byteProduct (y k) (lineSum (l .lines) (a .s .m) χ e k)) (pre .4) (λ k h b. ap (λ (v : ℕ). byteProduct v (lineSum (l .lines) (a .s .m) χ e k)) (gone e k h) ∙ product-zero _)
+            (sum-same (a .s .n) _ (λ k. byteProduct (y k) (lineSum (l .lines) (a .s .m) χ e k)) (λ k h. ap (λ (v : ℕ). byteProduct v (lineSum (l .lines) (a .s .m) χ e k)) (l .inv .5 e k he (omega (arith, h, pre .4))))
             ∙ lines-added (a .s .width) (a .s .n * a .s .width) (a .s .m) A χ e small x (pre .13) (l .panel) (a .s .n) enough y (gone e) L (l .lines) added)
             ∙ both-halves (byteAt (now (a .mid)) e) given added-left columns
             ∙ ap (λ (v : ℕ). bitXor (bitXor (byteAt (now (a .mid)) e) v) given) (polar-is (l .panel) (a .s .n) (a .s .width) (a .s .m) A χ e enough y (gone e) x (pre .14))),
@@ -256,6 +280,7 @@ add-forms-spec =
     load-requires
     slice-aggregate-panel-of
     panel-of-requires
+    add-t28
     slice-aggregate-add-left
     slice-aggregate-add-left-2
     add-left-requires
