@@ -9,6 +9,7 @@ ghost use Prim.Native.Nat.{ℕ, _+_, _*_, _/_, _%_, _<_, _≤_};
 ghost use lib.ListN.{length};
 ghost use lib.Bits.{bitXor, bitAnd};
 ghost use Rattle.protocol.specs.Shape.{mostVariables};
+ghost use Rattle.field.specs.Degrees.{degree};
 ghost use Rattle.strings.specs.Sums.{byteAt, bitOf, xorSum};
 ghost use Rattle.strings.specs.Rows.{RowsKept};
 ghost use Rattle.lanes.specs.Lanes.{lanes};
@@ -61,15 +62,7 @@ fn add_masked(acc: &mut [u8; CHUNK], cells: &[u8], at: usize, bits: &[u8], from:
 
 // Chunk i of the sums becomes the sum of the chunks of matrix i, in the rows whose bits are set: those of `rows`
 // sixteens, the first of which is the sixteen `top` of the matrix.
-fn sum_left(
-    sums: &mut [u8],
-    i: usize,
-    cells: &[u8],
-    bits: &[u8],
-    m: usize,
-    top: usize,
-    rows: usize,
-)
+fn sum_left(sums: &mut [u8], i: usize, cells: &[u8], bits: &[u8], m: usize, top: usize, rows: usize)
     requires { ⌜ (i < m) × (m * chunk ≤ length (now sums)) × PartCells m rows (now cells) × (length (now bits) ≡ mostVariables) × (m ≤ mostBlock) × ((top + rows) * 16 ≤ mostVariables) ⌝ }
     ensures { λ _. ⌜ ((k : ℕ) → k < chunk → cellAt (now (sums .exit)) i k ≡ leftByte (now (cells .entry)) m (now (bits .entry)) i top rows k) ⌝ }
     ensures { λ _. ⌜ RowsKept chunk i (now (sums .entry)) (now (sums .exit)) ⌝ }
@@ -77,7 +70,13 @@ fn sum_left(
     let mut acc = [0u8; CHUNK];
     let mut q = 0;
     while q < rows {
-        add_masked(&mut acc, cells, (q * m + i) * CHUNK, bits, (top + q) * SIXTEEN);
+        add_masked(
+            &mut acc,
+            cells,
+            (q * m + i) * CHUNK,
+            bits,
+            (top + q) * SIXTEEN,
+        );
         q += 1;
     }
     copy_part(sums, i, CHUNK, &acc, 0);
@@ -124,14 +123,7 @@ pub struct Part {
 
 // Adds to each line a part of a panel of its folded matrix, times the bits from the left, where the polar form is asked
 // for. `cells` holds the part; the bits are lent as masks. `sums` is space.
-pub fn add_left(
-    lines: &mut [u8],
-    sums: &mut [u8],
-    cells: &[u8],
-    bits: &[u8],
-    polar: bool,
-    s: Part,
-)
+pub fn add_left(lines: &mut [u8], sums: &mut [u8], cells: &[u8], bits: &[u8], polar: bool, s: Part)
     requires { ⌜ LinesFit (s .m) (now lines) × (s .m * chunk ≤ length (now sums)) × PartCells (s .m) (s .rows) (now cells) × (length (now bits) ≡ mostVariables)
         × (s .m ≤ mostBlock) × (s .panel * 16 < mostVariables) × ((s .top + s .rows) * 16 ≤ mostVariables) ⌝ }
     ensures { λ _. ⌜ (polar ≡ true → LeftAdded (s .m) (s .panel) (s .top) (s .rows) (now (bits .entry)) (now (cells .entry)) (now (lines .entry)) (now (lines .exit))) ⌝ }
@@ -151,7 +143,7 @@ pub fn add_left(
 // The sum of the products of so many coordinates.
 fn dot(f: &[u8], t: &[u8], count: usize) -> u8
     requires { ⌜ (count ≤ length (now f)) × (count ≤ length (now t)) ⌝ }
-    ensures { λ r. ⌜ r ≡ xorSum count (λ c. byteProduct (byteAt (now (f .entry)) c) (byteAt (now (t .entry)) c)) ⌝ }
+    ensures { λ r. ⌜ r ≡ xorSum count (λ c. byteProduct degree (byteAt (now (f .entry)) c) (byteAt (now (t .entry)) c)) ⌝ }
 {
     let mut sum: u8 = 0;
     let mut c = 0;

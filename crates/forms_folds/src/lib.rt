@@ -22,6 +22,12 @@ use strings::SIXTEEN;
 mod mirrors;
 mod rows;
 
+// The panels of a set.
+pub const PANELS: usize = 4;
+
+// The most sixteens of rows of a piece.
+pub const PIECE_SIXTEENS: usize = 10;
+
 // What is added to the byte columns of a piece.
 const TURNED: usize = COLUMNS * PIECE_ROWS;
 

@@ -6,6 +6,7 @@ ghost use Rattle.strings.specs.Sums.{byteAt, bitOf};
 ghost use Rattle.strings.specs.Rows.{RowsKept};
 ghost use Rattle.forms_folds.specs.Folds.{pieceSixteens, pieceRows, mostPanels, bytesPast};
 ghost use Rattle.forms_folds.specs.Sets.{Mirrored, Reflected, Mirrors, TurnedFits, ColumnFits};
+use super::PIECE_SIXTEENS;
 use chunks::masks::fill_part;
 use chunks::turns::EIGHT_ROWS;
 use chunks::turns::turn_rows;
@@ -13,9 +14,7 @@ use strings::BITS;
 use strings::SIXTEEN;
 use strings::least;
 
-// The most sixteens of rows of a piece, and the most rows. A row of `turned` has a byte for each.
-const PIECE_SIXTEENS: usize = 10;
-
+// The most rows of a piece. A row of `turned` has a byte for each.
 pub const PIECE_ROWS: usize = PIECE_SIXTEENS * SIXTEEN;
 
 // Bytes at, .., at + 127 of row k of `turned`.

@@ -7,6 +7,7 @@ ghost use Rattle.strings.specs.Sums.{byteAt};
 ghost use Rattle.chunks.specs.Chunks.{chunk, cellAt};
 ghost use Rattle.forms_folds.specs.Folds.{before, pieceSixteens, pieceRows, mostPanels, bytesPast};
 ghost use Rattle.forms_folds.specs.Sets.{Parted, summed, chunkPlace, Put, ChunksKept, RowsFit};
+use super::PANELS;
 use super::Piece;
 use super::mirrors::PIECE_ROWS;
 use chunks::CHUNK;
@@ -17,9 +18,6 @@ use chunks::turns::EIGHT_ROWS;
 use chunks::turns::part;
 use strings::BITS;
 use strings::SIXTEEN;
-
-// The panels of a set.
-pub const PANELS: usize = 4;
 
 // The byte columns of a set, two to a panel.
 pub const COLUMNS: usize = 2 * PANELS;
