@@ -16,7 +16,6 @@ use Rattle.strings.proofs.XorLaws.{xor-assoc}
 use Rattle.strings.proofs.SumLaws.{sum-same, sum-lt, sum-none, sum-both}
 use Rattle.strings.proofs.ProductLaws.{bit-times-lt}
 use Rattle.lanes.specs.Lanes.{lanes, laneAt}
-use Rattle.chunks.specs.Chunks.{cellAt}
 use Rattle.chunks.proofs.BitSumLaws.{sum-swap}
 use Rattle.forms_columns.specs.Stacks.{byteProduct}
 use Rattle.forms_columns.proofs.ProductLaws.{product-comm, product-bits}
@@ -28,7 +27,7 @@ use Rattle.equations.specs.Equations.{rowOf, matrixOf}
 use Rattle.equations.proofs.BlockLaws.{bytes-enough}
 use Rattle.equations.proofs.RowLaws.{row-bit}
 use Rattle.forms.specs.Forms.{formByte, rowBit, middleByte}
-use Rattle.forms.specs.Batch.{batchByte}
+use Rattle.forms.specs.Batch.{LinesAre, batchByte}
 
 -- the batching bytes, as a function of repetition and equation
 abbrev pub bytesOf : ℕ → List ℕ → ℕ → ℕ → ℕ
@@ -48,8 +47,8 @@ batch-same m χ e u v same = sum-same m _ _ (λ i l. ap (mulByte gf256 (byteAt �
 -- ---- the lines
 
 -- the bits of the lines, which are the rows of b
-pub line-bit : (n m : ℕ) (b L : List ℕ) → ((i f : ℕ) → i < m → f < bytesFor n → cellAt L i f ≡ byteAt b (i * bytesFor n + f))
-    → (i c : ℕ) → i < m → c < n → lineBit L i c ≡ bit (rowOf n b i) c
+pub line-bit : (n m : ℕ) (b L : List ℕ) → LinesAre m (bytesFor n) b L
+    → (i c : ℕ) → i < m → c < n → lineBit L m i c ≡ bit (rowOf n b i) c
 line-bit n m b L are i c hi hc =
     let covered : c < bytesFor n * 8 = omega (arith, bytes-enough n) in
     let inside : c / 8 < bytesFor n = omega arith in
@@ -70,7 +69,7 @@ module _ (n m e : ℕ) (A T χ : List ℕ) where
   form-is = by-rows (λ c. laneAt T c e) (λ c. laneAt T c e)
 
   -- the batched lines at the vectors, where the lines are the rows of b
-  pub lines-are : (b L : List ℕ) → ((i f : ℕ) → i < m → f < bytesFor n → cellAt L i f ≡ byteAt b (i * bytesFor n + f))
+  pub lines-are : (b L : List ℕ) → LinesAre m (bytesFor n) b L
       → xorSum n (λ c. byteProduct (laneAt T c e) (lineSum L m (bytesOf m χ) e c)) ≡ batchByte m χ e (λ i. selected n (rowOf n b i) T lanes e)
   unfolding byteProduct lineSum
   lines-are b L are =

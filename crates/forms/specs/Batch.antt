@@ -1,5 +1,6 @@
 -- The sums that the batching bytes make of the coefficients of all equations, on bytes, for all repetitions side by
 -- side in a table T.
+--   LinesAre m w b L == the m lines of L are the rows of b, of w bytes each
 --   batchByte m χ e f == Σ_i χ(e, i)·f(i)
 --   qs0Byte, qs1Byte == QS0_e and QS1_e, of the sections A and b, the witness x, and the string u whose bits are the
 --     mask of QS1
@@ -24,7 +25,11 @@ use Rattle.strings.specs.Sums.{byteAt, xorSum}
 use Rattle.lanes.specs.Lanes.{lanes, maskLane, maskBits}
 use Rattle.equations.specs.Equations.{rowOf, matrixOf}
 use Rattle.forms_columns.specs.Stacks.{IsBits}
+use Rattle.forms_batching.specs.Lines.{lineByte}
 use Rattle.forms.specs.Forms.{formByte, middleByte}
+
+abbrev pub LinesAre : ℕ → ℕ → List ℕ → List ℕ → Type 0
+LinesAre m w b L = (i k : ℕ) → i < m → k < w → lineByte L m i k ≡ byteAt b (i * w + k)
 
 abbrev pub batchByte : ℕ → List ℕ → ℕ → (ℕ → ℕ) → ℕ
 batchByte m χ e f = xorSum m (λ i. mulByte gf256 (byteAt χ (e * m + i)) (f i))

@@ -10,43 +10,56 @@ ghost use Rattle.strings.specs.Sums.{byteAt};
 ghost use Rattle.strings.specs.Rows.{RowsKept};
 ghost use Rattle.lanes.specs.Lanes.{lanes, LanesAdded, maskLane, maskBits};
 ghost use Rattle.chunks.specs.Chunks.{chunk, cellAt};
-ghost use Rattle.forms.specs.Batch.{formsByte, middlesByte, qs0Byte, qs1Byte, FormsInputs, BatchInputs};
+ghost use Rattle.forms_batching.specs.Lines.{linesTables, LinesFit};
+ghost use Rattle.forms.specs.Batch.{LinesAre, formsByte, middlesByte, qs0Byte, qs1Byte, FormsInputs, BatchInputs};
 use chunks::CHUNK;
 use field::Gf256;
-use format::sizes::MOST_EQUATIONS;
 use format::sizes::MOST_VARIABLES;
+use forms_batching::lines::LINES;
 use forms_batching::panels::Batch;
 use forms_batching::panels::add_forms;
 use forms_choices::fives::ROW_WORDS;
 use lanes::Dimensions;
 use lanes::LANES;
 use strings::BITS;
+use strings::least;
 
 // The words of the choices: a row for each bit of an element, for each of as many repetitions as a key may have.
 const WORDS: usize = Gf256::DEGREE * LANES * ROW_WORDS;
 
-// The bytes of as many lines as a key may have equations.
-const LINES: usize = MOST_EQUATIONS * CHUNK;
-
-// Line i becomes row i of b, of `width` bytes.
-fn put_line(lines: &mut [u8], i: usize, b: &[u8], width: usize)
-    requires { ⌜ (i * chunk + chunk ≤ length (now lines)) × (i * width + width ≤ length (now b)) × (width ≤ chunk) ⌝ }
-    ensures { λ _. ⌜ ((f : ℕ) → f < width → cellAt (now (lines .exit)) i f ≡ byteAt (now (b .entry)) (i * width + f)) ⌝ }
-    ensures { λ _. ⌜ RowsKept chunk i (now (lines .entry)) (now (lines .exit)) ⌝ }
+// Chunk r of the lines begins with so many bytes of b, from `from` on.
+fn put_chunk(lines: &mut [u8], r: usize, b: &[u8], from: usize, len: usize)
+    requires { ⌜ (r * chunk + chunk ≤ length (now lines)) × (from + len ≤ length (now b)) × (len ≤ chunk) ⌝ }
+    ensures { λ _. ⌜ ((f : ℕ) → f < len → cellAt (now (lines .exit)) r f ≡ byteAt (now (b .entry)) (from + f)) ⌝ }
+    ensures { λ _. ⌜ RowsKept chunk r (now (lines .entry)) (now (lines .exit)) ⌝ }
 {
-    let at = i * CHUNK;
-    chunks::cells::copy_front(&mut lines[at..at + CHUNK], b, i * width, width);
+    let at = r * CHUNK;
+    chunks::cells::copy_front(&mut lines[at..at + CHUNK], b, from, len);
 }
 
-// The same for each of m rows.
-fn put_lines(lines: &mut [u8], b: &[u8], width: usize, m: usize)
-    requires { ⌜ (m * chunk ≤ length (now lines)) × (length (now b) ≡ m * width) × (width ≤ chunk) ⌝ }
-    ensures { λ _. ⌜ ((i f : ℕ) → i < m → f < width → cellAt (now (lines .exit)) i f ≡ byteAt (now (b .entry)) (i * width + f)) ⌝ }
+// Table g of the lines: a chunk of each of the m rows of b, of `width` bytes.
+fn put_table(lines: &mut [u8], g: usize, b: &[u8], width: usize, m: usize)
+    requires { ⌜ ((g * m + m) * chunk ≤ length (now lines)) × (length (now b) ≡ m * width) × (g * chunk ≤ width) ⌝ }
+    ensures { λ _. ⌜ ((i f : ℕ) → i < m → f < chunk → g * chunk + f < width → cellAt (now (lines .exit)) (g * m + i) f ≡ byteAt (now (b .entry)) (i * width + (g * chunk + f))) ⌝ }
+    ensures { λ _. ⌜ ((r f : ℕ) → r < g * m → f < chunk → cellAt (now (lines .exit)) r f ≡ cellAt (now (lines .entry)) r f) ⌝ }
 {
+    let len = least(width - g * CHUNK, CHUNK);
     let mut i = 0;
     while i < m {
-        put_line(lines, i, b, width);
+        put_chunk(lines, g * m + i, b, i * width + g * CHUNK, len);
         i += 1;
+    }
+}
+
+// The m lines become the rows of b, of `width` bytes.
+fn put_lines(lines: &mut [u8], b: &[u8], width: usize, m: usize)
+    requires { ⌜ LinesFit m (now lines) × (length (now b) ≡ m * width) × (width ≤ linesTables * chunk) ⌝ }
+    ensures { λ _. ⌜ LinesAre m width (now (b .entry)) (now (lines .exit)) ⌝ }
+{
+    let mut g = 0;
+    while g * CHUNK < width {
+        put_table(lines, g, b, width, m);
+        g += 1;
     }
 }
 

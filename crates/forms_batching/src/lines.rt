@@ -192,8 +192,8 @@ fn turn_half(elements: &mut [u8], h: usize, planes: &[u8])
     );
 }
 
-// The batched line of repetition e, of which `sums` has a table of chunks, times so many coordinates of its vector, from
-// `from` on.
+// The batched line of repetition e, of which `sums` has a table of chunks, times so many coordinates of its vector,
+// from `from` on.
 fn line_product(
     words: &[u64],
     e: usize,

@@ -1,13 +1,15 @@
 -- The table of the sums of each five rows of a table of chunks, and the entries of it that the bits of bytes choose.
 --   byteValues == the values of a byte;  fives == the fives of the most equations of a block;  mostSums == the bytes of
 --     the longest table of sums: of 32 entries for each of these fives
---   twoSixteens == the bytes of two sixteens of fives, eight rows each
+--   twoSixteens == the bytes of two sixteens of fives, eight rows each;  picksBytes == the bytes of the numbers of all
+--     fives, for each bit of a byte, with room for ten where the last two begin
 --   entryByte S k f == byte f of entry k of the table of sums: of the rows 5·⌊k/32⌋ + s, s < 5, those with bit s of k
 --     mod 32 set
 --   Tabled S sums count == sums holds the first count entries, one after the other
 --   choice χ p g == the number that bit p of each of the bytes χ(5·g), .., χ(5·g + 4) writes, the first lowest
 --   inRows R i == byte i of two sixteens of fives, which R holds in eight rows each: row z has byte z of each five
 --   five w j == five j of the word w: the number that its bits 5·j, .., 5·j + 4 write
+--   threeFives == the weight of the fourth five of a word: three stand below it
 --   fivesWord P at == the word of the ten fives that P has from at on
 --   rowFive W r g == five g of row r of W: a row is four words, of ten fives each, and has 32: the last eight of the
 --     fourth word are not its own
@@ -47,6 +49,9 @@ mostSums = fives * 32 * chunk
 abbrev pub twoSixteens : ℕ
 twoSixteens = 2 * 128
 
+abbrev pub picksBytes : ℕ
+picksBytes = 8 * fives + 8
+
 abbrev pub entryByte : List ℕ → ℕ → ℕ → ℕ
 entryByte S k f = xorSum 5 (λ s. bitOf (k % 32) s * cellAt S (k / 32 * 5 + s) f)
 
@@ -62,9 +67,12 @@ inRows R i = byteAt R (i / 80 * 128 + (i % 5 * 16 + i / 5 % 16))
 unfoldable pub five : ℕ → ℕ → ℕ
 five w j = w / 2 ^ (5 * j) % 32
 
+abbrev pub threeFives : ℕ
+threeFives = 32 * 1024
+
 abbrev pub fivesWord : List ℕ → ℕ → ℕ
 fivesWord P at =
-    byteAt P at + byteAt P (at + 1) * 32 + byteAt P (at + 2) * 1024 + byteAt P (at + 3) * 32768 + (byteAt P (at + 4) + byteAt P (at + 5) * 32 + byteAt P (at + 6) * 1024 + byteAt P (at + 7) * 32768) * 1048576
+    byteAt P at + byteAt P (at + 1) * 32 + byteAt P (at + 2) * 1024 + byteAt P (at + 3) * threeFives + (byteAt P (at + 4) + byteAt P (at + 5) * 32 + byteAt P (at + 6) * 1024 + byteAt P (at + 7) * threeFives) * 1048576
     + (byteAt P (at + 8) + byteAt P (at + 9) * 32) * 1099511627776
 
 abbrev pub rowFive : List ℕ → ℕ → ℕ → ℕ

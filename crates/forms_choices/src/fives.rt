@@ -7,7 +7,7 @@ ghost use lib.ListN.{length};
 ghost use Rattle.strings.specs.Sums.{byteAt};
 ghost use Rattle.strings.specs.Rows.{RowsKept};
 ghost use Rattle.chunks.specs.Chunks.{mostBlock};
-ghost use Rattle.forms_choices.specs.Entries.{fivesWord, Chosen, ChosenAll, WordsFit, GroupsFor};
+ghost use Rattle.forms_choices.specs.Entries.{fives, picksBytes, threeFives, fivesWord, Chosen, ChosenAll, WordsFit, GroupsFor};
 use super::picks::FIVES;
 use super::picks::PICKS;
 use super::picks::SIXTEENS;
@@ -26,17 +26,20 @@ pub const ROW_WORDS: usize = 4;
 // Room for the bytes of the most equations of a block, and for what is taken where the last five begins.
 const BYTES: usize = MOST_BLOCK + TAKEN;
 
+// The weight of the fourth number of a word: three of five bits stand below it.
+const THREE_FIVES: u64 = 32 * 1024;
+
 // Four numbers, five bits to each.
 fn four_at(picks: &[u8], at: usize) -> u64
     requires { ⌜ at + 4 ≤ length (now picks) ⌝ }
     ensures { λ r. ⌜ r ≡ byteAt (now (picks .entry)) at + byteAt (now (picks .entry)) (at + 1) * 32 + byteAt (now (picks .entry)) (at + 2) * 1024 +
-        byteAt (now (picks .entry)) (at + 3) * 32768 ⌝ }
+        byteAt (now (picks .entry)) (at + 3) * threeFives ⌝ }
     ensures { λ r. ⌜ r < 16777216 ⌝ }
 {
     word(picks[at])
         + word(picks[at + 1]) * 32
         + word(picks[at + 2]) * 1024
-        + word(picks[at + 3]) * 32768
+        + word(picks[at + 3]) * THREE_FIVES
 }
 
 // Two numbers.
@@ -66,8 +69,8 @@ fn put(row: &mut [u64], picks: &[u8], at: usize)
 
 // Row r, which is for bit p.
 fn put_row(words: &mut [u64], r: usize, p: usize, picks: &[u8])
-    requires { ⌜ (r * 4 + 4 ≤ length (now words)) × (p < 8) × (length (now picks) ≡ 264) ⌝ }
-    ensures { λ _. ⌜ ((k : ℕ) → k < 4 → byteAt (now (words .exit)) (r * 4 + k) ≡ fivesWord (now (picks .entry)) (p * 32 + k * 10)) ⌝ }
+    requires { ⌜ (r * 4 + 4 ≤ length (now words)) × (p < 8) × (length (now picks) ≡ picksBytes) ⌝ }
+    ensures { λ _. ⌜ ((k : ℕ) → k < 4 → byteAt (now (words .exit)) (r * 4 + k) ≡ fivesWord (now (picks .entry)) (p * fives + k * 10)) ⌝ }
     ensures { λ _. ⌜ RowsKept 4 r (now (words .entry)) (now (words .exit)) ⌝ }
 {
     let at = r * ROW_WORDS;
@@ -76,8 +79,8 @@ fn put_row(words: &mut [u64], r: usize, p: usize, picks: &[u8])
 
 // The eight rows of repetition e.
 fn put_rows(words: &mut [u64], e: usize, picks: &[u8])
-    requires { ⌜ ((e * 8 + 8) * 4 ≤ length (now words)) × (length (now picks) ≡ 264) ⌝ }
-    ensures { λ _. ⌜ ((p k : ℕ) → p < 8 → k < 4 → byteAt (now (words .exit)) ((e * 8 + p) * 4 + k) ≡ fivesWord (now (picks .entry)) (p * 32 + k * 10)) ⌝ }
+    requires { ⌜ ((e * 8 + 8) * 4 ≤ length (now words)) × (length (now picks) ≡ picksBytes) ⌝ }
+    ensures { λ _. ⌜ ((p k : ℕ) → p < 8 → k < 4 → byteAt (now (words .exit)) ((e * 8 + p) * 4 + k) ≡ fivesWord (now (picks .entry)) (p * fives + k * 10)) ⌝ }
     ensures { λ _. ⌜ ((q k : ℕ) → q < e * 8 → k < 4 → byteAt (now (words .exit)) (q * 4 + k) ≡ byteAt (now (words .entry)) (q * 4 + k)) ⌝ }
 {
     let mut p = 0;

@@ -7,7 +7,7 @@ ghost use lib.ListN.{length};
 ghost use Rattle.strings.specs.Sums.{byteAt};
 ghost use Rattle.strings.specs.Rows.{RowsKept};
 ghost use Rattle.chunks.specs.Chunks.{mostBlock};
-ghost use Rattle.forms_choices.specs.Entries.{choice, inRows, twoSixteens};
+ghost use Rattle.forms_choices.specs.Entries.{fives, twoSixteens, picksBytes, choice, inRows};
 use chunks::MOST_BLOCK;
 use chunks::cells::copy_apart;
 use chunks::turns::EIGHT_ROWS;
@@ -52,8 +52,8 @@ fn choose(rows: &[u8], h: usize, g: usize, p: usize) -> u8
 }
 
 fn choose_both(plane: &mut [u8], rows: &[u8], p: usize)
-    requires { ⌜ (length (now plane) ≡ 32) × (length (now rows) ≡ twoSixteens) × (p < 8) ⌝ }
-    ensures { λ _. ⌜ ((g : ℕ) → g < 32 → byteAt (now (plane .exit)) g ≡ choice (inRows (now (rows .entry))) p g) ⌝ }
+    requires { ⌜ (length (now plane) ≡ fives) × (length (now rows) ≡ twoSixteens) × (p < 8) ⌝ }
+    ensures { λ _. ⌜ ((g : ℕ) → g < fives → byteAt (now (plane .exit)) g ≡ choice (inRows (now (rows .entry))) p g) ⌝ }
 {
     let mut g = 0;
     while g < SIXTEEN {
@@ -64,9 +64,9 @@ fn choose_both(plane: &mut [u8], rows: &[u8], p: usize)
 }
 
 fn choose_at(picks: &mut [u8], rows: &[u8], p: usize)
-    requires { ⌜ (length (now picks) ≡ 264) × (length (now rows) ≡ twoSixteens) × (p < 8) ⌝ }
-    ensures { λ _. ⌜ ((g : ℕ) → g < 32 → byteAt (now (picks .exit)) (p * 32 + g) ≡ choice (inRows (now (rows .entry))) p g) ⌝ }
-    ensures { λ _. ⌜ RowsKept 32 p (now (picks .entry)) (now (picks .exit)) ⌝ }
+    requires { ⌜ (length (now picks) ≡ picksBytes) × (length (now rows) ≡ twoSixteens) × (p < 8) ⌝ }
+    ensures { λ _. ⌜ ((g : ℕ) → g < fives → byteAt (now (picks .exit)) (p * fives + g) ≡ choice (inRows (now (rows .entry))) p g) ⌝ }
+    ensures { λ _. ⌜ RowsKept fives p (now (picks .entry)) (now (picks .exit)) ⌝ }
 {
     let at = p * FIVES;
     choose_both(&mut picks[at..at + FIVES], rows, p);
@@ -74,8 +74,8 @@ fn choose_at(picks: &mut [u8], rows: &[u8], p: usize)
 
 // All eight bits, before any is written on, so that they stay in registers.
 pub fn choose_all(picks: &mut [u8], rows: &[u8])
-    requires { ⌜ (length (now picks) ≡ 264) × (length (now rows) ≡ twoSixteens) ⌝ }
-    ensures { λ _. ⌜ ((p g : ℕ) → p < 8 → g < 32 → byteAt (now (picks .exit)) (p * 32 + g) ≡ choice (inRows (now (rows .entry))) p g) ⌝ }
+    requires { ⌜ (length (now picks) ≡ picksBytes) × (length (now rows) ≡ twoSixteens) ⌝ }
+    ensures { λ _. ⌜ ((p g : ℕ) → p < 8 → g < fives → byteAt (now (picks .exit)) (p * fives + g) ≡ choice (inRows (now (rows .entry))) p g) ⌝ }
 {
     let mut p = 0;
     while p < BITS {

@@ -7,7 +7,7 @@ ghost use lib.Bits.{bitXor};
 ghost use Rattle.strings.specs.Sums.{byteAt};
 ghost use Rattle.strings.specs.Rows.{RowsKept};
 ghost use Rattle.chunks.specs.Chunks.{chunk, pair, cellAt};
-ghost use Rattle.forms_choices.specs.Entries.{mostSums, Tabled, five, wordByte, lookedUp, InWords};
+ghost use Rattle.forms_choices.specs.Entries.{fives, mostSums, Tabled, five, wordByte, lookedUp, InWords};
 use super::fives::ROW_WORDS;
 use chunks::CHUNK;
 use chunks::subsets::fill_group;
@@ -55,7 +55,7 @@ pub fn fill_sums(sums: &mut [u8], groups: usize, n: usize, table: &[u8])
 
 // Where the entry stands that five j of a word chooses among the 32 of group g.
 fn entry_place(w: u64, g: usize, j: usize) -> usize
-    requires { ⌜ (j < 10) × (g < 32) ⌝ }
+    requires { ⌜ (j < 10) × (g < fives) ⌝ }
     ensures { λ r. ⌜ (r ≡ (g * 32 + five w j) * chunk) × (five w j < 32) ⌝ }
 {
     (g * ENTRIES + ((w >> (5 * j)) % 32) as usize) * CHUNK
@@ -164,7 +164,7 @@ pub fn add_first(dst: &mut [u8], sums: &[u8])
 
 // Adds the entries that the first n fives of word k choose.
 fn add_word(sum: &mut [u8; CHUNK], w: u64, n: usize, sums: &[u8], k: usize)
-    requires { ⌜ (length (now sum) ≡ chunk) × (n ≤ 10) × (k * 10 + n ≤ 32) × (mostSums ≤ length (now sums)) ⌝ }
+    requires { ⌜ (length (now sum) ≡ chunk) × (n ≤ 10) × (k * 10 + n ≤ fives) × (mostSums ≤ length (now sums)) ⌝ }
     ensures { λ _. ⌜ length (now (sum .exit)) ≡ chunk ⌝ }
     ensures { λ _. ⌜ ((f : ℕ) → f < chunk → byteAt (now (sum .exit)) f ≡ bitXor (byteAt (now (sum .entry)) f) (wordByte (now (sums .entry)) k n w f)) ⌝ }
 {
