@@ -9,7 +9,7 @@ use Rattle.algebra.specs.Ring.{Ring}
 use Rattle.algebra.specs.Field.{Field}
 use Rattle.algebra.specs.Coded.{Coded, mulByte}
 use Rattle.algebra.proofs.RingLaws.{ring}
-use Rattle.field.specs.Gf256.{gf256}
+use Rattle.field.specs.Degrees.{fieldOf, degree}
 use Rattle.strings.specs.Sums.{xorSum}
 use Rattle.strings.proofs.SumLaws.{sum-same}
 use Rattle.forms_columns.specs.Stacks.{byteProduct}
@@ -39,32 +39,32 @@ module _ (C : Coded) where
   coded-lt : (a b : ℕ) → mulByte C a b < base .size
   coded-lt a b = C .byte-lt (elem a ⊗ elem b)
 
-pub product-outer : (a b c : ℕ) → byteProduct a (byteProduct b c) ≡ byteProduct c (byteProduct b a)
-unfolding byteProduct
-product-outer a b c = coded-outer gf256 a b c
+pub product-outer : (a b c : ℕ) → byteProduct degree a (byteProduct degree b c) ≡ byteProduct degree c (byteProduct degree b a)
+unfolding byteProduct fieldOf
+product-outer a b c = coded-outer (fieldOf degree) a b c
 
-pub product-xor : (a u v : ℕ) → byteProduct a (bitXor u v) ≡ bitXor (byteProduct a u) (byteProduct a v)
-unfolding byteProduct
-product-xor a u v = coded-xor gf256 a u v
+pub product-xor : (a u v : ℕ) → byteProduct degree a (bitXor u v) ≡ bitXor (byteProduct degree a u) (byteProduct degree a v)
+unfolding byteProduct fieldOf
+product-xor a u v = coded-xor (fieldOf degree) a u v
 
-pub product-one : (a : ℕ) → a < 256 → byteProduct 1 a ≡ a
-unfolding byteProduct
-product-one a h = coded-one gf256 a h
+pub product-one : (a : ℕ) → a < 256 → byteProduct degree 1 a ≡ a
+unfolding byteProduct fieldOf
+product-one a h = coded-one (fieldOf degree) a h
 
-pub product-lt : (a b : ℕ) → byteProduct a b < 256
-unfolding byteProduct
-product-lt a b = coded-lt gf256 a b
+pub product-lt : (a b : ℕ) → byteProduct degree a b < 256
+unfolding byteProduct fieldOf
+product-lt a b = coded-lt (fieldOf degree) a b
 
 -- a bit, as an element
-pub product-scale : (q a : ℕ) → q < 2 → a < 256 → byteProduct q a ≡ q * a
-product-scale zero a h k = product-comm 0 a ∙ ap (byteProduct a) (sym (zero-mul 0)) ∙ product-bit a 0 0 h ∙ zero-mul (byteProduct a 0) ∙ sym (zero-mul a)
+pub product-scale : (q a : ℕ) → q < 2 → a < 256 → byteProduct degree q a ≡ q * a
+product-scale zero a h k = product-comm degree 0 a ∙ ap (byteProduct degree a) (sym (zero-mul 0)) ∙ product-bit degree a 0 0 h ∙ zero-mul (byteProduct degree a 0) ∙ sym (zero-mul a)
 product-scale (suc zero) a h k = product-one a k ∙ sym (one-mul a)
 product-scale (suc (suc q)) a h k = absurd (omega arith)
 
 -- a bit at each place, and the factors of its row and of the two other indices
 pub product-rows : (n : ℕ) (W : ℕ → ℕ) (x k : ℕ) (f : ℕ → ℕ) (q : ℕ → ℕ → ℕ) → ((ρ j : ℕ) → q ρ j < 2)
-    → byteProduct x (xorSum n (λ ρ. byteProduct (W ρ) (xorSum k (λ j. q ρ j * f j)))) ≡ xorSum n (λ ρ. xorSum k (λ j. q ρ j * byteProduct x (byteProduct (W ρ) (f j))))
+    → byteProduct degree x (xorSum n (λ ρ. byteProduct degree (W ρ) (xorSum k (λ j. q ρ j * f j)))) ≡ xorSum n (λ ρ. xorSum k (λ j. q ρ j * byteProduct degree x (byteProduct degree (W ρ) (f j))))
 product-rows n W x k f q h =
-    product-sum x n (λ ρ. byteProduct (W ρ) (xorSum k (λ j. q ρ j * f j)))
+    product-sum degree x n (λ ρ. byteProduct degree (W ρ) (xorSum k (λ j. q ρ j * f j)))
     ∙ sum-same n _ _ (λ ρ l.
-    ap (byteProduct x) (sym (product-bits (W ρ) k (q ρ) f (h ρ))) ∙ sym (product-bits x k (q ρ) (λ j. byteProduct (W ρ) (f j)) (h ρ)))
+    ap (byteProduct degree x) (sym (product-bits degree (W ρ) k (q ρ) f (h ρ))) ∙ sym (product-bits degree x k (q ρ) (λ j. byteProduct degree (W ρ) (f j)) (h ρ)))

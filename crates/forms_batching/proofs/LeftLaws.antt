@@ -10,6 +10,7 @@ use lib.Arith.{digits-div}
 use lib.Bits.{bitXor, xor-comm, xor-zero-r}
 use lib.Dec.{lit<}
 use Rattle.protocol.specs.Lists.{blockAt}
+use Rattle.field.specs.Degrees.{degree}
 use Rattle.strings.specs.Sums.{byteAt, bitOf, xorSum}
 use Rattle.strings.proofs.XorLaws.{xor-assoc}
 use Rattle.strings.proofs.SumLaws.{sum-same, sum-none, sum-short, sum-both, sum-parts, sum-lt, xor-scale}
@@ -153,21 +154,21 @@ module _ (w size m : ℕ) (A : List ℕ) (χ : ℕ → ℕ → ℕ) (e : ℕ) (s
       ∙ sum-both m (λ i. lineBit L₀ m i c * χ e i) (λ i. leftOf w size A x i c * χ e i)
       ∙ ap (bitXor (lineSum L₀ m χ e c)) (left-sum c)
 
-  module _ (N n : ℕ) (enough : n ≤ N * 16) (y : ℕ → ℕ) (gone : (c : ℕ) → n ≤ c → y c ≡ 0) where
-    by-panels : xorSum n (λ c. byteProduct (y c) (leftSum w size m A χ e x (c / 16) c)) ≡ xorSum N (λ J. xorSum 16 (λ s. byteProduct (y (J * 16 + s)) (leftSum w size m A χ e x J (J * 16 + s))))
+  module _ (N n : ℕ) (enough : n ≤ N * 16) (y : ℕ → ℕ) (gone : (c : ℕ) → n ≤ c → c < N * 16 → y c ≡ 0) where
+    by-panels : xorSum n (λ c. byteProduct degree (y c) (leftSum w size m A χ e x (c / 16) c)) ≡ xorSum N (λ J. xorSum 16 (λ s. byteProduct degree (y (J * 16 + s)) (leftSum w size m A χ e x J (J * 16 + s))))
     by-panels =
-        sym (sum-short n (N * 16) (λ c. byteProduct (y c) (leftSum w size m A χ e x (c / 16) c)) enough (λ c h l. ap (λ v. byteProduct v (leftSum w size m A χ e x (c / 16) c)) (gone c h) ∙ product-zero _))
-        ∙ sym (sum-blocks N 16 (λ c. byteProduct (y c) (leftSum w size m A χ e x (c / 16) c)))
-        ∙ sum-same N _ _ (λ J l. sum-same 16 _ _ (λ s k. ap (λ j. byteProduct (y (J * 16 + s)) (leftSum w size m A χ e x j (J * 16 + s))) (digits-div J k)))
+        sym (sum-short n (N * 16) (λ c. byteProduct degree (y c) (leftSum w size m A χ e x (c / 16) c)) enough (λ c h l. ap (λ v. byteProduct degree v (leftSum w size m A χ e x (c / 16) c)) (gone c h l) ∙ product-zero degree _))
+        ∙ sym (sum-blocks N 16 (λ c. byteProduct degree (y c) (leftSum w size m A χ e x (c / 16) c)))
+        ∙ sum-same N _ _ (λ J l. sum-same 16 _ _ (λ s k. ap (λ j. byteProduct degree (y (J * 16 + s)) (leftSum w size m A χ e x j (J * 16 + s))) (digits-div J k)))
 
     pub lines-added : (L₀ L : List ℕ) → ((i c : ℕ) → i < m → c < n → Added w size m A x L₀ L i c)
-        → xorSum n (λ c. byteProduct (y c) (lineSum L m χ e c))
-        ≡ bitXor (xorSum n (λ c. byteProduct (y c) (lineSum L₀ m χ e c))) (xorSum N (λ J. xorSum 16 (λ s. byteProduct (y (J * 16 + s)) (leftSum w size m A χ e x J (J * 16 + s)))))
+        → xorSum n (λ c. byteProduct degree (y c) (lineSum L m χ e c))
+        ≡ bitXor (xorSum n (λ c. byteProduct degree (y c) (lineSum L₀ m χ e c))) (xorSum N (λ J. xorSum 16 (λ s. byteProduct degree (y (J * 16 + s)) (leftSum w size m A χ e x J (J * 16 + s)))))
     lines-added L₀ L are =
-        sum-same n _ (λ c. bitXor (byteProduct (y c) (lineSum L₀ m χ e c)) (byteProduct (y c) (leftSum w size m A χ e x (c / 16) c)))
-        (λ c l. ap (byteProduct (y c)) (line-added L₀ L c (λ i k. are i c k l)) ∙ product-xor (y c) (lineSum L₀ m χ e c) (leftSum w size m A χ e x (c / 16) c))
-        ∙ sum-both n (λ c. byteProduct (y c) (lineSum L₀ m χ e c)) (λ c. byteProduct (y c) (leftSum w size m A χ e x (c / 16) c))
-        ∙ ap (bitXor (xorSum n (λ c. byteProduct (y c) (lineSum L₀ m χ e c)))) by-panels
+        sum-same n _ (λ c. bitXor (byteProduct degree (y c) (lineSum L₀ m χ e c)) (byteProduct degree (y c) (leftSum w size m A χ e x (c / 16) c)))
+        (λ c l. ap (byteProduct degree (y c)) (line-added L₀ L c (λ i k. are i c k l)) ∙ product-xor (y c) (lineSum L₀ m χ e c) (leftSum w size m A χ e x (c / 16) c))
+        ∙ sum-both n (λ c. byteProduct degree (y c) (lineSum L₀ m χ e c)) (λ c. byteProduct degree (y c) (leftSum w size m A χ e x (c / 16) c))
+        ∙ ap (bitXor (xorSum n (λ c. byteProduct degree (y c) (lineSum L₀ m χ e c)))) by-panels
 
 -- the columns q, and then the lines b with what was added, p
 pub both-halves : (v b p q : ℕ) → bitXor (bitXor v q) (bitXor b p) ≡ bitXor (bitXor v (bitXor p q)) b

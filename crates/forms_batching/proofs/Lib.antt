@@ -4,3 +4,4 @@ pub mod FoldLaws
 pub mod PanelLaws
 pub mod LineLaws
 pub mod LeftLaws
+pub mod PieceLaws

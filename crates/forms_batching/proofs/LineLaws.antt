@@ -13,11 +13,11 @@ use lib.Bits.{bitXor, bitAnd}
 use lib.ListN.{length, set, length-set}
 use lib.Seq.{getD-set-same, getD-set-other}
 use Rattle.protocol.specs.Lists.{blockAt}
+use Rattle.field.specs.Degrees.{fieldOf, degreeOf, degree}
 use Rattle.strings.specs.Sums.{byteAt, bitOf, xorSum}
 use Rattle.strings.proofs.Rows.{row-end, row-byte}
 use Rattle.strings.proofs.SumLaws.{sum-same, sum-short, sum-lt}
 use Rattle.strings.proofs.Meaning.{bitOf-lt, bitOf-sum, bit-times, times-bit}
-use Rattle.field.specs.Gf256.{gf256}
 use Rattle.field.proofs.ProductLaws.{mask-times}
 use Rattle.chunks.specs.Chunks.{chunk, cellAt}
 use Rattle.chunks.proofs.BitSumLaws.{sum-swap, sum-blocks}
@@ -140,17 +140,17 @@ panel-more s m J old L n at y z place hn fits is is′ (done, rest) = (
 
 -- ---- the elements of a batched line
 
-alpha-lt : (p : ℕ) → alpha p < 256
-unfolding alpha
-alpha-lt p = gf256 .byte-lt _
+alpha-lt : (p : ℕ) → alpha degree p < 256
+unfolding alpha fieldOf
+alpha-lt p = fieldOf degree .byte-lt _
 
 -- all planes of a batched bit
 planes-sum : (S : List ℕ) (χ : ℕ → ℕ) (m f z : ℕ) → ((i : ℕ) → i < m → χ i < 256)
-    → xorSum 8 (λ p. bitOf (xorSum m (λ i. bitOf (χ i) p * cellAt S i f)) z * alpha p) ≡ xorSum m (λ i. bitOf (cellAt S i f) z * χ i)
+    → xorSum 8 (λ p. bitOf (xorSum m (λ i. bitOf (χ i) p * cellAt S i f)) z * alpha degree p) ≡ xorSum m (λ i. bitOf (cellAt S i f) z * χ i)
 planes-sum S χ m f z small =
-    sum-same 8 _ (λ p. xorSum m (λ i. bitOf (χ i) p * bitOf (cellAt S i f) z) * byteProduct (alpha p) 1)
+    sum-same 8 _ (λ p. xorSum m (λ i. bitOf (χ i) p * bitOf (cellAt S i f) z) * byteProduct degree (alpha degree p) 1)
     (λ p l. ap₂ _*_ (bitOf-sum m (λ i. bitOf (χ i) p * cellAt S i f) z ∙ sum-same m _ _ (λ i k. bit-times (bitOf (χ i) p) (cellAt S i f) z (bitOf-lt (χ i) p)))
-    (sym (product-comm (alpha p) 1 ∙ product-one (alpha p) (alpha-lt p))))
+    (sym (product-comm degree (alpha degree p) 1 ∙ product-one (alpha degree p) (alpha-lt p))))
     ∙ planes-added m 1 χ (λ i. bitOf (cellAt S i f) z) small (λ i. bitOf-lt (cellAt S i f) z)
     ∙ product-one _ (sum-lt 8 m _ (omega arith) (λ i l. scaled-lt (bitOf (cellAt S i f) z) (χ i) (bitOf-lt (cellAt S i f) z) (small i l)))
 
@@ -158,11 +158,12 @@ planes-sum S χ m f z small =
 pub element-is : (S : List ℕ) (χ : ℕ → ℕ) (m : ℕ) (sums W : List ℕ) (G r : ℕ) (planes : List ℕ) (v c : ℕ) → Weighed S χ m sums W G r → v < 256 → c < chunkBits
     → ((p f : ℕ) → p < 8 → f < chunk → cellAt planes p f ≡ lookedUp sums W (r + p) G f)
     → ((p : ℕ) → p < 8 → bitOf v p ≡ bitOf (cellAt planes p (c / 8)) (c % 8)) → v ≡ weighedLine S χ m c
+unfolding degreeOf fieldOf
 element-is S χ m sums W G r planes v c weighed small hc are bits =
     let inside : c / 8 < chunk = omega arith in
-    sym (byte-bits v small)
-    ∙ sum-same 8 _ (λ p. bitOf (xorSum m (λ i. bitOf (χ i) p * cellAt S i (c / 8))) (c % 8) * alpha p)
-    (λ p l. ap (λ x. x * alpha p) (bits p l ∙ ap (λ x. bitOf x (c % 8)) (are p (c / 8) l inside ∙ chosen-sum S χ m sums W G r p (c / 8) weighed l inside)))
+    sym (byte-bits degree v small)
+    ∙ sum-same 8 _ (λ p. bitOf (xorSum m (λ i. bitOf (χ i) p * cellAt S i (c / 8))) (c % 8) * alpha degree p)
+    (λ p l. ap (λ x. x * alpha degree p) (bits p l ∙ ap (λ x. bitOf x (c % 8)) (are p (c / 8) l inside ∙ chosen-sum S χ m sums W G r p (c / 8) weighed l inside)))
     ∙ planes-sum S χ m (c / 8) (c % 8) (weighed .3)
 
 -- the words of a repetition, among those of all

@@ -1,6 +1,6 @@
 -- What the stacks of a panel come to: the sums over the rows of the batched matrix, folded.
 -- Assumes nothing.
-use mathlib.Core.Path.{_≡_, refl, sym, ap, _∙_}
+use mathlib.Core.Path.{_≡_, refl, sym, ap, ap₂, _∙_}
 use mathlib.Core.Bool.{Bool, true, false}
 use mathlib.Core.List.{List}
 use Prim.Native.Nat.{ℕ, _+_, _*_, _/_, _%_, _≤_, _<_}
@@ -8,82 +8,141 @@ use native.Mathlib.Nat.{zero-mul}
 use native.Mathlib.Decide.{decLt}
 use native.Mathlib.Omega.{arith}
 use lib.Bits.{bitXor, xor-zero-r}
+use Rattle.field.specs.Degrees.{degree}
 use Rattle.strings.specs.Sums.{byteAt, xorSum}
-use Rattle.strings.proofs.SumLaws.{sum-same, sum-none, sum-lt}
+use Rattle.strings.proofs.SumLaws.{sum-same, sum-none, sum-lt, sum-parts, sum-both}
 use Rattle.chunks.proofs.BitSumLaws.{sum-swap, sum-blocks}
 use Rattle.forms_folds.specs.Folds.{Folded}
 use Rattle.forms_columns.specs.Stacks.{byteProduct, stackOf, foldOf}
-use Rattle.forms_columns.proofs.ProductLaws.{product-zero}
-use Rattle.forms_batching.specs.Batched.{cellSum, batchedByte, leftSum}
-use Rattle.forms_batching.proofs.FormLaws.{product-scale, product-lt}
+use Rattle.forms_columns.proofs.ProductLaws.{product-comm, product-zero}
+use Rattle.forms_batching.specs.Batched.{cellSum, batchedByte, rowsSum, leftSum}
+use Rattle.forms_batching.proofs.FormLaws.{product-scale, product-lt, product-xor}
 
 -- bits that are 0 give nothing
-no-polar : (J : ℕ) (x L : ℕ → ℕ) → ((c : ℕ) → x c ≡ 0) → xorSum 16 (λ s. byteProduct (x (J * 16 + s)) (L (J * 16 + s))) ≡ 0
-no-polar J x L none = sum-same 16 _ (λ s. 0) (λ s l. ap (λ v. byteProduct v (L (J * 16 + s))) (none (J * 16 + s)) ∙ product-zero _) ∙ sum-none 16
+no-polar : (J : ℕ) (x L : ℕ → ℕ) → ((c : ℕ) → x c ≡ 0) → xorSum 16 (λ s. byteProduct degree (x (J * 16 + s)) (L (J * 16 + s))) ≡ 0
+no-polar J x L none = sum-same 16 _ (λ s. 0) (λ s l. ap (λ v. byteProduct degree v (L (J * 16 + s))) (none (J * 16 + s)) ∙ product-zero degree _) ∙ sum-none 16
 
-module _ (n w m : ℕ) (A : List ℕ) (χ : ℕ → ℕ → ℕ) (cells : List ℕ) (e J : ℕ) (loaded : Folded n w m A J cells) where
-  cell-is : (q h f z : ℕ) → q ≤ J → h < 2 → f < 16 → z < 8 → q * 16 + f < n → J * 16 + (h * 8 + z) < n → cellSum cells m χ e q (h * 16 + f) z ≡ batchedByte w (n * w) m A χ e (q * 16 + f) (J * 16 + (h * 8 + z))
+-- ---- what the cells of a part of a panel come to
+
+module _ (n w m : ℕ) (A : List ℕ) (χ : ℕ → ℕ → ℕ) (cells : List ℕ) (e top J count rows : ℕ)
+    (loaded : Folded n w m A top J count cells) (held : rows ≤ count) (above : rows ≤ J + 1) where
+  cell-is : (q h f z : ℕ) → q < rows → h < 2 → f < 16 → z < 8 → (top + q) * 16 + f < n → (top + J) * 16 + (h * 8 + z) < n
+      → cellSum cells m χ e q (h * 16 + f) z ≡ batchedByte w (n * w) m A χ e ((top + q) * 16 + f) ((top + J) * 16 + (h * 8 + z))
   unfolding cellSum batchedByte
-  cell-is q h f z hq hh hf hz row col = sum-same m _ _ (λ i l. ap (λ x. x * χ e i) (loaded q i h f z hq l hh hf hz row col))
+  cell-is q h f z hq hh hf hz row col = sum-same m _ _ (λ i l. ap (λ x. x * χ e i) (loaded q i h f z (omega arith) (omega arith) l hh hf hz row col))
 
-  module _ (W : ℕ → ℕ) (none : (ρ : ℕ) → n ≤ ρ → W ρ ≡ 0) where
+  module _ (W : ℕ → ℕ) (none : (ρ : ℕ) → n ≤ ρ → ρ < (top + rows) * 16 → W ρ ≡ 0) where
     -- there are no rows from n on
-    term-is : (q h f z : ℕ) → q ≤ J → h < 2 → f < 16 → z < 8 → J * 16 + (h * 8 + z) < n
-        → byteProduct (W (q * 16 + f)) (cellSum cells m χ e q (h * 16 + f) z) ≡ byteProduct (W (q * 16 + f)) (batchedByte w (n * w) m A χ e (q * 16 + f) (J * 16 + (h * 8 + z)))
-    term-is q h f z hq hh hf hz col = go (decLt (q * 16 + f) n)
+    term-is : (q h f z : ℕ) → q < rows → h < 2 → f < 16 → z < 8 → (top + J) * 16 + (h * 8 + z) < n
+        → byteProduct degree (W ((top + q) * 16 + f)) (cellSum cells m χ e q (h * 16 + f) z)
+        ≡ byteProduct degree (W ((top + q) * 16 + f)) (batchedByte w (n * w) m A χ e ((top + q) * 16 + f) ((top + J) * 16 + (h * 8 + z)))
+    term-is q h f z hq hh hf hz col = go (decLt ((top + q) * 16 + f) n)
       where
-        go : Dec (q * 16 + f < n) → byteProduct (W (q * 16 + f)) (cellSum cells m χ e q (h * 16 + f) z) ≡ byteProduct (W (q * 16 + f)) (batchedByte w (n * w) m A χ e (q * 16 + f) (J * 16 + (h * 8 + z)))
-        go (yes row) = ap (byteProduct (W (q * 16 + f))) (cell-is q h f z hq hh hf hz row col)
+        go : Dec ((top + q) * 16 + f < n) → byteProduct degree (W ((top + q) * 16 + f)) (cellSum cells m χ e q (h * 16 + f) z)
+            ≡ byteProduct degree (W ((top + q) * 16 + f)) (batchedByte w (n * w) m A χ e ((top + q) * 16 + f) ((top + J) * 16 + (h * 8 + z)))
+        go (yes row) = ap (byteProduct degree (W ((top + q) * 16 + f))) (cell-is q h f z hq hh hf hz row col)
         go (no past) =
-            let zero : W (q * 16 + f) ≡ 0 = none (q * 16 + f) (omega arith) in
-            rw zero (product-zero (cellSum cells m χ e q (h * 16 + f) z) ∙ sym (product-zero (batchedByte w (n * w) m A χ e (q * 16 + f) (J * 16 + (h * 8 + z)))))
+            let zero : W ((top + q) * 16 + f) ≡ 0 = none ((top + q) * 16 + f) (omega arith) (omega arith) in
+            rw zero (product-zero degree (cellSum cells m χ e q (h * 16 + f) z) ∙ sym (product-zero degree (batchedByte w (n * w) m A χ e ((top + q) * 16 + f) ((top + J) * 16 + (h * 8 + z)))))
 
     -- the sum over the sixteen bytes of a half
-    pub fold-is : (T : List ℕ) (s : ℕ) → s < 16 → J * 16 + s < n
-        → ((f : ℕ) → f < 16 → stackOf T e (s / 8 * 16 + f) (s % 8) ≡ xorSum (J + 1) (λ q. byteProduct (W (q * 16 + f)) (cellSum cells m χ e q (s / 8 * 16 + f) (s % 8))))
-        → foldOf T e (s / 8) (s % 8) ≡ leftSum w (n * w) m A χ e W J (J * 16 + s)
+    pub fold-is : (T : List ℕ) (s : ℕ) → s < 16 → (top + J) * 16 + s < n
+        → ((f : ℕ) → f < 16
+        → stackOf degree T e (s / 8 * 16 + f) (s % 8) ≡ xorSum rows (λ q. byteProduct degree (W ((top + q) * 16 + f)) (cellSum cells m χ e q (s / 8 * 16 + f) (s % 8))))
+        → foldOf degree T e (s / 8) (s % 8) ≡ rowsSum w (n * w) m A χ e W top rows ((top + J) * 16 + s)
     unfolding foldOf
     fold-is T s hs col are =
-        let place : J * 16 + (s / 8 * 8 + s % 8) ≡ J * 16 + s = omega arith in
-        sum-same 16 _ (λ f. xorSum (J + 1) (λ q. byteProduct (W (q * 16 + f)) (batchedByte w (n * w) m A χ e (q * 16 + f) (J * 16 + s))))
-        (λ f hf. are f hf ∙ sum-same (J + 1) _ _ (λ q hq.
-        term-is q (s / 8) f (s % 8) (omega arith) (omega arith) hf (omega arith) (omega arith)
-        ∙ ap (λ c. byteProduct (W (q * 16 + f)) (batchedByte w (n * w) m A χ e (q * 16 + f) c)) place))
-        ∙ sum-swap 16 (J + 1) (λ f q. byteProduct (W (q * 16 + f)) (batchedByte w (n * w) m A χ e (q * 16 + f) (J * 16 + s)))
-        ∙ sum-blocks (J + 1) 16 (λ ρ. byteProduct (W ρ) (batchedByte w (n * w) m A χ e ρ (J * 16 + s)))
+        let place : (top + J) * 16 + (s / 8 * 8 + s % 8) ≡ (top + J) * 16 + s = omega arith in
+        sum-same 16 _ (λ f. xorSum rows (λ q. byteProduct degree (W (top * 16 + (q * 16 + f))) (batchedByte w (n * w) m A χ e (top * 16 + (q * 16 + f)) ((top + J) * 16 + s))))
+        (λ f hf. are f hf ∙ sum-same rows _ _ (λ q hq.
+        let row : (top + q) * 16 + f ≡ top * 16 + (q * 16 + f) = omega arith in
+        term-is q (s / 8) f (s % 8) hq (omega arith) hf (omega arith) (omega arith)
+        ∙ ap₂ (λ ρ c. byteProduct degree (W ρ) (batchedByte w (n * w) m A χ e ρ c)) row place))
+        ∙ sum-swap 16 rows (λ f q. byteProduct degree (W (top * 16 + (q * 16 + f))) (batchedByte w (n * w) m A χ e (top * 16 + (q * 16 + f)) ((top + J) * 16 + s)))
+        ∙ sum-blocks rows 16 (λ ρ. byteProduct degree (W (top * 16 + ρ)) (batchedByte w (n * w) m A χ e (top * 16 + ρ) ((top + J) * 16 + s)))
 
-    pub left-lt : (c : ℕ) → leftSum w (n * w) m A χ e W J c < 256
-    left-lt c = sum-lt 8 ((J + 1) * 16) _ (omega arith) (λ ρ l. product-lt (W ρ) (batchedByte w (n * w) m A χ e ρ c))
+-- ---- what the columns of a part give, panel J of the whole matrix: to the form, and to half of the polar form
 
+-- what the part of panel J that begins at the sixteen `top` gives at y, with W from the left
+abbrev pub partTerm : ℕ → ℕ → ℕ → List ℕ → (ℕ → ℕ → ℕ) → ℕ → (ℕ → ℕ) → (ℕ → ℕ) → ℕ → ℕ → ℕ → ℕ
+partTerm n w m A χ e y W top rows J = xorSum 16 (λ s. byteProduct degree (y (J * 16 + s)) (rowsSum w (n * w) m A χ e W top rows (J * 16 + s)))
+
+module _ (n w m : ℕ) (A : List ℕ) (χ : ℕ → ℕ → ℕ) (e : ℕ) where
+  rows-lt : (W : ℕ → ℕ) (top rows c : ℕ) → rowsSum w (n * w) m A χ e W top rows c < 256
+  rows-lt W top rows c = sum-lt 8 (rows * 16) _ (omega arith) (λ ρ l. product-lt (W (top * 16 + ρ)) (batchedByte w (n * w) m A χ e (top * 16 + ρ) c))
+
+  -- two parts, one below the other
+  pub rows-parts : (W : ℕ → ℕ) (rows more c : ℕ)
+      → rowsSum w (n * w) m A χ e W 0 (rows + more) c ≡ bitXor (rowsSum w (n * w) m A χ e W 0 rows c) (rowsSum w (n * w) m A χ e W rows more c)
+  rows-parts W rows more c =
+      let all : (rows + more) * 16 ≡ rows * 16 + more * 16 = omega arith in
+      ap (λ k. xorSum k (λ ρ. byteProduct degree (W (0 * 16 + ρ)) (batchedByte w (n * w) m A χ e (0 * 16 + ρ) c))) all
+      ∙ sum-parts (rows * 16) (more * 16) (λ ρ. byteProduct degree (W (0 * 16 + ρ)) (batchedByte w (n * w) m A χ e (0 * 16 + ρ) c))
+      ∙ ap (bitXor (rowsSum w (n * w) m A χ e W 0 rows c)) (sum-same (more * 16) _ _ (λ ρ l.
+      let place : 0 * 16 + (rows * 16 + ρ) ≡ rows * 16 + ρ = omega arith in
+      ap (λ k. byteProduct degree (W k) (batchedByte w (n * w) m A χ e k c)) place))
+
+  pub rows-all : (W : ℕ → ℕ) (J c : ℕ) → rowsSum w (n * w) m A χ e W 0 (J + 1) c ≡ leftSum w (n * w) m A χ e W J c
+  rows-all W J c =
+      sum-same ((J + 1) * 16) _ _ (λ ρ l.
+      let place : 0 * 16 + ρ ≡ ρ = omega arith in
+      ap (λ k. byteProduct degree (W k) (batchedByte w (n * w) m A χ e k c)) place)
+
+  pub term-parts : (y W : ℕ → ℕ) (rows more J : ℕ)
+      → partTerm n w m A χ e y W 0 (rows + more) J ≡ bitXor (partTerm n w m A χ e y W 0 rows J) (partTerm n w m A χ e y W rows more J)
+  term-parts y W rows more J =
+      sum-same 16 _ _ (λ s l.
+      ap (byteProduct degree (y (J * 16 + s))) (rows-parts W rows more (J * 16 + s))
+      ∙ product-xor (y (J * 16 + s)) (rowsSum w (n * w) m A χ e W 0 rows (J * 16 + s)) (rowsSum w (n * w) m A χ e W rows more (J * 16 + s)))
+      ∙ sum-both 16 (λ s. byteProduct degree (y (J * 16 + s)) (rowsSum w (n * w) m A χ e W 0 rows (J * 16 + s)))
+      (λ s. byteProduct degree (y (J * 16 + s)) (rowsSum w (n * w) m A χ e W rows more (J * 16 + s)))
+
+  pub term-none : (y W : ℕ → ℕ) (J : ℕ) → partTerm n w m A χ e y W 0 0 J ≡ 0
+  unfolding xorSum
+  term-none y W J = sum-same 16 _ (λ s. 0) (λ s l. product-comm degree (y (J * 16 + s)) 0 ∙ product-zero degree (y (J * 16 + s))) ∙ sum-none 16
+
+  module _ (W : ℕ → ℕ) (top rows J : ℕ) (F : ℕ → ℕ) (is : (s : ℕ) → s < 16 → J * 16 + s < n → F s ≡ rowsSum w (n * w) m A χ e W top rows (J * 16 + s)) where
     -- there are no columns from n on either
-    pub column-is : (y F c : ℕ) → (n ≤ c → y ≡ 0) → (c < n → F ≡ leftSum w (n * w) m A χ e W J c) → byteProduct y F ≡ byteProduct y (leftSum w (n * w) m A χ e W J c)
-    column-is y F c gone is = go (decLt c n)
+    column-is : (y s : ℕ) → s < 16 → (n ≤ J * 16 + s → y ≡ 0) → byteProduct degree y (F s) ≡ byteProduct degree y (rowsSum w (n * w) m A χ e W top rows (J * 16 + s))
+    column-is y s hs gone = go (decLt (J * 16 + s) n)
       where
-        go : Dec (c < n) → byteProduct y F ≡ byteProduct y (leftSum w (n * w) m A χ e W J c)
-        go (yes col) = ap (byteProduct y) (is col)
+        go : Dec (J * 16 + s < n) → byteProduct degree y (F s) ≡ byteProduct degree y (rowsSum w (n * w) m A χ e W top rows (J * 16 + s))
+        go (yes col) = ap (byteProduct degree y) (is s hs col)
         go (no past) =
             let zero : y ≡ 0 = gone (omega arith) in
-            rw zero (product-zero F ∙ sym (product-zero (leftSum w (n * w) m A χ e W J c)))
+            rw zero (product-zero degree (F s) ∙ sym (product-zero degree (rowsSum w (n * w) m A χ e W top rows (J * 16 + s))))
 
-    pub bit-column-is : (q F c : ℕ) → q < 2 → (n ≤ c → q ≡ 0) → (c < n → F ≡ leftSum w (n * w) m A χ e W J c) → q * F ≡ byteProduct q (leftSum w (n * w) m A χ e W J c)
-    bit-column-is q F c hq gone is = go (decLt c n)
+    bit-column-is : (q s : ℕ) → s < 16 → q < 2 → (n ≤ J * 16 + s → q ≡ 0) → q * F s ≡ byteProduct degree q (rowsSum w (n * w) m A χ e W top rows (J * 16 + s))
+    bit-column-is q s hs hq gone = go (decLt (J * 16 + s) n)
       where
-        go : Dec (c < n) → q * F ≡ byteProduct q (leftSum w (n * w) m A χ e W J c)
-        go (yes col) = ap (λ x. q * x) (is col) ∙ sym (product-scale q (leftSum w (n * w) m A χ e W J c) hq (left-lt c))
+        go : Dec (J * 16 + s < n) → q * F s ≡ byteProduct degree q (rowsSum w (n * w) m A χ e W top rows (J * 16 + s))
+        go (yes col) = ap (λ x. q * x) (is s hs col) ∙ sym (product-scale q (rowsSum w (n * w) m A χ e W top rows (J * 16 + s)) hq (rows-lt W top rows (J * 16 + s)))
         go (no past) =
             let zero : q ≡ 0 = gone (omega arith) in
-            rw zero (zero-mul F ∙ sym (product-zero (leftSum w (n * w) m A χ e W J c)))
+            rw zero (zero-mul (F s) ∙ sym (product-zero degree (rowsSum w (n * w) m A χ e W top rows (J * 16 + s))))
 
-    -- what the columns of the stacks give: to the form, and to half of the polar form
-    module _ (F : ℕ → ℕ) (is : (s : ℕ) → s < 16 → J * 16 + s < n → F s ≡ leftSum w (n * w) m A χ e W J (J * 16 + s)) where
-      pub quad-is : (y : ℕ → ℕ) → ((c : ℕ) → n ≤ c → y c ≡ 0)
-          → xorSum 16 (λ s. byteProduct (y (J * 16 + s)) (F s)) ≡ xorSum 16 (λ s. byteProduct (y (J * 16 + s)) (leftSum w (n * w) m A χ e W J (J * 16 + s)))
-      quad-is y gone = sum-same 16 _ _ (λ s hs. column-is (y (J * 16 + s)) (F s) (J * 16 + s) (gone (J * 16 + s)) (is s hs))
+    pub quad-is : (y : ℕ → ℕ) → ((c : ℕ) → n ≤ c → c < J * 16 + 16 → y c ≡ 0) → xorSum 16 (λ s. byteProduct degree (y (J * 16 + s)) (F s)) ≡ partTerm n w m A χ e y W top rows J
+    quad-is y gone = sum-same 16 _ _ (λ s hs. column-is (y (J * 16 + s)) s hs (λ past. gone (J * 16 + s) past (omega arith)))
 
-      pub mid-is : (asked : Bool) (xs old new : List ℕ) → ((c : ℕ) → byteAt xs c < 2) → ((c : ℕ) → n ≤ c → byteAt xs c ≡ 0) → (asked ≡ false → (c : ℕ) → byteAt xs c ≡ 0)
-          → (asked ≡ true → byteAt new e ≡ bitXor (byteAt old e) (xorSum 16 (λ s. byteAt xs (J * 16 + s) * F s))) → (asked ≡ false → new ≡ old)
-          → byteAt new e ≡ bitXor (byteAt old e) (xorSum 16 (λ s. byteProduct (byteAt xs (J * 16 + s)) (leftSum w (n * w) m A χ e W J (J * 16 + s))))
-      mid-is true xs old new bits gone none on off =
-          on refl ∙ ap (bitXor (byteAt old e)) (sum-same 16 _ _ (λ s hs. bit-column-is (byteAt xs (J * 16 + s)) (F s) (J * 16 + s) (bits (J * 16 + s)) (gone (J * 16 + s)) (is s hs)))
-      mid-is false xs old new bits gone none on off =
-          ap (λ (r : List ℕ). byteAt r e) (off refl) ∙ sym (ap (bitXor (byteAt old e)) (no-polar J (byteAt xs) (leftSum w (n * w) m A χ e W J) (none refl)) ∙ xor-zero-r (byteAt old e))
+    pub mid-is : (asked : Bool) (xs old new : List ℕ) → ((c : ℕ) → byteAt xs c < 2) → ((c : ℕ) → n ≤ c → byteAt xs c ≡ 0) → (asked ≡ false → (c : ℕ) → byteAt xs c ≡ 0)
+        → (asked ≡ true → byteAt new e ≡ bitXor (byteAt old e) (xorSum 16 (λ s. byteAt xs (J * 16 + s) * F s))) → (asked ≡ false → new ≡ old)
+        → byteAt new e ≡ bitXor (byteAt old e) (partTerm n w m A χ e (byteAt xs) W top rows J)
+    mid-is true xs old new bits gone none on off =
+        on refl ∙ ap (bitXor (byteAt old e)) (sum-same 16 _ _ (λ s hs. bit-column-is (byteAt xs (J * 16 + s)) s hs (bits (J * 16 + s)) (gone (J * 16 + s))))
+    mid-is false xs old new bits gone none on off =
+        ap (λ (r : List ℕ). byteAt r e) (off refl)
+        ∙ sym (ap (bitXor (byteAt old e)) (no-polar J (byteAt xs) (rowsSum w (n * w) m A χ e W top rows) (none refl)) ∙ xor-zero-r (byteAt old e))
+
+-- ---- the panels, where so many sixteens of rows of each are done
+
+-- where none are
+pub terms-none : (n w m : ℕ) (A : List ℕ) (χ : ℕ → ℕ → ℕ) (e N v : ℕ) (y W R : ℕ → ℕ) → ((J : ℕ) → J < N → R J ≡ 0)
+    → v ≡ bitXor v (xorSum N (λ J. partTerm n w m A χ e y W 0 (R J) J))
+terms-none n w m A χ e N v y W R none =
+    sym (ap (bitXor v) (sum-same N _ (λ J. 0) (λ J l. ap (λ r. partTerm n w m A χ e y W 0 r J) (none J l) ∙ term-none n w m A χ e y W J) ∙ sum-none N) ∙ xor-zero-r v)
+
+-- where all are
+pub terms-all : (n w m : ℕ) (A : List ℕ) (χ : ℕ → ℕ → ℕ) (e N : ℕ) (y W : ℕ → ℕ)
+    → xorSum N (λ J. partTerm n w m A χ e y W 0 (J + 1) J) ≡ xorSum N (λ J. xorSum 16 (λ s. byteProduct degree (y (J * 16 + s)) (leftSum w (n * w) m A χ e W J (J * 16 + s))))
+terms-all n w m A χ e N y W =
+    sum-same N _ _ (λ J l. sum-same 16 _ _ (λ s k. ap (byteProduct degree (y (J * 16 + s))) (rows-all n w m A χ e W J (J * 16 + s))))

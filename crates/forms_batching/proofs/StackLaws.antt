@@ -7,6 +7,7 @@ use native.Mathlib.Nat.{zero-mul, one-mul, mul-comm, mul-assoc}
 use native.Mathlib.Omega.{arith}
 use lib.Dec.{lit<}
 use lib.ListN.{length, List·getD-eq-default}
+use Rattle.field.specs.Degrees.{fieldOf, degreeOf, degree}
 use Rattle.strings.specs.Sums.{byteAt, bitOf, xorSum}
 use Rattle.strings.proofs.SumLaws.{sum-same, sum-none}
 use Rattle.strings.proofs.Meaning.{bitOf-lt, bitOf-zero}
@@ -28,27 +29,28 @@ order : (a b x : ℕ) → a * b * x ≡ b * (a * x)
 order a b x = ap (λ y. y * x) (mul-comm a b) ∙ mul-assoc b a x
 
 pub planes-added : (m v : ℕ) (χ y : ℕ → ℕ) → ((i : ℕ) → i < m → χ i < 256) → ((i : ℕ) → y i < 2)
-    → xorSum 8 (λ p. xorSum m (λ i. bitOf (χ i) p * y i) * byteProduct (alpha p) v) ≡ byteProduct v (xorSum m (λ i. y i * χ i))
+    → xorSum 8 (λ p. xorSum m (λ i. bitOf (χ i) p * y i) * byteProduct degree (alpha degree p) v) ≡ byteProduct degree v (xorSum m (λ i. y i * χ i))
+unfolding degreeOf fieldOf
 planes-added m v χ y small bits =
-    sum-same 8 _ (λ p. xorSum m (λ i. bitOf (χ i) p * y i * byteProduct (alpha p) v)) (λ p l. times-sum m (λ i. bitOf (χ i) p * y i) (byteProduct (alpha p) v) (λ i. bit-times-lt (bitOf (χ i) p) (y i) (bitOf-lt (χ i) p) (bits i)))
-    ∙ sum-swap 8 m (λ p i. bitOf (χ i) p * y i * byteProduct (alpha p) v)
-    ∙ sum-same m _ (λ i. y i * byteProduct v (χ i)) (λ i l.
-    sum-same 8 _ (λ p. y i * (bitOf (χ i) p * byteProduct v (alpha p))) (λ p k. order (bitOf (χ i) p) (y i) (byteProduct (alpha p) v) ∙ ap (λ x. y i * (bitOf (χ i) p * x)) (product-comm (alpha p) v))
-    ∙ sym (bit-sum (y i) 8 (λ p. bitOf (χ i) p * byteProduct v (alpha p)) (bits i))
-    ∙ ap (λ x. y i * x) (product-bits v 8 (bitOf (χ i)) alpha (bitOf-lt (χ i)) ∙ ap (byteProduct v) (byte-bits (χ i) (small i l))))
-    ∙ product-bits v m y χ bits
+    sum-same 8 _ (λ p. xorSum m (λ i. bitOf (χ i) p * y i * byteProduct degree (alpha degree p) v)) (λ p l. times-sum m (λ i. bitOf (χ i) p * y i) (byteProduct degree (alpha degree p) v) (λ i. bit-times-lt (bitOf (χ i) p) (y i) (bitOf-lt (χ i) p) (bits i)))
+    ∙ sum-swap 8 m (λ p i. bitOf (χ i) p * y i * byteProduct degree (alpha degree p) v)
+    ∙ sum-same m _ (λ i. y i * byteProduct degree v (χ i)) (λ i l.
+    sum-same 8 _ (λ p. y i * (bitOf (χ i) p * byteProduct degree v (alpha degree p))) (λ p k. order (bitOf (χ i) p) (y i) (byteProduct degree (alpha degree p) v) ∙ ap (λ x. y i * (bitOf (χ i) p * x)) (product-comm degree (alpha degree p) v))
+    ∙ sym (bit-sum (y i) 8 (λ p. bitOf (χ i) p * byteProduct degree v (alpha degree p)) (bits i))
+    ∙ ap (λ x. y i * x) (product-bits degree v 8 (bitOf (χ i)) (alpha degree) (bitOf-lt (χ i)) ∙ ap (byteProduct degree v) (byte-bits degree (χ i) (small i l))))
+    ∙ product-bits degree v m y χ bits
 
 -- ---- stacks whose bytes are known
 
-pub stack-is : (T r : List ℕ) (e f z : ℕ) → f < chunk → ((b : ℕ) → b < planes * chunk → byteAt T (e * (planes * chunk) + b) ≡ byteAt r b) → stackOf T e f z ≡ stackAt r f z
-stack-is T r e f z h same = sum-same planes _ _ (λ s l. ap (λ x. bitOf x z * alpha s) (same (s * chunk + f) (omega arith)))
+pub stack-is : (T r : List ℕ) (e f z : ℕ) → f < chunk → ((b : ℕ) → b < planes * chunk → byteAt T (e * (planes * chunk) + b) ≡ byteAt r b) → stackOf degree T e f z ≡ stackAt degree r f z
+stack-is T r e f z h same = sum-same planes _ _ (λ s l. ap (λ x. bitOf x z * alpha degree s) (same (s * chunk + f) (omega arith)))
 
-pub stack-same : (T T′ : List ℕ) (e f z : ℕ) → f < chunk → ((b : ℕ) → b < planes * chunk → byteAt T (e * (planes * chunk) + b) ≡ byteAt T′ (e * (planes * chunk) + b)) → stackOf T e f z ≡ stackOf T′ e f z
-stack-same T T′ e f z h same = sum-same planes _ _ (λ s l. ap (λ x. bitOf x z * alpha s) (same (s * chunk + f) (omega arith)))
+pub stack-same : (T T′ : List ℕ) (e f z : ℕ) → f < chunk → ((b : ℕ) → b < planes * chunk → byteAt T (e * (planes * chunk) + b) ≡ byteAt T′ (e * (planes * chunk) + b)) → stackOf degree T e f z ≡ stackOf degree T′ e f z
+stack-same T T′ e f z h same = sum-same planes _ _ (λ s l. ap (λ x. bitOf x z * alpha degree s) (same (s * chunk + f) (omega arith)))
 
-pub stack-none : (T : List ℕ) (e f z : ℕ) → f < chunk → ((b : ℕ) → b < planes * chunk → byteAt T (e * (planes * chunk) + b) ≡ 0) → stackOf T e f z ≡ 0
+pub stack-none : (T : List ℕ) (e f z : ℕ) → f < chunk → ((b : ℕ) → b < planes * chunk → byteAt T (e * (planes * chunk) + b) ≡ 0) → stackOf degree T e f z ≡ 0
 stack-none T e f z h none =
-    sum-same planes _ (λ s. 0) (λ s l. ap (λ x. x * alpha s) (ap (λ x. bitOf x z) (none (s * chunk + f) (omega arith)) ∙ bitOf-zero z) ∙ zero-mul (alpha s)) ∙ sum-none planes
+    sum-same planes _ (λ s. 0) (λ s l. ap (λ x. x * alpha degree s) (ap (λ x. bitOf x z) (none (s * chunk + f) (omega arith)) ∙ bitOf-zero z) ∙ zero-mul (alpha degree s)) ∙ sum-none planes
 
 -- a table has no coordinates from n on
 pub lane-past : (T : List ℕ) (n c e : ℕ) → length T ≡ n * lanes → n ≤ c → laneAt T c e ≡ 0

@@ -1,2 +1,3 @@
 pub mod Batched
 pub mod Lines
+pub mod Pieces

@@ -32,6 +32,7 @@ use lib.Bits.{bitAnd, bitXor}
 use lib.ListN.{length}
 use Rattle.protocol.specs.Lists.{blockAt}
 use Rattle.protocol.specs.Shape.{mostVariables}
+use Rattle.field.specs.Degrees.{degree}
 use Rattle.strings.specs.Sums.{byteAt, bitOf, xorSum}
 use Rattle.chunks.specs.Chunks.{chunk, cellAt}
 use Rattle.forms_folds.specs.Folds.{foldedBit}
@@ -91,10 +92,10 @@ abbrev pub weighedLine : List ℕ → (ℕ → ℕ) → ℕ → ℕ → ℕ
 weighedLine S χ m c = xorSum m (λ i. bitOf (cellAt S i (c / 8)) (c % 8) * χ i)
 
 abbrev pub lineProduct : List ℕ → ℕ → ℕ → ℕ → (ℕ → ℕ) → ℕ
-lineProduct vs e from count f = xorSum count (λ c. byteProduct (byteAt vs (e * mostVariables + (from + c))) (f c))
+lineProduct vs e from count f = xorSum count (λ c. byteProduct degree (byteAt vs (e * mostVariables + (from + c))) (f c))
 
 abbrev pub VectorsEnd : ℕ → ℕ → List ℕ → Type 0
 VectorsEnd n τ vs = (e c : ℕ) → e < τ → n ≤ c → c < mostVariables → byteAt vs (e * mostVariables + c) ≡ 0
 
 abbrev pub lineForm : ℕ → List ℕ → ℕ → (ℕ → ℕ → ℕ) → ℕ → (ℕ → ℕ) → ℕ
-lineForm n L m χ e y = xorSum n (λ c. byteProduct (y c) (lineSum L m χ e c))
+lineForm n L m χ e y = xorSum n (λ c. byteProduct degree (y c) (lineSum L m χ e c))

@@ -9,6 +9,7 @@ ghost use Prim.Native.Nat.{ℕ, _+_, _*_, _/_, _%_, _<_, _≤_};
 ghost use lib.ListN.{length};
 ghost use lib.Bits.{bitXor, bitAnd};
 ghost use Rattle.protocol.specs.Shape.{mostVariables};
+ghost use Rattle.field.specs.Degrees.{degree};
 ghost use Rattle.strings.specs.Sums.{byteAt, bitOf, xorSum};
 ghost use Rattle.strings.specs.Rows.{RowsKept};
 ghost use Rattle.lanes.specs.Lanes.{lanes};
@@ -142,7 +143,7 @@ pub fn add_left(lines: &mut [u8], sums: &mut [u8], cells: &[u8], bits: &[u8], po
 // The sum of the products of so many coordinates.
 fn dot(f: &[u8], t: &[u8], count: usize) -> u8
     requires { ⌜ (count ≤ length (now f)) × (count ≤ length (now t)) ⌝ }
-    ensures { λ r. ⌜ r ≡ xorSum count (λ c. byteProduct (byteAt (now (f .entry)) c) (byteAt (now (t .entry)) c)) ⌝ }
+    ensures { λ r. ⌜ r ≡ xorSum count (λ c. byteProduct degree (byteAt (now (f .entry)) c) (byteAt (now (t .entry)) c)) ⌝ }
 {
     let mut sum: u8 = 0;
     let mut c = 0;

@@ -1,150 +1,235 @@
-// Forms of the batched matrix, a panel of sixteen columns after the other.
+// Forms of the batched matrix: set after set of four panels, piece after piece of its rows, panel after panel.
 ghost use mathlib.Core.Path.{_≡_};
 ghost use mathlib.Core.List.{List};
-ghost use Prim.Native.Nat.{ℕ, _+_, _*_, _/_, _%_, _<_, _≤_};
+ghost use Prim.Native.Nat.{ℕ, _+_, _*_, _-_, _<_, _≤_};
 ghost use lib.ListN.{length};
 ghost use lib.Bits.{bitXor};
-ghost use Rattle.protocol.specs.Strings.{bytesFor};
 ghost use Rattle.protocol.specs.Shape.{mostVariables};
 ghost use Rattle.strings.specs.Sums.{byteAt};
-ghost use Rattle.lanes.specs.Lanes.{lanes};
 ghost use Rattle.chunks.specs.Chunks.{mostBlock};
-ghost use Rattle.forms_choices.specs.Entries.{IsBytes, ChosenAll, WordsFit, GroupsFor};
-ghost use Rattle.forms_columns.specs.Stacks.{StacksFit};
+ghost use Rattle.forms_choices.specs.Entries.{IsBytes, ChosenAll};
+ghost use Rattle.forms_columns.specs.Stacks.{coordinateOf};
 ghost use Rattle.forms_folds.specs.Folds.{FoldedSet};
-ghost use Rattle.forms_batching.specs.Batched.{formSum, CellsRoom, VectorsFit, PanelCells, SumsRoom, PanelStacked, vectorOf, polarSum, BatchFits};
-ghost use Rattle.forms_batching.specs.Lines.{lineForm, LinesAdded};
+ghost use Rattle.forms_folds.specs.Sets.{CellsFit, PieceOf, RoomFits};
+ghost use Rattle.forms_batching.specs.Batched.{formSum, CollectFits, PartStacked, polarSum, BatchFits};
+ghost use Rattle.forms_batching.specs.Lines.{maskByte, lineForm, LinesAdded};
+ghost use Rattle.forms_batching.specs.Pieces.{rowsOf, PieceAt, NextPlace};
 use super::lines::Part;
 use chunks::CHUNK;
 use chunks::MOST_BLOCK;
 use format::sizes::MOST_VARIABLES;
 use forms_choices::sums::ENTRIES;
 use forms_columns::STACK;
+use forms_folds::CELL_SIXTEENS;
+use forms_folds::PANELS;
+use forms_folds::PIECE_SIXTEENS;
+use forms_folds::Piece;
 use lanes::LANES;
 use strings::SIXTEEN;
+use strings::least;
 
-// The chunks of a set of panels: of 26 times sixteen rows, one for each equation of a block.
-const CELLS: usize = 26 * MOST_BLOCK * CHUNK;
+// The chunks of a piece, one for each equation and sixteen rows: the space that `add_forms` is lent.
+pub const CELLS: usize = CELL_SIXTEENS * MOST_BLOCK * CHUNK;
 
-// The table of sums of as many equations: 32 entries for each five. Before it is filled, space for a chunk of each
-// line.
+// The table of sums of as many equations: 32 entries for each five. Before it is filled, space for a matrix, and for a
+// chunk of each line.
 const SUMS: usize = MOST_BLOCK / 5 * ENTRIES * CHUNK;
+
+// So many sixteens of rows do the cells hold of each of four panels that lie below them.
+const SHORT_PIECE: usize = 6;
+
+// The mask of a bit that is set.
+const MASK: u8 = 255;
 
 // The bits of a witness, each as a mask.
 fn widen(bits: &mut [u8], xs: &[u8])
     requires { ⌜ (length (now bits) ≤ length (now xs)) × ((c : ℕ) → byteAt (now xs) c < 2) ⌝ }
-    ensures { λ _. ⌜ ((c : ℕ) → c < length (now (bits .entry)) → byteAt (now (bits .exit)) c ≡ byteAt (now (xs .entry)) c * 255) ⌝ }
+    ensures { λ _. ⌜ ((c : ℕ) → c < length (now (bits .entry)) → byteAt (now (bits .exit)) c ≡ byteAt (now (xs .entry)) c * maskByte) ⌝ }
 {
     let mut c = 0;
     while c < bits.len() {
-        bits[c] = xs[c] * 255;
+        bits[c] = xs[c] * MASK;
         c += 1;
     }
 }
 
-// Panels are loaded four at a time, by the first of them; the others stand there already.
-fn load(cells: &mut [u8], a: &[u8], n: usize, width: usize, m: usize, panel: usize)
-    requires { ⌜ CellsRoom (now cells) × (length (now a) ≡ m * (n * width)) × (width ≡ bytesFor n) × (n ≤ mostVariables) × (m ≤ mostBlock) × (panel * 16 < n) ⌝ }
-    requires { ⌜ ((panel % 4 ≡ 0 → ⊥) → FoldedSet n width m (now a) (panel / 4 * 4) (now cells)) ⌝ }
-    ensures { λ _. ⌜ FoldedSet n width m (now (a .entry)) (panel / 4 * 4) (now (cells .exit)) ⌝ }
-{
-    if panel % 4 == 0 {
-        forms_folds::load_set(cells, a, n, width, m, panel);
-    }
-}
-
 // How equations are batched: m of them, of n variables, with rows of `width` bytes, for tau repetitions. So many
-// groups of five are looked up.
+// groups of five are looked up. Whether the polar form is asked for.
 pub struct Batch {
     pub n: usize,
     pub width: usize,
     pub m: usize,
     pub tau: usize,
     pub groups: usize,
+    pub polar: bool,
 }
 
-// The stacks of a panel: from zeros, the columns of the batched matrix, times the vectors from the left. `cells` holds
-// the panel; `sums` is space.
-fn stack_panel(
+// Where a walk over the pieces stands: at panel p of the set from `first` on, in its piece from the sixteen `top` on.
+pub struct Place {
+    pub first: usize,
+    pub top: usize,
+    pub p: usize,
+}
+
+// The sixteens of rows of the first piece of a trailing matrix, whose set is the panels first, .., end - 1.
+fn rows_of(first: usize, end: usize) -> usize
+    ensures { λ r. ⌜ r ≡ rowsOf first end ⌝ }
+{
+    if first <= PANELS {
+        return end;
+    }
+    if first == 2 * PANELS {
+        if end <= PIECE_SIXTEENS {
+            return end;
+        }
+    }
+    SHORT_PIECE
+}
+
+// The piece of the set from `first` on that begins at the sixteen `top`, of matrices of n columns.
+fn piece_at(first: usize, top: usize, n: usize) -> Piece
+    requires { ⌜ (top ≤ first) × (first * 16 < n) × (n ≤ mostVariables) ⌝ }
+    ensures { λ r. ⌜ PieceAt n first top r ⌝ }
+{
+    let from = first - top;
+    let end = least(first + PANELS, (n + 15) / SIXTEEN) - top;
+    let count = rows_of(from, end);
+    Piece {
+        top,
+        first: from,
+        end,
+        count,
+    }
+}
+
+// After the last panel of a piece comes the next piece of the set, and after the last piece the next set.
+fn next(first: usize, p: usize, piece: Piece) -> Place
+    requires { ⌜ (first ≤ mostVariables) × (p < 4) × (piece .top ≤ mostVariables) × (piece .end ≤ mostVariables) × (piece .count ≤ mostVariables) ⌝ }
+    ensures { λ r. ⌜ NextPlace first p piece r ⌝ }
+{
+    let top = piece.top;
+    let end = piece.end;
+    let count = piece.count;
+    if first + p + 1 < top + end {
+        return Place {
+            first,
+            top,
+            p: p + 1,
+        };
+    }
+    if count < end {
+        return Place {
+            first,
+            top: top + count,
+            p: 0,
+        };
+    }
+    Place {
+        first: first + PANELS,
+        top: 0,
+        p: 0,
+    }
+}
+
+// A piece is loaded for its first panel; for the others it stands there already. `room` is space for a matrix.
+fn load(
+    cells: &mut [u8],
+    room: &mut [u8],
+    a: &[u8],
+    n: usize,
+    width: usize,
+    m: usize,
+    piece: Piece,
+    p: usize,
+)
+    requires { ⌜ PieceOf n width (piece .top) (piece .first) (piece .end) (piece .count) × (m ≤ mostBlock) × (length (now a) ≡ m * (n * width))
+        × CellsFit m (now cells) × RoomFits (now room) ⌝ }
+    requires { ⌜ ((p ≡ 0 → ⊥) → FoldedSet n width m (now a) (piece .top) (piece .first) (piece .count) (now cells)) ⌝ }
+    ensures { λ _. ⌜ FoldedSet n width m (now (a .entry)) (piece .top) (piece .first) (piece .count) (now (cells .exit)) ⌝ }
+{
+    if p == 0 {
+        forms_folds::load_piece(cells, room, a, n, width, m, piece);
+    }
+}
+
+// The stacks of `rows` sixteens of rows of a panel, from the sixteen `top` on: from zeros, the columns of the batched
+// matrix, times the vectors from the left. `cells` holds these rows; `sums` is space.
+fn stack_part(
     stacks: &mut [u8],
     sums: &mut [u8],
     cells: &[u8],
-    panel: usize,
-    m: usize,
-    tau: usize,
     words: &[u64],
-    groups: usize,
     vectors: &[u8],
+    top: usize,
+    rows: usize,
+    s: Batch,
 )
-    requires { ⌜ StacksFit tau (now stacks) × SumsRoom (now sums) × PanelCells m panel (now cells) × (panel * 16 + 16 ≤ mostVariables)
-        × (0 < m) × (m ≤ mostBlock) × (0 < tau) × (tau ≤ lanes) × GroupsFor m groups × WordsFit tau (now words) × VectorsFit tau (now vectors) ⌝ }
-    ensures { λ _. ⌜ PanelStacked tau panel m (now (words .entry)) (now (cells .entry)) (now (vectors .entry)) (now (stacks .exit)) ⌝ }
+    requires { ⌜ CollectFits (s .m) (s .tau) (s .groups) top rows (now stacks) (now sums) (now cells) (now words) (now vectors) ⌝ }
+    ensures { λ _. ⌜ PartStacked (s .tau) top rows (s .m) (now (words .entry)) (now (cells .entry)) (now (vectors .entry)) (now (stacks .exit)) ⌝ }
 {
+    let tau = s.tau;
     strings::clear(&mut stacks[..tau * STACK]);
-    super::stacks::collect(stacks, sums, cells, panel, m, tau, words, groups, vectors);
+    super::stacks::collect(stacks, sums, cells, words, vectors, top, rows, s);
 }
 
-// Adds to quad the form of the batched matrix at the vectors of the table; and to mid its polar form at them and the
-// bits xs, and the batched lines at the vectors. Half of the polar form, that which has the vectors on the right, is a
-// linear form of each equation, and is added to its line. Where `polar` is not asked for the bits are 0, and so is the
-// polar form.
+// Adds to quad the form of the batched matrix at the vectors; and to mid its polar form at them and the bits xs, and the
+// batched lines at the vectors. Half of the polar form, that which has the vectors on the right, is a linear form of
+// each equation, and is added to its line. Where `polar` is not asked for the bits are 0, and so is the polar form.
+// `cells` is space.
 pub fn add_forms(
     quad: &mut [u8],
     mid: &mut [u8],
     lines: &mut [u8],
+    cells: &mut [u8],
     a: &[u8],
     words: &[u64],
-    table: &[u8],
+    vectors: &[u8],
     xs: &[u8],
-    polar: bool,
     s: Batch,
 )
-    requires { ⌜ BatchFits (s .n) (s .width) (s .m) (s .tau) (s .groups) (now quad) (now mid) (now lines) (now a) (now words) (now table) (now xs) polar ⌝ }
+    requires { ⌜ BatchFits (s .n) (s .width) (s .m) (s .tau) (s .groups) (s .polar) (now quad) (now mid) (now lines) (now cells) (now a) (now words) (now vectors) (now xs) ⌝ }
     ensures { λ _. ⌜ ((χ : ℕ → ℕ → ℕ) (e : ℕ) → IsBytes χ → ChosenAll χ (s .m) (s .tau) (now (words .entry)) → e < s .tau
         → byteAt (now (quad .exit)) e
-        ≡ bitXor (byteAt (now (quad .entry)) e) (formSum (s .n) (s .width) (s .m) (now (a .entry)) χ e (vectorOf (now (table .entry)) e) (vectorOf (now (table .entry)) e))) ⌝ }
+        ≡ bitXor (byteAt (now (quad .entry)) e) (formSum (s .n) (s .width) (s .m) (now (a .entry)) χ e (coordinateOf (now (vectors .entry)) e) (coordinateOf (now (vectors .entry)) e))) ⌝ }
     ensures { λ _. ⌜ ((χ : ℕ → ℕ → ℕ) (e : ℕ) → IsBytes χ → ChosenAll χ (s .m) (s .tau) (now (words .entry)) → e < s .tau
         → byteAt (now (mid .exit)) e
-        ≡ bitXor (bitXor (byteAt (now (mid .entry)) e) (polarSum (s .n) (s .width) (s .m) (now (a .entry)) χ e (byteAt (now (xs .entry))) (vectorOf (now (table .entry)) e)))
-        (lineForm (s .n) (now (lines .entry)) (s .m) χ e (vectorOf (now (table .entry)) e))) ⌝ }
+        ≡ bitXor (bitXor (byteAt (now (mid .entry)) e) (polarSum (s .n) (s .width) (s .m) (now (a .entry)) χ e (byteAt (now (xs .entry))) (coordinateOf (now (vectors .entry)) e)))
+        (lineForm (s .n) (now (lines .entry)) (s .m) χ e (coordinateOf (now (vectors .entry)) e))) ⌝ }
     ensures { λ _. ⌜ LinesAdded (s .n) (s .width) (s .m) (now (a .entry)) (byteAt (now (xs .entry))) (now (lines .entry)) (now (lines .exit)) ⌝ }
 {
     let n = s.n;
     let m = s.m;
     let tau = s.tau;
     let width = s.width;
-    let groups = s.groups;
-    let mut cells = [0u8; CELLS];
+    let polar = s.polar;
     let mut sums = [0u8; SUMS];
-    let mut vectors = [0u8; LANES * MOST_VARIABLES];
     let mut bits = [0u8; MOST_VARIABLES];
     let mut stacks = [0u8; LANES * STACK];
-    super::stacks::fill_vectors(&mut vectors, tau, table, n);
     widen(&mut bits, xs);
-    let mut panel = 0;
-    while panel * SIXTEEN < n {
-        load(&mut cells, a, n, width, m, panel);
-        let held = forms_folds::panel_of(&cells, m, panel);
+    let mut first = 0;
+    let mut top = 0;
+    let mut p = 0;
+    while first * SIXTEEN < n {
+        let piece = piece_at(first, top, n);
+        let from = piece.first;
+        let count = piece.count;
+        load(cells, &mut sums, a, n, width, m, piece, p);
+        let held = forms_folds::panel_of(cells, m, from, count, p);
+        let rows = least(from + p + 1, count);
+        let panel = first + p;
         let part = Part {
             m,
             panel,
-            top: 0,
-            rows: panel + 1,
+            top,
+            rows,
         };
         super::lines::add_left(lines, &mut sums, held, &bits, polar, part);
-        stack_panel(
-            &mut stacks,
-            &mut sums,
-            held,
-            panel,
-            m,
-            tau,
-            words,
-            groups,
-            &vectors,
-        );
-        forms_columns::finish(quad, mid, &stacks, panel, tau, n, table, xs, polar);
-        panel += 1;
+        stack_part(&mut stacks, &mut sums, held, words, vectors, top, rows, s);
+        forms_columns::finish(quad, mid, &stacks, panel, tau, vectors, xs, polar);
+        let then = next(first, p, piece);
+        first = then.first;
+        top = then.top;
+        p = then.p;
     }
-    super::lines::add_lines(mid, &mut sums, lines, words, &vectors, s);
+    super::lines::add_lines(mid, &mut sums, lines, words, vectors, s);
 }

@@ -6,13 +6,16 @@ ghost use Prim.Native.Nat.{ℕ, _+_, _*_, _<_, _≤_};
 ghost use lib.ListN.{length};
 ghost use lib.Bits.{bitXor};
 ghost use Rattle.protocol.specs.Shape.{mostVariables};
+ghost use Rattle.field.specs.Degrees.{degree};
 ghost use Rattle.strings.specs.Sums.{byteAt};
 ghost use Rattle.strings.specs.Rows.{RowsKept};
 ghost use Rattle.lanes.specs.Lanes.{lanes, laneAt};
-ghost use Rattle.chunks.specs.Chunks.{mostBlock, chunk, Masks};
-ghost use Rattle.forms_choices.specs.Entries.{mostSums, InWords, WordsFit, GroupsFor, Weighed};
-ghost use Rattle.forms_columns.specs.Stacks.{byteProduct, planes, stackAt, stackOf, StacksFit};
-ghost use Rattle.forms_batching.specs.Batched.{weighedBit, WeighedAll, VectorsFit, VectorsAre, PanelCells, SumsRoom, rowTimes, Collected};
+ghost use Rattle.chunks.specs.Chunks.{chunk, Masks};
+ghost use Rattle.forms_choices.specs.Entries.{byteValues, mostSums, upTo, InWords, WordsFit, Weighed};
+ghost use Rattle.forms_columns.specs.Stacks.{byteProduct, planes, stackAt, stackOf, coordinateOf, StacksFit};
+ghost use Rattle.forms_batching.specs.Batched.{weighedBit, WeighedAll, VectorsFit, VectorsAre, rowTimes, CollectFits, Collected};
+ghost use Rattle.forms_batching.specs.Lines.{VectorsEnd};
+use super::panels::Batch;
 use chunks::CHUNK;
 use chunks::PAIR;
 use chunks::cells::copy_part;
@@ -27,15 +30,15 @@ const MASKS: usize = Gf256::DEGREE * CHUNK;
 
 // Coordinate c of the vector of repetition e, 0 from n on.
 fn lane_byte(table: &[u8], c: usize, n: usize, e: usize) -> u8
-    requires { ⌜ (length (now table) ≡ n * lanes) × (e < lanes) ⌝ }
-    ensures { λ r. ⌜ r ≡ laneAt (now (table .entry)) c e ⌝ }
+    requires { ⌜ (n * lanes ≤ length (now table)) × (e < lanes) ⌝ }
+    ensures { λ r. ⌜ r ≡ upTo n (λ k. laneAt (now (table .entry)) k e) c ⌝ }
 {
     if c < n { table[c * LANES + e] } else { 0 }
 }
 
 fn fill_vector(v: &mut [u8], table: &[u8], n: usize, e: usize)
-    requires { ⌜ (length (now table) ≡ n * lanes) × (e < lanes) ⌝ }
-    ensures { λ _. ⌜ ((c : ℕ) → c < length (now (v .entry)) → byteAt (now (v .exit)) c ≡ laneAt (now (table .entry)) c e) ⌝ }
+    requires { ⌜ (n * lanes ≤ length (now table)) × (e < lanes) ⌝ }
+    ensures { λ _. ⌜ ((c : ℕ) → c < length (now (v .entry)) → byteAt (now (v .exit)) c ≡ upTo n (λ k. laneAt (now (table .entry)) k e) c) ⌝ }
 {
     let mut c = 0;
     while c < v.len() {
@@ -45,18 +48,19 @@ fn fill_vector(v: &mut [u8], table: &[u8], n: usize, e: usize)
 }
 
 fn put_vector(vectors: &mut [u8], e: usize, table: &[u8], n: usize)
-    requires { ⌜ (length (now table) ≡ n * lanes) × (e < lanes) × (e * mostVariables + mostVariables ≤ length (now vectors)) ⌝ }
-    ensures { λ _. ⌜ ((c : ℕ) → c < mostVariables → byteAt (now (vectors .exit)) (e * mostVariables + c) ≡ laneAt (now (table .entry)) c e) ⌝ }
+    requires { ⌜ (n * lanes ≤ length (now table)) × (e < lanes) × (e * mostVariables + mostVariables ≤ length (now vectors)) ⌝ }
+    ensures { λ _. ⌜ ((c : ℕ) → c < mostVariables → coordinateOf (now (vectors .exit)) e c ≡ upTo n (λ k. laneAt (now (table .entry)) k e) c) ⌝ }
     ensures { λ _. ⌜ RowsKept mostVariables e (now (vectors .entry)) (now (vectors .exit)) ⌝ }
 {
     let at = e * MOST_VARIABLES;
     fill_vector(&mut vectors[at..at + MOST_VARIABLES], table, n, e);
 }
 
-// The vectors one after the other: the coordinates of a repetition stand together.
+// The vectors one after the other: the coordinates of a repetition stand together, 0 from n on.
 pub fn fill_vectors(vectors: &mut [u8], tau: usize, table: &[u8], n: usize)
-    requires { ⌜ (length (now table) ≡ n * lanes) × (tau ≤ lanes) × VectorsFit tau (now vectors) ⌝ }
-    ensures { λ _. ⌜ VectorsAre tau (now (table .entry)) (now (vectors .exit)) ⌝ }
+    requires { ⌜ (n * lanes ≤ length (now table)) × (n ≤ mostVariables) × (tau ≤ lanes) × VectorsFit tau (now vectors) ⌝ }
+    ensures { λ _. ⌜ VectorsAre n tau (now (table .entry)) (now (vectors .exit)) ⌝ }
+    ensures { λ _. ⌜ VectorsEnd n tau (now (vectors .exit)) ⌝ }
 {
     let mut e = 0;
     while e < tau {
@@ -79,8 +83,8 @@ fn fill_halves(v: &mut [u8], src: &[u8], from: usize)
 fn absorb(t: &mut [u8], words: &[u64], base: usize, groups: usize, sums: &[u8], masks: &[u8])
     requires { ⌜ (length (now t) ≡ planes * chunk) × ((base + 8) * 4 ≤ length (now words)) × InWords groups × (mostSums ≤ length (now sums)) × (length (now masks) ≡ 8 * chunk) ⌝ }
     ensures { λ _. ⌜ ((S v : List ℕ) (χ : ℕ → ℕ) (m f z : ℕ) → Weighed S χ m (now (sums .entry)) (now (words .entry)) groups base
-        → Masks v (now (masks .entry)) → byteAt v f < 256 → f < chunk
-        → stackAt (now (t .exit)) f z ≡ bitXor (stackAt (now (t .entry)) f z) (byteProduct (byteAt v f) (weighedBit S χ m f z))) ⌝ }
+        → Masks v (now (masks .entry)) → byteAt v f < byteValues → f < chunk
+        → stackAt degree (now (t .exit)) f z ≡ bitXor (stackAt degree (now (t .entry)) f z) (byteProduct degree (byteAt v f) (weighedBit S χ m f z))) ⌝ }
 {
     let mut k = 0;
     while k < Gf256::DEGREE / 2 {
@@ -104,7 +108,7 @@ fn absorb_lane(
     requires { ⌜ (e * (planes * chunk) + planes * chunk ≤ length (now stacks)) × ((e * 8 + 8) * 4 ≤ length (now words)) × InWords groups
         × (mostSums ≤ length (now sums)) × (e * mostVariables + mostVariables ≤ length (now vectors)) × (first + 16 ≤ mostVariables) × (e < lanes) ⌝ }
     ensures { λ _. ⌜ ((S : List ℕ) (χ : ℕ → ℕ) (m h f z : ℕ) → Weighed S χ m (now (sums .entry)) (now (words .entry)) groups (e * 8) → h < 2 → f < 16
-        → stackOf (now (stacks .exit)) e (h * 16 + f) z ≡ bitXor (stackOf (now (stacks .entry)) e (h * 16 + f) z) (rowTimes (now (vectors .entry)) e first S χ m h f z)) ⌝ }
+        → stackOf degree (now (stacks .exit)) e (h * 16 + f) z ≡ bitXor (stackOf degree (now (stacks .entry)) e (h * 16 + f) z) (rowTimes (now (vectors .entry)) e first S χ m h f z)) ⌝ }
     ensures { λ _. ⌜ RowsKept (planes * chunk) e (now (stacks .entry)) (now (stacks .exit)) ⌝ }
 {
     let mut v = [0u8; CHUNK];
@@ -135,7 +139,7 @@ fn absorb_lanes(
     requires { ⌜ StacksFit tau (now stacks) × WordsFit tau (now words) × InWords groups × (mostSums ≤ length (now sums))
         × VectorsFit tau (now vectors) × (first + 16 ≤ mostVariables) × (tau ≤ lanes) ⌝ }
     ensures { λ _. ⌜ ((S : List ℕ) (χ : ℕ → ℕ → ℕ) (m e h f z : ℕ) → WeighedAll S χ m (now (sums .entry)) (now (words .entry)) groups tau → e < tau → h < 2 → f < 16
-        → stackOf (now (stacks .exit)) e (h * 16 + f) z ≡ bitXor (stackOf (now (stacks .entry)) e (h * 16 + f) z) (rowTimes (now (vectors .entry)) e first S (χ e) m h f z)) ⌝ }
+        → stackOf degree (now (stacks .exit)) e (h * 16 + f) z ≡ bitXor (stackOf degree (now (stacks .entry)) e (h * 16 + f) z) (rowTimes (now (vectors .entry)) e first S (χ e) m h f z)) ⌝ }
 {
     let mut e = 0;
     while e < tau {
@@ -144,28 +148,38 @@ fn absorb_lanes(
     }
 }
 
-// Adds the cells of a panel of the batched matrix, each row times its coordinate of the vectors. The batching bytes
-// are public, and so are the tables that they index; `sums` is space for these.
+// Adds to the stacks `rows` sixteens of rows of a panel of the batched matrix, from the sixteen `top` on, each row times
+// its coordinate of the vectors. The cells hold these rows. The batching bytes are public, and so are the tables that
+// they index; `sums` is space for these.
 pub fn collect(
     stacks: &mut [u8],
     sums: &mut [u8],
     cells: &[u8],
-    panel: usize,
-    m: usize,
-    tau: usize,
     words: &[u64],
-    groups: usize,
     vectors: &[u8],
+    top: usize,
+    rows: usize,
+    s: Batch,
 )
-    requires { ⌜ StacksFit tau (now stacks) × SumsRoom (now sums) × PanelCells m panel (now cells) × (panel * 16 + 16 ≤ mostVariables)
-        × (0 < m) × (m ≤ mostBlock) × (0 < tau) × (tau ≤ lanes) × GroupsFor m groups × WordsFit tau (now words) × VectorsFit tau (now vectors) ⌝ }
-    ensures { λ _. ⌜ Collected tau panel m (now (words .entry)) (now (cells .entry)) (now (vectors .entry)) (now (stacks .entry)) (now (stacks .exit)) ⌝ }
+    requires { ⌜ CollectFits (s .m) (s .tau) (s .groups) top rows (now stacks) (now sums) (now cells) (now words) (now vectors) ⌝ }
+    ensures { λ _. ⌜ Collected (s .tau) top rows (s .m) (now (words .entry)) (now (cells .entry)) (now (vectors .entry)) (now (stacks .entry)) (now (stacks .exit)) ⌝ }
 {
+    let m = s.m;
+    let tau = s.tau;
+    let groups = s.groups;
     let mut q = 0;
-    while q <= panel {
+    while q < rows {
         forms_choices::sums::fill_sums(sums, groups, m, strings::row_at(cells, m * CHUNK, q));
         forms_choices::sums::add_first(stacks, sums);
-        absorb_lanes(stacks, tau, words, groups, sums, vectors, q * SIXTEEN);
+        absorb_lanes(
+            stacks,
+            tau,
+            words,
+            groups,
+            sums,
+            vectors,
+            (top + q) * SIXTEEN,
+        );
         q += 1;
     }
 }

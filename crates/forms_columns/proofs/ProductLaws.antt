@@ -2,8 +2,8 @@
 -- Assumes nothing.
 use mathlib.Core.Path.{_≡_, sym, ap, ap₂, _∙_}
 use mathlib.Core.Bool.{Bool}
-use Prim.Native.Nat.{ℕ, zero, suc, _+_, _*_, _^_, _<_}
-use native.Mathlib.Nat.{add-zero, add-suc, add-comm, zero-mul, one-mul}
+use Prim.Native.Nat.{ℕ, zero, suc, _+_, _*_, _^_, _≤_, _<_}
+use native.Mathlib.Nat.{mod-eq-of-lt, add-zero, add-suc, add-comm, zero-mul, one-mul}
 use native.Mathlib.Omega.{arith}
 use lib.Dec.{T, eqb, eqb→eq, lit<}
 use Rattle.algebra.specs.Ring.{Ring}
@@ -15,10 +15,13 @@ use Rattle.algebra.proofs.RingLaws.{mul-zero, mul-left-comm}
 use Rattle.algebra.proofs.SumLaws.{sum-mul}
 use Rattle.algebra.proofs.TestLaws.{everyBelow, every-at}
 use Rattle.field.specs.Gf256.{gf256}
+use Rattle.field.specs.Gf16.{gf16}
+use Rattle.field.specs.Degrees.{fieldOf, degreeOf}
+use Rattle.field.proofs.DegreeLaws.{each-field, degree-least, degree-most}
 use Rattle.protocol.proofs.StringLaws.{bits-of}
 use Rattle.strings.specs.Sums.{bitOf, xorSum}
-use Rattle.strings.proofs.SumLaws.{sum-same}
-use Rattle.strings.proofs.BitLaws.{bits-sum}
+use Rattle.strings.proofs.SumLaws.{sum-same, sum-short}
+use Rattle.strings.proofs.BitLaws.{bits-sum, cut-bit}
 use Rattle.strings.proofs.Meaning.{bitOf-lt, elem-sum, byte-sum}
 use Rattle.forms_columns.specs.Stacks.{alpha, byteProduct}
 
@@ -54,48 +57,67 @@ module _ (C : Coded) where
       ap byte (power-add (elem x) p i)
       ∙ ap₂ (λ y z. byte (y ⊗ z)) (sym (C .elem-byte (power R (elem x) p))) (sym (C .elem-byte (power R (elem x) i)))
 
-pub product-sum : (a n : ℕ) (g : ℕ → ℕ) → byteProduct a (xorSum n g) ≡ xorSum n (λ i. byteProduct a (g i))
+pub product-sum : (d a n : ℕ) (g : ℕ → ℕ) → byteProduct d a (xorSum n g) ≡ xorSum n (λ i. byteProduct d a (g i))
 unfolding byteProduct
-product-sum a n g = coded-sum gf256 a n g
+product-sum d a n g = coded-sum (fieldOf d) a n g
 
-pub product-bit : (a q x : ℕ) → q < 2 → byteProduct a (q * x) ≡ q * byteProduct a x
+pub product-bit : (d a q x : ℕ) → q < 2 → byteProduct d a (q * x) ≡ q * byteProduct d a x
 unfolding byteProduct
-product-bit a q x h = coded-bit gf256 a q x h
+product-bit d a q x h = coded-bit (fieldOf d) a q x h
 
-pub product-comm : (a b : ℕ) → byteProduct a b ≡ byteProduct b a
+pub product-comm : (d a b : ℕ) → byteProduct d a b ≡ byteProduct d b a
 unfolding byteProduct
-product-comm a b = coded-comm gf256 a b
+product-comm d a b = coded-comm (fieldOf d) a b
 
-pub product-zero : (a : ℕ) → byteProduct 0 a ≡ 0
-product-zero a = product-comm 0 a ∙ ap (byteProduct a) (sym (zero-mul 0)) ∙ product-bit a 0 0 (lit< tt) ∙ zero-mul (byteProduct a 0)
+pub product-zero : (d a : ℕ) → byteProduct d 0 a ≡ 0
+product-zero d a =
+    product-comm d 0 a ∙ ap (byteProduct d a) (sym (zero-mul 0)) ∙ product-bit d a 0 0 (lit< tt) ∙ zero-mul (byteProduct d a 0)
 
-pub alpha-add : (p i : ℕ) → alpha (p + i) ≡ byteProduct (alpha p) (alpha i)
+pub alpha-add : (d p i : ℕ) → alpha d (p + i) ≡ byteProduct d (alpha d p) (alpha d i)
 unfolding alpha byteProduct
-alpha-add p i = coded-power gf256 2 p i
+alpha-add d p i = coded-power (fieldOf d) 2 p i
 
-weighs : ℕ → Bool
-weighs s = eqb (2 ^ s) (alpha s)
+-- ---- the powers of α below the degree
 
-low-powers : T (everyBelow 8 weighs)
-unfolding weighs computing power alpha
+weighs : Coded → ℕ → Bool
+weighs C s = eqb (2 ^ s) (powByte C 2 s)
+
+low-powers : T (everyBelow (gf256 .degree) (weighs gf256))
+unfolding weighs computing power
 low-powers = tt
 
-pub alpha-low : (s : ℕ) → s < 8 → 2 ^ s ≡ alpha s
-unfolding weighs
-alpha-low s h = eqb→eq (2 ^ s) (alpha s) (every-at 8 weighs low-powers s h)
+few-powers : T (everyBelow (gf16 .degree) (weighs gf16))
+unfolding weighs computing power
+few-powers = tt
 
--- a byte is the sum of the powers that its bits weigh
-pub byte-bits : (v : ℕ) → v < 256 → xorSum 8 (λ i. bitOf v i * alpha i) ≡ v
+pub alpha-low : (d s : ℕ) → s < degreeOf d → 2 ^ s ≡ alpha d s
+unfolding weighs degreeOf alpha
+alpha-low d s =
+    each-field (λ C. s < C .degree → 2 ^ s ≡ powByte C 2 s)
+    (λ h. eqb→eq (2 ^ s) (powByte gf16 2 s) (every-at (gf16 .degree) (weighs gf16) few-powers s h))
+    (λ h. eqb→eq (2 ^ s) (powByte gf256 2 s) (every-at (gf256 .degree) (weighs gf256) low-powers s h)) d
+
+-- an element is the sum of the powers that its bits weigh
+low-bits : (d v : ℕ) → v < 2 ^ degreeOf d → xorSum (degreeOf d) (λ i. bitOf v i * alpha d i) ≡ v
 unfolding bitOf
-byte-bits v h =
-    sum-same 8 _ _ (λ i l. ap (λ x. bitOf v i * x) (sym (alpha-low i l))) ∙ bits-sum 8 (bitOf v) (bitOf-lt v) ∙ bits-of 8 v h
+low-bits d v h =
+    sum-same (degreeOf d) _ _ (λ i l. ap (λ x. bitOf v i * x) (sym (alpha-low d i l))) ∙ bits-sum (degreeOf d) (bitOf v) (bitOf-lt v) ∙ bits-of (degreeOf d) v h
+
+high-bit : (r v i : ℕ) → v < 2 ^ r → r ≤ i → bitOf v i ≡ 0
+high-bit r v i h l = ap (λ x. bitOf x i) (sym (mod-eq-of-lt h)) ∙ cut-bit v r i l
+
+-- the same over eight bits, whatever the degree
+pub byte-bits : (d v : ℕ) → v < 2 ^ degreeOf d → xorSum 8 (λ i. bitOf v i * alpha d i) ≡ v
+byte-bits d v h =
+    sum-short (degreeOf d) 8 (λ i. bitOf v i * alpha d i) (degree-most d) (λ i l b. ap (λ x. x * alpha d i) (high-bit (degreeOf d) v i h l) ∙ zero-mul (alpha d i)) ∙ low-bits d v h
 
 -- a sum that bits weigh, times a byte
-pub product-bits : (a n : ℕ) (q x : ℕ → ℕ) → ((i : ℕ) → q i < 2) → xorSum n (λ i. q i * byteProduct a (x i)) ≡ byteProduct a (xorSum n (λ i. q i * x i))
-product-bits a n q x h = sum-same n _ _ (λ i l. sym (product-bit a (q i) (x i) (h i))) ∙ sym (product-sum a n (λ i. q i * x i))
+pub product-bits : (d a n : ℕ) (q x : ℕ → ℕ) → ((i : ℕ) → q i < 2) → xorSum n (λ i. q i * byteProduct d a (x i)) ≡ byteProduct d a (xorSum n (λ i. q i * x i))
+product-bits d a n q x h = sum-same n _ _ (λ i l. sym (product-bit d a (q i) (x i) (h i))) ∙ sym (product-sum d a n (λ i. q i * x i))
 
-pub alpha-zero : 1 ≡ alpha 0
-alpha-zero = alpha-low 0 (lit< tt)
+pub alpha-zero : (d : ℕ) → 1 ≡ alpha d 0
+alpha-zero d = alpha-low d 0 (omega (arith, degree-least d))
 
-pub alpha-more : (s : ℕ) → byteProduct 2 (alpha s) ≡ alpha (s + 1)
-alpha-more s = ap (λ x. byteProduct x (alpha s)) (alpha-low 1 (lit< tt)) ∙ sym (alpha-add 1 s) ∙ ap alpha (add-comm 1 s)
+pub alpha-more : (d s : ℕ) → byteProduct d 2 (alpha d s) ≡ alpha d (s + 1)
+alpha-more d s =
+    ap (λ x. byteProduct d x (alpha d s)) (alpha-low d 1 (omega (arith, degree-least d))) ∙ sym (alpha-add d 1 s) ∙ ap (alpha d) (add-comm 1 s)

@@ -4,17 +4,20 @@ ghost use mathlib.Core.Path.{_≡_};
 ghost use mathlib.Core.Bool.{true, false};
 ghost use Prim.Native.Nat.{ℕ, _+_, _*_, _<_, _≤_};
 ghost use lib.ListN.{length};
+ghost use Rattle.field.specs.Degrees.{degree};
 ghost use Rattle.strings.specs.Sums.{byteAt, bitOf, xorSum};
 ghost use Rattle.strings.specs.Rows.{RowsKept};
 ghost use Rattle.lanes.specs.Lanes.{lanes, laneAt, LanesAdded};
 ghost use Rattle.chunks.specs.Chunks.{chunk};
-ghost use Rattle.forms_columns.specs.Stacks.{byteProduct, planes, columnOf, sixteenOf, valueOf, StacksFit, ColumnFits, ColumnsFit, PanelFits};
+ghost use Rattle.forms_columns.specs.Stacks.{byteProduct, planes, columnOf, sixteenOf, valueOf, coordinateOf, Weights, StacksFit, ColumnsFit, PanelFits};
 use chunks::CHUNK;
 use field::Gf256;
 use lanes::LANES;
 use strings::BITS;
 use strings::SIXTEEN;
 use strings::word_at;
+
+pub mod fronts;
 
 // The planes of a stack: as many as a product of two elements has coefficients before it is reduced.
 pub const PLANES: usize = 2 * Gf256::DEGREE - 1;
@@ -24,6 +27,9 @@ pub const STACK: usize = PLANES * CHUNK;
 
 // A byte of each plane of a stack, for all repetitions.
 const GATHERED: usize = PLANES * LANES;
+
+// Sixteen coordinates of all repetitions.
+const FRONT: usize = SIXTEEN * LANES;
 
 // The sum of sixteen bytes from `at` on, in words: halves are added until one byte is left.
 pub fn sum_at(s: &[u8], at: usize) -> u8
@@ -81,29 +87,39 @@ fn add_weighted(u: &mut [u8], row: &[u8], z: usize, weight: u8)
     }
 }
 
-// u[e] = the value at bit z of the planes of repetition e.
-fn weigh(u: &mut [u8], rows: &[u8], z: usize)
-    requires { ⌜ (length (now u) ≡ lanes) × (length (now rows) ≡ planes * lanes) × (z < 8) ⌝ }
-    ensures { λ _. ⌜ ((e : ℕ) → e < lanes → byteAt (now (u .exit)) e ≡ valueOf (now (rows .entry)) z e) ⌝ }
+// The powers of α, one for each plane. They are lent to `weigh`, which would else make them anew for each column.
+fn fill_weights(weights: &mut [u8; PLANES])
+    requires { ⌜ length (now weights) ≡ planes ⌝ }
+    ensures { λ _. ⌜ Weights degree (now (weights .exit)) ⌝ }
 {
-    strings::clear(u);
     let mut weight: u8 = 1;
     let mut s = 0;
     while s < PLANES {
-        add_weighted(u, strings::row_at(rows, LANES, s), z, weight);
+        weights[s] = weight;
         weight = Gf256::multiply(2, weight);
         s += 1;
     }
 }
 
-// acc[e] ^= coordinate c of repetition e, times u[e]. Coordinates from n on are 0.
-fn add_product(acc: &mut [u8], c: usize, n: usize, table: &[u8], u: &[u8])
-    requires { ⌜ (length (now acc) ≡ lanes) × (length (now table) ≡ n * lanes) × (length (now u) ≡ lanes) ⌝ }
-    ensures { λ _. ⌜ LanesAdded lanes (λ e. byteProduct (laneAt (now (table .entry)) c e) (byteAt (now (u .entry)) e)) (now (acc .entry)) (now (acc .exit)) ⌝ }
+// u[e] = the value at bit z of the planes of repetition e.
+fn weigh(u: &mut [u8], rows: &[u8], z: usize, weights: &[u8])
+    requires { ⌜ (length (now u) ≡ lanes) × (length (now rows) ≡ planes * lanes) × (z < 8) × Weights degree (now weights) ⌝ }
+    ensures { λ _. ⌜ ((e : ℕ) → e < lanes → byteAt (now (u .exit)) e ≡ valueOf degree (now (rows .entry)) z e) ⌝ }
 {
-    if c < n {
-        lanes::accumulate(acc, strings::row_at(table, LANES, c), u);
+    strings::clear(u);
+    let mut s = 0;
+    while s < PLANES {
+        add_weighted(u, strings::row_at(rows, LANES, s), z, weights[s]);
+        s += 1;
     }
+}
+
+// acc[e] ^= coordinate k of the front of repetition e, times u[e].
+fn add_product(acc: &mut [u8], k: usize, front: &[u8], u: &[u8])
+    requires { ⌜ (length (now acc) ≡ lanes) × (length (now front) ≡ 16 * lanes) × (k < 16) × (length (now u) ≡ lanes) ⌝ }
+    ensures { λ _. ⌜ LanesAdded lanes (λ e. byteProduct degree (laneAt (now (front .entry)) k e) (byteAt (now (u .entry)) e)) (now (acc .entry)) (now (acc .exit)) ⌝ }
+{
+    lanes::accumulate(acc, strings::row_at(front, LANES, k), u);
 }
 
 // Adds u times bit c of xs to mid, where the polar form is asked for.
@@ -117,85 +133,84 @@ fn add_polar(mid: &mut [u8], u: &[u8], c: usize, xs: &[u8], polar: bool)
     }
 }
 
-// Column c is bit z of the planes. Adds it, times coordinate c of the vectors, to quad; and, where the polar form is
-// asked for, times bit c of xs, to mid.
+// Column k of a panel is bit z of the planes. Adds it, times coordinate k of the front, to quad; and, where the polar
+// form is asked for, times bit k of xs, to mid.
 fn add_column(
     quad: &mut [u8],
     mid: &mut [u8],
     rows: &[u8],
-    c: usize,
+    k: usize,
     z: usize,
-    n: usize,
-    table: &[u8],
+    front: &[u8],
     xs: &[u8],
     polar: bool,
+    weights: &[u8],
 )
-    requires { ⌜ ColumnFits (now quad) (now mid) (now rows) c z n (now table) (now xs) ⌝ }
-    ensures { λ _. ⌜ LanesAdded lanes (λ e. byteProduct (laneAt (now (table .entry)) c e) (valueOf (now (rows .entry)) z e)) (now (quad .entry)) (now (quad .exit)) ⌝ }
-    ensures { λ _. ⌜ (polar ≡ true → LanesAdded lanes (λ e. byteAt (now (xs .entry)) c * valueOf (now (rows .entry)) z e) (now (mid .entry)) (now (mid .exit))) ⌝ }
+    requires { ⌜ ColumnsFit (now quad) (now mid) (now rows) (now front) (now xs) (now weights) × (k < 16) × (z < 8) ⌝ }
+    ensures { λ _. ⌜ LanesAdded lanes (λ e. byteProduct degree (laneAt (now (front .entry)) k e) (valueOf degree (now (rows .entry)) z e)) (now (quad .entry)) (now (quad .exit)) ⌝ }
+    ensures { λ _. ⌜ (polar ≡ true → LanesAdded lanes (λ e. byteAt (now (xs .entry)) k * valueOf degree (now (rows .entry)) z e) (now (mid .entry)) (now (mid .exit))) ⌝ }
     ensures { λ _. ⌜ (polar ≡ false → now (mid .exit) ≡ now (mid .entry)) ⌝ }
 {
     let mut u = [0u8; LANES];
-    weigh(&mut u, rows, z);
-    add_product(quad, c, n, table, &u);
-    add_polar(mid, &u, c, xs, polar);
+    weigh(&mut u, rows, z, weights);
+    add_product(quad, k, front, &u);
+    add_polar(mid, &u, k, xs, polar);
 }
 
-// The same for eight columns, from `first` on.
+// The same for the eight columns of half h of the panel.
 fn add_columns(
     quad: &mut [u8],
     mid: &mut [u8],
     rows: &[u8],
-    first: usize,
-    n: usize,
-    table: &[u8],
+    h: usize,
+    front: &[u8],
     xs: &[u8],
     polar: bool,
+    weights: &[u8],
 )
-    requires { ⌜ ColumnsFit (now quad) (now mid) (now rows) first n (now table) (now xs) ⌝ }
-    ensures { λ _. ⌜ LanesAdded lanes (λ e. xorSum 8 (λ z. byteProduct (laneAt (now (table .entry)) (first + z) e) (valueOf (now (rows .entry)) z e))) (now (quad .entry)) (now (quad .exit)) ⌝ }
-    ensures { λ _. ⌜ (polar ≡ true → LanesAdded lanes (λ e. xorSum 8 (λ z. byteAt (now (xs .entry)) (first + z) * valueOf (now (rows .entry)) z e)) (now (mid .entry)) (now (mid .exit))) ⌝ }
+    requires { ⌜ ColumnsFit (now quad) (now mid) (now rows) (now front) (now xs) (now weights) × (h < 2) ⌝ }
+    ensures { λ _. ⌜ LanesAdded lanes (λ e. xorSum 8 (λ z. byteProduct degree (laneAt (now (front .entry)) (h * 8 + z) e) (valueOf degree (now (rows .entry)) z e)))
+        (now (quad .entry)) (now (quad .exit)) ⌝ }
+    ensures { λ _. ⌜ (polar ≡ true → LanesAdded lanes (λ e. xorSum 8 (λ z. byteAt (now (xs .entry)) (h * 8 + z) * valueOf degree (now (rows .entry)) z e))
+        (now (mid .entry)) (now (mid .exit))) ⌝ }
     ensures { λ _. ⌜ (polar ≡ false → now (mid .exit) ≡ now (mid .entry)) ⌝ }
 {
     let mut z = 0;
     while z < BITS {
-        add_column(quad, mid, rows, first + z, z, n, table, xs, polar);
+        add_column(quad, mid, rows, h * BITS + z, z, front, xs, polar, weights);
         z += 1;
     }
 }
 
-// The sixteen columns of a panel of the stacks: times the vectors of the n coordinates of the table to quad; and times
-// the bits xs to mid, where the polar form is asked for.
+// The sixteen columns of a panel of the stacks: times their coordinates of the vectors to quad; and times their bits of
+// xs to mid, where the polar form is asked for. Lanes from tau on hold anything afterwards.
 pub fn finish(
     quad: &mut [u8],
     mid: &mut [u8],
     stacks: &[u8],
     panel: usize,
     tau: usize,
-    n: usize,
-    table: &[u8],
+    vectors: &[u8],
     xs: &[u8],
     polar: bool,
 )
-    requires { ⌜ PanelFits (now quad) (now mid) (now stacks) panel tau n (now table) (now xs) ⌝ }
-    ensures { λ _. ⌜ LanesAdded tau (λ e. xorSum 16 (λ s. byteProduct (laneAt (now (table .entry)) (panel * 16 + s) e) (columnOf (now (stacks .entry)) e s))) (now (quad .entry)) (now (quad .exit)) ⌝ }
-    ensures { λ _. ⌜ (polar ≡ true → LanesAdded tau (λ e. xorSum 16 (λ s. byteAt (now (xs .entry)) (panel * 16 + s) * columnOf (now (stacks .entry)) e s)) (now (mid .entry)) (now (mid .exit))) ⌝ }
+    requires { ⌜ PanelFits (now quad) (now mid) (now stacks) panel tau (now vectors) (now xs) ⌝ }
+    ensures { λ _. ⌜ LanesAdded tau (λ e. xorSum 16 (λ s. byteProduct degree (coordinateOf (now (vectors .entry)) e (panel * 16 + s)) (columnOf degree (now (stacks .entry)) e s)))
+        (now (quad .entry)) (now (quad .exit)) ⌝ }
+    ensures { λ _. ⌜ (polar ≡ true → LanesAdded tau (λ e. xorSum 16 (λ s. byteAt (now (xs .entry)) (panel * 16 + s) * columnOf degree (now (stacks .entry)) e s))
+        (now (mid .entry)) (now (mid .exit))) ⌝ }
     ensures { λ _. ⌜ (polar ≡ false → now (mid .exit) ≡ now (mid .entry)) ⌝ }
 {
+    let mut front = [0u8; FRONT];
+    let mut weights = [0u8; PLANES];
+    fronts::fill_front(&mut front, vectors, panel * SIXTEEN, tau);
+    fill_weights(&mut weights);
+    let bits = strings::row_at(xs, SIXTEEN, panel);
     let mut h = 0;
     while h < 2 {
         let mut rows = [0u8; GATHERED];
         gather(&mut rows, stacks, h, tau);
-        add_columns(
-            quad,
-            mid,
-            &rows,
-            panel * SIXTEEN + h * BITS,
-            n,
-            table,
-            xs,
-            polar,
-        );
+        add_columns(quad, mid, &rows, h, &front, bits, polar, &weights);
         h += 1;
     }
 }

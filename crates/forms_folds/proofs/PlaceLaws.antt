@@ -2,48 +2,65 @@
 -- Assumes nothing.
 use mathlib.Core.Path.{_≡_, sym, ap, _∙_}
 use mathlib.Core.Logic.{⊎-elim}
+use mathlib.Core.Bool.{cond}
 use Prim.Native.Nat.{ℕ, zero, suc, _+_, _*_, _/_, _%_, _≤_, _<_}
 use native.Mathlib.Nat.{eq-or-lt-of-le, le-of-suc-le-suc}
 use native.Mathlib.Decide.{decLt}
 use native.Mathlib.Omega.{arith}
 use lib.Arith.{digits-div, digits-mod}
-use Rattle.forms_folds.specs.Folds.{before}
+use Rattle.protocol.proofs.TestLaws.{ltb-yes, ltb-no}
+use Rattle.forms_folds.specs.Folds.{before, height}
 use Rattle.forms_folds.specs.Sets.{chunkPlace, Beside}
 
-pub before-is : (first p : ℕ) → p < 4 → p * (2 * first + p + 1) / 2 ≡ before first p
-unfolding before
-before-is first zero h = omega arith
-before-is first (suc zero) h = omega arith
-before-is first (suc (suc zero)) h = omega arith
-before-is first (suc (suc (suc zero))) h = omega arith
-before-is first (suc (suc (suc (suc p)))) h = absurd (omega arith)
+pub height-tall : (first count p : ℕ) → first < count → height first count p ≡ first + p + 1
+unfolding height
+height-tall first count p h = ap (λ b. cond b (first + p + 1) count) (ltb-yes first count h)
 
--- a set has at most 26 sixteens of rows
-pub before-fits : (first p : ℕ) → first % 4 ≡ 0 → p < 4 → first + p < 10 → before first p + (first + p + 1) ≤ 26
+pub height-flat : (first count p : ℕ) → count ≤ first → height first count p ≡ count
+unfolding height
+height-flat first count p h = ap (λ b. cond b (first + p + 1) count) (ltb-no first count h)
+
+-- a row that the piece has, on the diagonal or above
+pub in-height : (first count p q : ℕ) → q < count → q ≤ first + p → q < height first count p
+in-height first count p q few above = go (decLt first count)
+  where
+    go : Dec (first < count) → q < height first count p
+    go (yes lt) = omega (arith, height-tall first count p lt)
+    go (no ge) = omega (arith, height-flat first count p (omega arith))
+
+pub before-tall : (first count p : ℕ) → first < count → p < 4 → p * (2 * first + p + 1) / 2 ≡ before first count p
 unfolding before
-before-fits first zero h k l = omega arith
-before-fits first (suc zero) h k l = omega arith
-before-fits first (suc (suc zero)) h k l = omega arith
-before-fits first (suc (suc (suc zero))) h k l = omega arith
-before-fits first (suc (suc (suc (suc p)))) h k l = absurd (omega arith)
+before-tall first count zero h k = omega arith
+before-tall first count (suc zero) h k = omega (arith, height-tall first count 0 h)
+before-tall first count (suc (suc zero)) h k = omega (arith, height-tall first count 0 h, height-tall first count 1 h)
+before-tall first count (suc (suc (suc zero))) h k = omega (arith, height-tall first count 0 h, height-tall first count 1 h, height-tall first count 2 h)
+before-tall first count (suc (suc (suc (suc p)))) h k = absurd (omega arith)
+
+pub before-flat : (first count p : ℕ) → count ≤ first → p < 4 → p * count ≡ before first count p
+unfolding before
+before-flat first count zero h k = omega arith
+before-flat first count (suc zero) h k = omega (arith, height-flat first count 0 h)
+before-flat first count (suc (suc zero)) h k = omega (arith, height-flat first count 0 h, height-flat first count 1 h)
+before-flat first count (suc (suc (suc zero))) h k = omega (arith, height-flat first count 0 h, height-flat first count 1 h, height-flat first count 2 h)
+before-flat first count (suc (suc (suc (suc p)))) h k = absurd (omega arith)
 
 -- a panel ends before a later one begins
-pub before-next : (first p x : ℕ) → p < x → before first p + (first + p + 1) ≤ before first x
+pub before-next : (first count p x : ℕ) → p < x → before first count p + height first count p ≤ before first count x
 unfolding before
-before-next first p zero h = absurd (omega arith)
-before-next first p (suc x) h =
-    ⊎-elim (λ (e : p ≡ x). rw e (omega arith)) (λ (lt : p < x). omega (arith, before-next first p x lt)) (eq-or-lt-of-le (le-of-suc-le-suc h))
+before-next first count p zero h = absurd (omega arith)
+before-next first count p (suc x) h =
+    ⊎-elim (λ (e : p ≡ x). rw e (omega arith)) (λ (lt : p < x). omega (arith, before-next first count p x lt)) (eq-or-lt-of-le (le-of-suc-le-suc h))
 
--- two sixteens of rows of a set that stand at one place are of one number
-pub same-rows : (first p q x y : ℕ) → q ≤ first + p → y ≤ first + x → before first p + q ≡ before first x + y → q ≡ y
-same-rows first p q x y hq hy e = go (decLt p x) (decLt x p)
+-- two sixteens of rows of a set that stand at one chunkPlace are of one number
+pub same-rows : (first count p q x y : ℕ) → q < count → y < count → q ≤ first + p → y ≤ first + x → before first count p + q ≡ before first count x + y → q ≡ y
+same-rows first count p q x y cq cy hq hy e = go (decLt p x) (decLt x p)
   where
     go : Dec (p < x) → Dec (x < p) → q ≡ y
-    go (yes lt) d = absurd (omega (arith, before-next first p x lt))
-    go (no ge) (yes gt) = absurd (omega (arith, before-next first x p gt))
+    go (yes lt) d = absurd (omega (arith, before-next first count p x lt, in-height first count p q cq hq))
+    go (no ge) (yes gt) = absurd (omega (arith, before-next first count x p gt, in-height first count x y cy hy))
     go (no ge) (no le) =
         let same : p ≡ x = omega arith in
-        let begin : before first p ≡ before first x = ap (before first) same in
+        let begin : before first count p ≡ before first count x = ap (before first count) same in
         omega arith
 
 module _ (m i : ℕ) (inside : i < m) where
@@ -51,13 +68,17 @@ module _ (m i : ℕ) (inside : i < m) where
   place-rows A B e = sym (digits-div A inside) ∙ ap (λ x. x / m) e ∙ digits-div B inside
 
   -- other sixteen rows of the same matrix
-  pub beside-rows : (first p x q : ℕ) → x < q → x ≤ first + p → Beside first q m i 4 (chunkPlace first p x m i)
-  beside-rows first p x q lt hx r hr hq e = let same : x ≡ q = same-rows first p x r q hx hq (place-rows (before first p + x) (before first r + q) e) in omega arith
+  pub beside-rows : (first count p x q : ℕ) → x < q → q < count → x ≤ first + p → Beside first count q m i 4 (chunkPlace first count p x m i)
+  beside-rows first count p x q lt few hx r hr hq e =
+      let same : x ≡ q = same-rows first count p x r q (omega arith) few hx hq (place-rows (before first count p + x) (before first count r + q) e) in
+      omega arith
 
   -- the same sixteen rows of a later panel
-  pub beside-panel : (first p x q : ℕ) → x < p → q ≤ first + x → chunkPlace first x q m i ≡ chunkPlace first p q m i → ⊥
-  beside-panel first p x q lt hq e = let same : before first x + q ≡ before first p + q = place-rows (before first x + q) (before first p + q) e in omega (arith, before-next first x p lt)
+  pub beside-panel : (first count p x q : ℕ) → x < p → q < count → q ≤ first + x → chunkPlace first count x q m i ≡ chunkPlace first count p q m i → ⊥
+  beside-panel first count p x q lt few hq e =
+      let same : before first count x + q ≡ before first count p + q = place-rows (before first count x + q) (before first count p + q) e in
+      omega (arith, before-next first count x p lt, in-height first count x q few hq)
 
   -- another matrix
-  pub beside-matrix : (first q k Q x : ℕ) → x < m → (x ≡ i → ⊥) → Beside first q m i k (Q * m + x)
-  beside-matrix first q k Q x hx other p hp hq e = other (sym (digits-mod Q hx) ∙ ap (λ z. z % m) e ∙ digits-mod (before first p + q) inside)
+  pub beside-matrix : (first count q k Q x : ℕ) → x < m → (x ≡ i → ⊥) → Beside first count q m i k (Q * m + x)
+  beside-matrix first count q k Q x hx other p hp hq e = other (sym (digits-mod Q hx) ∙ ap (λ z. z % m) e ∙ digits-mod (before first count p + q) inside)

@@ -1,10 +1,12 @@
 // Two planes of bits, added to a stack times a vector: two at a time, because a plane of the stack is then read and
-// written once for both. The vectors and what is computed from them are secret: no branch and no index goes by it.
+// written once for both. The vectors and what is computed from them are secret: no branch and no index goes by it. The
+// same code serves a field of any degree: in an element of fewer than eight bits the other bits are 0.
 ghost use mathlib.Core.Path.{_≡_};
 ghost use mathlib.Core.List.{List};
-ghost use Prim.Native.Nat.{ℕ, _+_, _*_, _<_, _≤_};
+ghost use Prim.Native.Nat.{ℕ, _+_, _*_, _^_, _<_, _≤_};
 ghost use lib.ListN.{length};
 ghost use lib.Bits.{bitXor, bitAnd};
+ghost use Rattle.field.specs.Degrees.{degreeOf};
 ghost use Rattle.strings.specs.Sums.{byteAt};
 ghost use Rattle.chunks.specs.Chunks.{chunk, pair, cellAt, Masks};
 ghost use Rattle.forms_columns.specs.Stacks.{planes, stackAt, twoPlanes, MasksAt};
@@ -24,7 +26,8 @@ fn add_byte(t: &mut [u8], s: usize, f: usize, x: u8, mask: u8)
 // that of α^b.
 fn absorb_byte(t: &mut [u8], p: usize, f: usize, x: u8, y: u8, masks: &[u8])
     requires { ⌜ (length (now t) ≡ planes * chunk) × (p < 7) × (f < chunk) × (length (now masks) ≡ 8 * chunk) ⌝ }
-    ensures { λ _. ⌜ ((v z : ℕ) → MasksAt v f (now (masks .entry)) → v < 256 → stackAt (now (t .exit)) f z ≡ bitXor (stackAt (now (t .entry)) f z) (twoPlanes p x y z v)) ⌝ }
+    ensures { λ _. ⌜ ((d v z : ℕ) → MasksAt v f (now (masks .entry)) → v < 2 ^ degreeOf d
+        → stackAt d (now (t .exit)) f z ≡ bitXor (stackAt d (now (t .entry)) f z) (twoPlanes d p x y z v)) ⌝ }
     ensures { λ _. ⌜ ((q g : ℕ) → (g ≡ f → ⊥) → g < chunk → cellAt (now (t .exit)) q g ≡ cellAt (now (t .entry)) q g) ⌝ }
 {
     let mut b = 0;
@@ -39,8 +42,8 @@ fn absorb_byte(t: &mut [u8], p: usize, f: usize, x: u8, y: u8, masks: &[u8])
 // The same at each byte of two planes that stand side by side.
 pub fn absorb_planes(t: &mut [u8], p: usize, both: &[u8], masks: &[u8])
     requires { ⌜ (length (now t) ≡ planes * chunk) × (p < 7) × (length (now both) ≡ pair) × (length (now masks) ≡ 8 * chunk) ⌝ }
-    ensures { λ _. ⌜ ((v : List ℕ) (f z : ℕ) → Masks v (now (masks .entry)) → byteAt v f < 256 → f < chunk
-        → stackAt (now (t .exit)) f z ≡ bitXor (stackAt (now (t .entry)) f z) (twoPlanes p (cellAt (now (both .entry)) 0 f) (cellAt (now (both .entry)) 1 f) z (byteAt v f))) ⌝ }
+    ensures { λ _. ⌜ ((d : ℕ) (v : List ℕ) (f z : ℕ) → Masks v (now (masks .entry)) → byteAt v f < 2 ^ degreeOf d → f < chunk
+        → stackAt d (now (t .exit)) f z ≡ bitXor (stackAt d (now (t .entry)) f z) (twoPlanes d p (cellAt (now (both .entry)) 0 f) (cellAt (now (both .entry)) 1 f) z (byteAt v f))) ⌝ }
 {
     let mut f = 0;
     while f < CHUNK {

@@ -5,6 +5,7 @@ use Prim.Native.Nat.{ℕ, _*_}
 use mathlib.Core.Path.{ap, _∙_}
 use denote.Ref.{now}
 use lib.Bits.{bitXor}
+use Rattle.field.specs.Degrees.{degree}
 use Rattle.strings.specs.Sums.{byteAt}
 use Rattle.lanes.specs.Lanes.{laneAt}
 use Rattle.forms_columns.specs.Stacks.{byteProduct}
@@ -27,7 +28,7 @@ slice-aggregate-add-polar : tie.Need-slice-aggregate-add-polar
 slice-aggregate-add-polar c = search needs
 
 add-polar-requires : tie.Need-add-polar-requires
-add-polar-requires c κs = search needs
+add-polar-requires c κs = (search needs, search needs, search needs, c .before .before .before .before .before .before .before .before .before .before .before .before .before .before .before .before .pre .0 .5 (c .before .before .before .before .before .before .before .before .before .before .before .before .before .before .before .before .args .k))
 
 same-length : tie.Need-same-length
 same-length c = search needs
@@ -37,12 +38,12 @@ same-length-2 c = search needs
 
 returns : tie.Need-returns
 returns c =
-    let a = c .before .before .before .before .before .before .before .before .before .before .before .before .before .before .before .before .before .before .args in
+    let a = c .before .before .before .before .before .before .before .before .before .before .before .before .before .before .before .before .before .before .before .args in
     let u = c .before .before .before .before .before .before .before .before .before .before .before .weigh in
     let done = c .before .before .add-polar in (
-      (λ e h. c .before .before .before .before .before .before .before .add-product .ensures e h ∙ ap (λ (x : ℕ). bitXor (byteAt (now (a .quad)) e) (byteProduct (laneAt (now (a .table)) (a .c) e) x)) (u .ensures e h)),
+      (λ e h. c .before .before .before .before .before .before .before .add-product .ensures e h ∙ ap (λ (x : ℕ). bitXor (byteAt (now (a .quad)) e) (byteProduct degree (laneAt (now (a .front)) (a .k) e) x)) (u .ensures e h)),
       (
-        (λ on e h. done .ensures .0 on e h ∙ ap (λ (x : ℕ). bitXor (byteAt (now (a .mid)) e) (byteAt (now (a .xs)) (a .c) * x)) (u .ensures e h)),
+        (λ on e h. done .ensures .0 on e h ∙ ap (λ (x : ℕ). bitXor (byteAt (now (a .mid)) e) (byteAt (now (a .xs)) (a .k) * x)) (u .ensures e h)),
         done .ensures .1,
       ),
     )

@@ -1,43 +1,59 @@
 -- `forms_columns::finish` meets its contract. The invariant: the columns of the halves below h are added.
 -- Assumes nothing.
 use borrow.Author.Needs.{needs}
-use Prim.Native.Nat.{ℕ, _+_, _*_, _-_, _/_, _%_, _≤_, _<_}
+use Prim.Native.Nat.{ℕ, _+_, _*_, _-_, _≤_, _<_}
 use mathlib.Core.List.{List}
 use mathlib.Core.Bool.{true, false}
-use mathlib.Core.Path.{_≡_, refl, sym, ap₂, _∙_}
-use native.Mathlib.Nat.{add-assoc}
+use mathlib.Core.Path.{_≡_, refl, sym, ap, ap₂, _∙_}
 use native.Mathlib.Omega.{arith}
 use denote.Ref.{now}
 use lib.Arith.{digits-div, digits-mod}
+use lib.Dec.{lit<}
 use lib.ListN.{length}
-use lib.Bits.{bitXor, xor-zero-r}
-use Rattle.strings.specs.Sums.{byteAt, bitOf, xorSum}
-use Rattle.lanes.specs.Lanes.{lanes, laneAt}
+use lib.Bits.{xor-zero-r}
+use Rattle.field.specs.Degrees.{degree}
+use Rattle.strings.specs.Sums.{byteAt, xorSum}
+use Rattle.strings.proofs.Rows.{row-byte, row-lt}
+use Rattle.lanes.specs.Lanes.{lanes, laneAt, LanesAdded}
 use Rattle.chunks.specs.Chunks.{chunk}
-use Rattle.forms_columns.specs.Stacks.{alpha, byteProduct, planes, foldOf}
+use Rattle.forms_columns.specs.Stacks.{byteProduct, planes, foldOf, columnOf, valueOf, coordinateOf}
 use Rattle.forms_columns.proofs.ColumnLaws.{fold-is, eight-more}
 use Rattle.forms_columns.proofs.finish.Statement.{statement}
 use Rattle.forms_columns.proofs.finish.Tie as tie
 
--- the value of column s of a panel, and what it adds
-abbrev column : List ℕ → ℕ → ℕ → ℕ
-column T e s = foldOf T e (s / 8) (s % 8)
-
+-- what column s of a panel adds
 abbrev quadTerm : List ℕ → ℕ → List ℕ → ℕ → ℕ → ℕ
-quadTerm stacks panel table e s = byteProduct (laneAt table (panel * 16 + s) e) (column stacks e s)
+quadTerm stacks panel vs e s = byteProduct degree (coordinateOf vs e (panel * 16 + s)) (columnOf degree stacks e s)
 
 abbrev midTerm : List ℕ → ℕ → List ℕ → ℕ → ℕ → ℕ
-midTerm stacks panel xs e s = byteAt xs (panel * 16 + s) * column stacks e s
+midTerm stacks panel xs e s = byteAt xs (panel * 16 + s) * columnOf degree stacks e s
 
 column-is : (rows T : List ℕ) (e h z : ℕ) → z < 8 → ((s : ℕ) → s < planes → laneAt rows s e ≡ xorSum 16 (λ f. byteAt T (e * (planes * chunk) + (s * chunk + h * 16 + f))))
-    → xorSum planes (λ s. bitOf (laneAt rows s e) z * alpha s) ≡ column T e (h * 8 + z)
-column-is rows T e h z k are = fold-is rows T e h z are ∙ sym (ap₂ (foldOf T e) (digits-div h k) (digits-mod h k))
+    → valueOf degree rows z e ≡ columnOf degree T e (h * 8 + z)
+column-is rows T e h z k are = fold-is rows T e h z are ∙ sym (ap₂ (foldOf degree T e) (digits-div h k) (digits-mod h k))
 
 abbrev Inv-loop : tie.InvT-loop
-Inv-loop quad₀ mid₀ stacks panel tau n table xs polar h₀ quad mid h = (h ≤ 2) × (length quad ≡ lanes) × (length mid ≡ lanes) × ((e : ℕ) → e < tau → byteAt quad e ≡ bitXor (byteAt quad₀ e) (xorSum (h * 8) (quadTerm stacks panel table e))) × (polar ≡ true → (e : ℕ) → e < tau → byteAt mid e ≡ bitXor (byteAt mid₀ e) (xorSum (h * 8) (midTerm stacks panel xs e))) × (polar ≡ false → mid ≡ mid₀)
+Inv-loop quad₀ mid₀ stacks panel tau vectors xs polar front weights bits h₀ quad mid h =
+    (h ≤ 2) × (length quad ≡ lanes) × (length mid ≡ lanes) × LanesAdded tau (λ e. xorSum (h * 8) (quadTerm stacks panel vectors e)) quad₀ quad
+    × (polar ≡ true → LanesAdded tau (λ e. xorSum (h * 8) (midTerm stacks panel xs e)) mid₀ mid) × (polar ≡ false → mid ≡ mid₀)
 
 abbrev μ-loop : tie.MeasureT-loop
-μ-loop quad₀ mid₀ stacks panel tau n table xs polar h₀ quad mid h = 2 - h
+μ-loop quad₀ mid₀ stacks panel tau vectors xs polar front weights bits h₀ quad mid h = 2 - h
+
+slice-aggregate-fill-front : tie.Need-slice-aggregate-fill-front Inv-loop μ-loop
+slice-aggregate-fill-front c = search needs
+
+mul-fill-front : tie.Need-mul-fill-front Inv-loop μ-loop
+mul-fill-front c = search needs
+
+fill-front-requires : tie.Need-fill-front-requires Inv-loop μ-loop
+fill-front-requires c κs = search needs
+
+fill-weights-requires : tie.Need-fill-weights-requires Inv-loop μ-loop
+fill-weights-requires c κs = search needs
+
+row-at-requires : tie.Need-row-at-requires Inv-loop μ-loop
+row-at-requires c κs = search needs
 
 loop-holds : tie.Need-loop-holds Inv-loop μ-loop
 unfolding xorSum
@@ -53,20 +69,19 @@ gather-requires c κs = search needs
 slice-aggregate-add-columns : tie.Need-slice-aggregate-add-columns Inv-loop μ-loop
 slice-aggregate-add-columns c = search needs
 
-mul-add-columns : tie.Need-mul-add-columns Inv-loop μ-loop
-mul-add-columns c = search needs
+slice-aggregate-add-columns-2 : tie.Need-slice-aggregate-add-columns-2 Inv-loop μ-loop
+slice-aggregate-add-columns-2 c = search needs
 
-mul-add-columns-2 : tie.Need-mul-add-columns-2 Inv-loop μ-loop
-mul-add-columns-2 c = search needs
-
-add-add-columns : tie.Need-add-add-columns Inv-loop μ-loop
-add-add-columns c = search needs
+slice-aggregate-add-columns-3 : tie.Need-slice-aggregate-add-columns-3 Inv-loop μ-loop
+slice-aggregate-add-columns-3 c = search needs
 
 add-columns-requires : tie.Need-add-columns-requires Inv-loop μ-loop
 add-columns-requires c κs =
-    let l = c .before .before .before .before .before .before .before .loop in
-    let pre = c .before .before .before .before .before .before .before .before .before .before .before .before .before .pre in
-    (l .inv .1, l .inv .2, search needs, pre .4, omega arith, pre .6)
+    let a = c .before .before .before .before .before .before .before .before .before .before .before .before .before .before .before .before .before .before .before .before .before .args in
+    let l = c .before .before .before .before .before .before .before .before .before .loop in
+    let bits = c .before .before .before .before .before .before .before .before .before .before .row-at .ensures in
+    let small : (i : ℕ) → byteAt (now (c .before .before .before .before .before .before .before .before .before .before .row-at .result)) i < 2 = rw (bits .0) (row-lt (now (a .xs)) 16 (a .panel) 2 (lit< tt) (c .before .before .before .before .before .before .before .before .before .before .before .before .before .before .before .before .before .before .before .before .before .pre .7)) in
+    ((l .inv .1, l .inv .2, search needs, search needs, bits .1, small, c .before .before .before .before .before .before .before .before .before .before .before .fill-weights .ensures), omega arith)
 
 add-h : tie.Need-add-h Inv-loop μ-loop
 add-h c = search needs
@@ -76,25 +91,26 @@ loop-less c = search needs
 
 loop-again : tie.Need-loop-again Inv-loop μ-loop
 loop-again c =
-    let a = c .before .before .before .before .before .before .before .before .before .before .before .before .before .before .before .before .before .before .args in
-    let l = c .before .before .before .before .before .before .before .before .before .before .before .before .loop in
-    let most : a .tau ≤ lanes = c .before .before .before .before .before .before .before .before .before .before .before .before .before .before .before .before .before .before .pre .2 in
-    let rows = c .before .before .before .before .before .before .before .before .before .gather in
+    let a = c .before .before .before .before .before .before .before .before .before .before .before .before .before .before .before .before .before .before .before .before .before .before .before .before .before .before .args in
+    let l = c .before .before .before .before .before .before .before .before .before .before .before .before .before .before .loop in
+    let most : a .tau ≤ lanes = c .before .before .before .before .before .before .before .before .before .before .before .before .before .before .before .before .before .before .before .before .before .before .before .before .before .before .pre .2 in
+    let rows = c .before .before .before .before .before .before .before .before .before .before .before .gather in
+    let front = c .before .before .before .before .before .before .before .before .before .before .before .before .before .before .before .before .before .before .before .fill-front in
+    let bits = c .before .before .before .before .before .before .before .before .before .before .before .before .before .before .before .row-at .ensures .0 in
     let done = c .before .before .before .before .add-columns in
-    let value : (e : ℕ) → e < a .tau → (z : ℕ) → z < 8 → xorSum planes (λ s. bitOf (laneAt (rows .last .0) s e) z * alpha s) ≡ column (now (a .stacks)) e (l .h * 8 + z) =
-    λ e h z k. column-is (rows .last .0) (now (a .stacks)) e (l .h) z k (λ s q. rows .ensures s e q h) in
-    let place = add-assoc (a .panel * 16) (l .h * 8) in (
-      omega (arith, c .before .before .before .before .before .before .before .before .before .before .before .loop-test .taken),
+    let value : (e : ℕ) → e < a .tau → (z : ℕ) → z < 8 → valueOf degree (rows .last .0) z e ≡ columnOf degree (now (a .stacks)) e (l .h * 8 + z) =
+    λ e h z k. column-is (rows .last .0) (now (a .stacks)) e (l .h) z k (λ s q. rows .ensures s e q h) in (
+      omega (arith, c .before .before .before .before .before .before .before .before .before .before .before .before .before .loop-test .taken),
       done .kept .0 ∙ l .inv .1,
       done .kept .1 .0 ∙ l .inv .2,
       (λ e h.
           done .ensures .0 e (omega arith)
-          ∙ eight-more (byteAt (now (a .quad)) e) (byteAt (l .quad) e) (l .h) (quadTerm (now (a .stacks)) (a .panel) (now (a .table)) e) _ (l .inv .3 e h)
-          (λ z k. ap₂ (λ (i x : ℕ). byteProduct (laneAt (now (a .table)) i e) x) (place z) (value e h z k))),
+          ∙ eight-more (byteAt (now (a .quad)) e) (byteAt (l .quad) e) (l .h) (quadTerm (now (a .stacks)) (a .panel) (now (a .vectors)) e) _ (l .inv .3 e h)
+          (λ z k. ap₂ (byteProduct degree) (front .ensures (l .h * 8 + z) e (omega arith) h) (value e h z k))),
       (λ on e h.
           done .ensures .1 .0 on e (omega arith)
           ∙ eight-more (byteAt (now (a .mid)) e) (byteAt (l .mid) e) (l .h) (midTerm (now (a .stacks)) (a .panel) (now (a .xs)) e) _ (l .inv .4 on e h)
-          (λ z k. ap₂ (λ (i x : ℕ). byteAt (now (a .xs)) i * x) (place z) (value e h z k))),
+          (λ z k. ap₂ (λ (x y : ℕ). x * y) (ap (λ (r : List ℕ). byteAt r (l .h * 8 + z)) bits ∙ row-byte (now (a .xs)) 16 (a .panel) (l .h * 8 + z) (omega arith)) (value e h z k))),
       (λ off. done .ensures .1 .1 off ∙ l .inv .5 off),
     )
 
@@ -116,13 +132,17 @@ finish-spec =
     (tie.spec
     Inv-loop
     μ-loop
+    slice-aggregate-fill-front
+    mul-fill-front
+    fill-front-requires
+    fill-weights-requires
+    row-at-requires
     loop-holds
     slice-aggregate-gather
     gather-requires
     slice-aggregate-add-columns
-    mul-add-columns
-    mul-add-columns-2
-    add-add-columns
+    slice-aggregate-add-columns-2
+    slice-aggregate-add-columns-3
     add-columns-requires
     add-h
     loop-less

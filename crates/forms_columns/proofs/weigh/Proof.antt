@@ -1,5 +1,4 @@
--- `forms_columns::weigh` meets its contract. The invariant: the planes below s are added, each times its power of α,
--- which the weight is.
+-- `forms_columns::weigh` meets its contract. The invariant: the planes below s are added, each times its power of α.
 -- Assumes nothing.
 use borrow.Author.Needs.{needs}
 use Prim.Native.Nat.{ℕ, _*_, _-_, _≤_, _<_}
@@ -9,38 +8,37 @@ use native.Mathlib.Omega.{arith}
 use denote.Ref.{now}
 use lib.ListN.{length}
 use lib.Bits.{bitXor}
+use Rattle.field.specs.Degrees.{degree}
 use Rattle.strings.specs.Sums.{byteAt, bitOf, xorSum}
 use Rattle.strings.proofs.Rows.{row-byte}
 use Rattle.strings.proofs.SumLaws.{sum-more}
 use Rattle.lanes.specs.Lanes.{lanes, laneAt}
-use Rattle.forms_columns.specs.Stacks.{alpha, byteProduct, planes}
-use Rattle.forms_columns.proofs.ProductLaws.{alpha-zero, alpha-more}
+use Rattle.forms_columns.specs.Stacks.{alpha, planes}
 use Rattle.forms_columns.proofs.weigh.Statement.{statement}
 use Rattle.forms_columns.proofs.weigh.Tie as tie
 
 abbrev Inv-loop : tie.InvT-loop
-Inv-loop u₀ rows z weight₀ s₀ u weight s = (s ≤ planes) × (length u ≡ lanes) × (weight ≡ alpha s) × ((e : ℕ) → e < lanes → byteAt u e ≡ xorSum s (λ i. bitOf (laneAt rows i e) z * alpha i))
+Inv-loop u₀ rows z weights s₀ u s =
+    (s ≤ planes) × (length u ≡ lanes) × ((e : ℕ) → e < lanes → byteAt u e ≡ xorSum s (λ i. bitOf (laneAt rows i e) z * alpha degree i))
 
 abbrev μ-loop : tie.MeasureT-loop
-μ-loop u₀ rows z weight₀ s₀ u weight s = planes - s
+μ-loop u₀ rows z weights s₀ u s = planes - s
 
 clear-requires : tie.Need-clear-requires Inv-loop μ-loop
 clear-requires c κs = search needs
 
 loop-holds : tie.Need-loop-holds Inv-loop μ-loop
 unfolding xorSum
-loop-holds c =
-    (search needs, search needs, alpha-zero, λ e h. c .before .before .clear .ensures e (omega arith))
+loop-holds c = (search needs, search needs, λ e h. c .before .before .clear .ensures e (omega arith))
 
 row-at-requires : tie.Need-row-at-requires Inv-loop μ-loop
 row-at-requires c κs = search needs
 
-add-weighted-requires : tie.Need-add-weighted-requires Inv-loop μ-loop
-add-weighted-requires c κs =
-    (c .before .before .before .loop .inv .1, c .row-at .ensures .1, c .before .before .before .before .before .before .before .before .before .before .pre .2)
+shared-slice-read-add-weighted : tie.Need-shared-slice-read-add-weighted Inv-loop μ-loop
+shared-slice-read-add-weighted c = search needs
 
-multiply-requires : tie.Need-multiply-requires Inv-loop μ-loop
-multiply-requires c κs = search needs
+add-weighted-requires : tie.Need-add-weighted-requires Inv-loop μ-loop
+add-weighted-requires c κs = (c .before .before .before .before .loop .inv .1, c .before .row-at .ensures .1, c .before .before .before .before .before .before .before .before .before .before .before .before .pre .2)
 
 add-s : tie.Need-add-s Inv-loop μ-loop
 add-s c = search needs
@@ -49,20 +47,18 @@ loop-less : tie.Need-loop-less Inv-loop μ-loop
 loop-less c = search needs
 
 loop-again : tie.Need-loop-again Inv-loop μ-loop
-unfolding byteProduct
 loop-again c =
-    let a = c .before .before .before .before .before .before .before .before .before .before .before .before .before .before .args in
+    let a = c .before .before .before .before .before .before .before .before .before .before .before .before .before .before .before .args in
     let l = c .before .before .before .before .before .before .before .loop in
     let row = c .before .before .before .before .row-at in
-    let done = c .before .before .before .add-weighted in (
+    let done = c .before .before .add-weighted in (
       omega arith,
       done .kept .0 ∙ l .inv .1,
-      c .multiply .ensures ∙ ap (byteProduct 2) (l .inv .2) ∙ alpha-more (l .s),
       (λ e h.
           done .ensures e h
-          ∙ ap₂ (λ (x y : ℕ). bitXor x y) (l .inv .3 e h)
-          (ap₂ (λ (x y : ℕ). bitOf x (a .z) * y) (ap (λ (r : List ℕ). byteAt r e) (row .ensures .0) ∙ row-byte (now (a .rows)) lanes (l .s) e h) (l .inv .2))
-          ∙ sym (sum-more (l .s) (λ i. bitOf (laneAt (now (a .rows)) i e) (a .z) * alpha i))),
+          ∙ ap₂ (λ (x y : ℕ). bitXor x y) (l .inv .2 e h)
+          (ap₂ (λ (x y : ℕ). bitOf x (a .z) * y) (ap (λ (r : List ℕ). byteAt r e) (row .ensures .0) ∙ row-byte (now (a .rows)) lanes (l .s) e h) (c .before .before .before .before .before .before .before .before .before .before .before .before .before .before .before .pre .3 .1 (l .s) (omega arith)))
+          ∙ sym (sum-more (l .s) (λ i. bitOf (laneAt (now (a .rows)) i e) (a .z) * alpha degree i))),
     )
 
 same-length : tie.Need-same-length Inv-loop μ-loop
@@ -72,7 +68,7 @@ returns : tie.Need-returns Inv-loop μ-loop
 returns c e h =
     let l = c .before .loop in
     let end : l .s ≡ planes = omega arith in
-    (rw end at (l .inv .3)) e h
+    (rw end at (l .inv .2)) e h
 
 pub weigh-spec : {M : Type 1} → statement M
 weigh-spec =
@@ -83,8 +79,8 @@ weigh-spec =
     clear-requires
     loop-holds
     row-at-requires
+    shared-slice-read-add-weighted
     add-weighted-requires
-    multiply-requires
     add-s
     loop-less
     loop-again

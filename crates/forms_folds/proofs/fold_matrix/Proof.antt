@@ -11,7 +11,8 @@ reflect-all-requires c κs = search needs
 fold-all-requires : tie.Need-fold-all-requires
 fold-all-requires c κs =
     let pre = c .before .before .before .before .before .before .before .before .before .pre in
-    (pre .0, pre .1, pre .3, pre .4, pre .5, pre .6, omega (arith, pre .7, c .before .before .before .before .reflect-all .kept .0), pre .8, c .before .before .before .before .reflect-all .ensures)
+    let turned = c .before .before .before .before .reflect-all in
+    ((pre .0, pre .1, pre .2, pre .3, omega (arith, pre .4, turned .kept .0), pre .5), turned .ensures)
 
 same-length : tie.Need-same-length
 same-length c = search needs

@@ -18,14 +18,14 @@ use Rattle.forms_planes.proofs.absorb_byte.Statement.{statement}
 use Rattle.forms_planes.proofs.absorb_byte.Tie as tie
 
 abbrev Inv-loop : tie.InvT-loop
-Inv-loop t₀ p f x y masks b₀ t b = (b ≤ 8) × (length t ≡ planes * chunk) × ((v z : ℕ) → ((i : ℕ) → i < 8 → byteAt masks (i * chunk + f) ≡ bitOf v i * 255) → stackAt t f z ≡ bitXor (stackAt t₀ f z) (xorSum b (term p (bitOf x z) (bitOf y z) v))) × ((q g : ℕ) → (g ≡ f → ⊥) → g < chunk → cellAt t q g ≡ cellAt t₀ q g)
+Inv-loop t₀ p f x y masks b₀ t b = (b ≤ 8) × (length t ≡ planes * chunk) × ((d v z : ℕ) → ((i : ℕ) → i < 8 → byteAt masks (i * chunk + f) ≡ bitOf v i * 255) → stackAt d t f z ≡ bitXor (stackAt d t₀ f z) (xorSum b (term d p (bitOf x z) (bitOf y z) v))) × ((q g : ℕ) → (g ≡ f → ⊥) → g < chunk → cellAt t q g ≡ cellAt t₀ q g)
 
 abbrev μ-loop : tie.MeasureT-loop
 μ-loop t₀ p f x y masks b₀ t b = 8 - b
 
 loop-holds : tie.Need-loop-holds Inv-loop μ-loop
 unfolding xorSum
-loop-holds c = (search needs, search needs, (λ v z is. sym (xor-zero-r _)), λ q g other h. refl)
+loop-holds c = (search needs, search needs, (λ d v z is. sym (xor-zero-r _)), λ q g other h. refl)
 
 mul-mask : tie.Need-mul-mask Inv-loop μ-loop
 mul-mask c = search needs
@@ -67,11 +67,11 @@ loop-again c =
     let lt : b < 8 = omega (arith, c .before .before .before .before .before .before .before .before .before .loop-test .taken) in (
       omega (arith, lt),
       two .kept .0 ∙ one .kept .0 ∙ l .inv .1,
-      (λ v z is.
-          two-added (stackAt (l .t) (a .f) z) _ _ (bitOf v b * (bitOf (a .x) z * alpha (a .p + b))) (bitOf v b * (bitOf (a .y) z * alpha (a .p + 1 + b)))
-          (masked-added (l .t) (one .last .0) (a .p + b) (a .x) _ (bitOf v b) (a .f) z (omega arith) (omega arith) (bitOf-lt v b) (is b lt) (one .ensures .0) (λ r other. one .ensures .1 r (a .f) (λ e k. other e) (omega arith)))
-          (masked-added (one .last .0) (two .last .0) (a .p + 1 + b) (a .y) _ (bitOf v b) (a .f) z (omega arith) (omega arith) (bitOf-lt v b) (is b lt) (two .ensures .0) (λ r other. two .ensures .1 r (a .f) (λ e k. other e) (omega arith)))
-          ∙ sum-step (stackAt (now (a .t)) (a .f) z) (stackAt (l .t) (a .f) z) b (term (a .p) (bitOf (a .x) z) (bitOf (a .y) z) v) (l .inv .2 v z is)),
+      (λ d v z is.
+          two-added (stackAt d (l .t) (a .f) z) _ _ (bitOf v b * (bitOf (a .x) z * alpha d (a .p + b))) (bitOf v b * (bitOf (a .y) z * alpha d (a .p + 1 + b)))
+          (masked-added d (l .t) (one .last .0) (a .p + b) (a .x) _ (bitOf v b) (a .f) z (omega arith) (omega arith) (bitOf-lt v b) (is b lt) (one .ensures .0) (λ r other. one .ensures .1 r (a .f) (λ e k. other e) (omega arith)))
+          (masked-added d (one .last .0) (two .last .0) (a .p + 1 + b) (a .y) _ (bitOf v b) (a .f) z (omega arith) (omega arith) (bitOf-lt v b) (is b lt) (two .ensures .0) (λ r other. two .ensures .1 r (a .f) (λ e k. other e) (omega arith)))
+          ∙ sum-step (stackAt d (now (a .t)) (a .f) z) (stackAt d (l .t) (a .f) z) b (term d (a .p) (bitOf (a .x) z) (bitOf (a .y) z) v) (l .inv .2 d v z is)),
       (λ q g other h. two .ensures .1 q g (λ e. other) h ∙ one .ensures .1 q g (λ e. other) h ∙ l .inv .3 q g other h),
     )
 
@@ -83,7 +83,7 @@ returns c =
     let a = c .before .before .before .before .args in
     let l = c .before .loop in
     let end : l .b ≡ 8 = omega arith in
-    ((λ v z is hv. (rw end at (l .inv .2)) v z is ∙ ap (bitXor (stackAt (now (a .t)) (a .f) z)) (two-planes (a .p) (bitOf (a .x) z) (bitOf (a .y) z) v (bitOf-lt _ z) (bitOf-lt _ z) hv)), l .inv .3)
+    ((λ d v z is hv. (rw end at (l .inv .2)) d v z is ∙ ap (bitXor (stackAt d (now (a .t)) (a .f) z)) (two-planes d (a .p) (bitOf (a .x) z) (bitOf (a .y) z) v (bitOf-lt _ z) (bitOf-lt _ z) hv)), l .inv .3)
 
 pub absorb-byte-spec : {M : Type 1} → statement M
 absorb-byte-spec =

@@ -11,6 +11,7 @@ use lib.ListN.{length}
 use lib.Bits.{bitXor, xor-zero-r}
 use Rattle.protocol.specs.Lists.{blockAt}
 use Rattle.protocol.specs.Shape.{mostVariables}
+use Rattle.field.specs.Degrees.{degree}
 use Rattle.strings.specs.Sums.{byteAt, xorSum}
 use Rattle.strings.proofs.Rows.{row-end}
 use Rattle.strings.proofs.XorLaws.{xor-assoc}
@@ -28,7 +29,7 @@ use Rattle.forms_batching.proofs.lines.add_lines.Tie as tie
 
 -- what coordinate c gives
 abbrev term : List ℕ → ℕ → (ℕ → ℕ → ℕ) → List ℕ → ℕ → ℕ → ℕ
-term L m χ vs e c = byteProduct (byteAt vs (e * mostVariables + c)) (lineSum L m χ e c)
+term L m χ vs e c = byteProduct degree (byteAt vs (e * mostVariables + c)) (lineSum L m χ e c)
 
 abbrev Inv-loop : tie.InvT-loop
 Inv-loop mid₀ sums₀ lines words vectors n m tau groups g₀ mid sums g =
@@ -108,8 +109,8 @@ loop-again c =
       (λ χ e small chosen he.
           done .ensures S (λ q. upTo m (χ q)) m e (weighed-rows S (filled .last .0) (now (a .words)) χ m (a .s .groups) (a .s .tau) tabled long (pre .6 .1) (pre .6 .0 .0) small chosen) he
           ∙ ap₂ bitXor (l .inv .3 χ e small chosen he)
-          (sum-same (least .result) _ (λ j. term L m χ vs e (from + j)) (λ j h. ap (byteProduct (byteAt vs (e * mostVariables + (from + j)))) (line-sum L χ m e (l .g) j (omega (arith, h, least .ensures .0))))
-          ∙ products-table n from (least .result) (term L m χ vs e) (pre .3) (least .ensures .0) end (λ j h k. ap (λ (v : ℕ). byteProduct v (lineSum L m χ e j)) (pre .9 e j he h (omega (arith, k, inside))) ∙ product-zero _))
+          (sum-same (least .result) _ (λ j. term L m χ vs e (from + j)) (λ j h. ap (byteProduct degree (byteAt vs (e * mostVariables + (from + j)))) (line-sum L χ m e (l .g) j (omega (arith, h, least .ensures .0))))
+          ∙ products-table n from (least .result) (term L m χ vs e) (pre .3) (least .ensures .0) end (λ j h k. ap (λ (v : ℕ). byteProduct degree v (lineSum L m χ e j)) (pre .9 e j he h (omega (arith, k, inside))) ∙ product-zero degree _))
           ∙ xor-assoc (byteAt (now (a .mid)) e) (xorSum from (upTo n (term L m χ vs e))) (xorSum chunkBits (λ j. upTo n (term L m χ vs e) (from + j)))
           ∙ ap (bitXor (byteAt (now (a .mid)) e)) (sym (sum-parts from chunkBits (upTo n (term L m χ vs e))) ∙ ap (λ (k : ℕ). xorSum k (upTo n (term L m χ vs e))) next)),
     )

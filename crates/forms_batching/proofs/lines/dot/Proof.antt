@@ -7,6 +7,7 @@ use mathlib.Core.Path.{_≡_, refl, sym, ap₂, _∙_}
 use native.Mathlib.Omega.{arith}
 use denote.Ref.{now}
 use lib.Bits.{bitXor}
+use Rattle.field.specs.Degrees.{fieldOf, degree}
 use Rattle.strings.specs.Sums.{byteAt, xorSum}
 use Rattle.strings.proofs.SumLaws.{sum-more}
 use Rattle.forms_columns.specs.Stacks.{byteProduct}
@@ -14,7 +15,7 @@ use Rattle.forms_batching.proofs.lines.dot.Statement.{statement}
 use Rattle.forms_batching.proofs.lines.dot.Tie as tie
 
 abbrev term : List ℕ → List ℕ → ℕ → ℕ
-term f t c = byteProduct (byteAt f c) (byteAt t c)
+term f t c = byteProduct degree (byteAt f c) (byteAt t c)
 
 abbrev Inv-loop : tie.InvT-loop
 Inv-loop f t count sum₀ c₀ sum c = (c ≤ count) × (sum ≡ xorSum c (term f t))
@@ -42,7 +43,7 @@ loop-less : tie.Need-loop-less Inv-loop μ-loop
 loop-less c = search needs
 
 loop-again : tie.Need-loop-again Inv-loop μ-loop
-unfolding byteProduct
+unfolding byteProduct fieldOf
 loop-again c =
     let a = c .before .before .before .before .before .before .before .args in
     let l = c .before .before .before .before .loop in

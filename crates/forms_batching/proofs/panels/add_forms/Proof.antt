@@ -1,66 +1,33 @@
--- `forms_batching::panels::add_forms` meets its contract. The invariant: what the first panels give is added. What all
--- of them come to is `FoldLaws`.
+-- `forms_batching::panels::add_forms` meets its contract. The invariant: of each panel, as many sixteens of rows are
+-- added as the walk over the pieces has passed. What all of them come to is `FoldLaws`.
 -- Assumes nothing.
 use borrow.Author.Needs.{needs}
 use Prim.Native.Nat.{ℕ, _+_, _*_, _-_, _/_, _%_, _≤_, _<_}
 use mathlib.Core.List.{List}
 use mathlib.Core.Bool.{Bool, true, false}
 use mathlib.Core.Path.{_≡_, refl, sym, ap, ap₂, _∙_}
-use native.Mathlib.Decide.{decLt}
+use native.Mathlib.Nat.{mul-le-mul-right}
 use native.Mathlib.Omega.{arith}
 use denote.Ref.{now}
 use lib.ListN.{length}
 use lib.Bits.{bitXor, xor-zero-r}
-use Rattle.protocol.specs.Lists.{blockAt}
-use Rattle.strings.specs.Sums.{byteAt, bitOf, xorSum}
-use Rattle.strings.proofs.SumLaws.{sum-same, sum-step}
-use Rattle.lanes.specs.Lanes.{lanes, laneAt}
-use Rattle.forms_choices.specs.Entries.{IsBytes, ChosenAll}
-use Rattle.forms_folds.specs.Folds.{foldedBit, Folded, FoldedSet}
-use Rattle.forms_columns.specs.Stacks.{byteProduct, columnOf}
 use Rattle.protocol.specs.Shape.{mostVariables}
-use Rattle.forms_batching.specs.Batched.{leftSum}
-use Rattle.forms_batching.specs.Lines.{lineByte, lineBit, leftBit, lineSum, LinesBeside}
+use Rattle.field.specs.Degrees.{degree}
+use Rattle.strings.specs.Sums.{byteAt, xorSum}
+use Rattle.lanes.specs.Lanes.{lanes}
+use Rattle.chunks.specs.Chunks.{chunk}
+use Rattle.forms_choices.specs.Entries.{IsBytes, ChosenAll}
+use Rattle.forms_folds.specs.Folds.{height, Folded, FoldedSet}
+use Rattle.forms_columns.specs.Stacks.{byteProduct, planes, columnOf, coordinateOf}
+use Rattle.forms_batching.specs.Batched.{SumsRoom, rowsSum, leftSum}
+use Rattle.forms_batching.specs.Lines.{MasksOf, lineBit, lineSum}
+use Rattle.forms_batching.specs.Pieces.{panelsOf, endOf, rowsOf, pieceEnd, PieceAt, Walk, Walked}
 use Rattle.forms_batching.proofs.FoldLaws.{form-is, polar-is}
-use Rattle.forms_batching.proofs.StackLaws.{lane-past}
-use Rattle.forms_batching.proofs.PanelLaws.{quad-is, mid-is}
-use Rattle.forms_batching.proofs.LeftLaws.{Added, AddedUpTo, PartFolded, left-none, added-start, added-more, added-beside, added-end, lines-added, both-halves}
+use Rattle.forms_batching.proofs.PanelLaws.{partTerm, quad-is, mid-is, term-parts, terms-none, terms-all}
+use Rattle.forms_batching.proofs.LeftLaws.{Added, AddedUpTo, PartFolded, left-none, added-start, added-end, lines-added, both-halves}
+use Rattle.forms_batching.proofs.PieceLaws.{piece-of, rows-height, walkMeasure, end-bounds, end-under, walk-start, walk-end, back-walked, walked-here, sum-walked, next-walked, next-walk, next-inside, next-less, next-held, part-folded, lines-walked}
 use Rattle.forms_batching.proofs.panels.add_forms.Statement.{statement}
 use Rattle.forms_batching.proofs.panels.add_forms.Tie as tie
-
--- what panel J gives
-abbrev term : ℕ → ℕ → ℕ → List ℕ → List ℕ → (ℕ → ℕ → ℕ) → ℕ → ℕ → ℕ
-term n w m A T χ e J = xorSum 16 (λ s. byteProduct (laneAt T (J * 16 + s) e) (leftSum w (n * w) m A χ e (λ ρ. laneAt T ρ e) J (J * 16 + s)))
-
-abbrev half : ℕ → ℕ → ℕ → List ℕ → List ℕ → List ℕ → (ℕ → ℕ → ℕ) → ℕ → ℕ → ℕ
-half n w m A T xs χ e J = xorSum 16 (λ s. byteProduct (byteAt xs (J * 16 + s)) (leftSum w (n * w) m A χ e (λ ρ. laneAt T ρ e) J (J * 16 + s)))
-
--- a panel that is not the first of a set is of the set of the panel before it
-same-set : (J : ℕ) → ((J + 1) % 4 ≡ 0 → ⊥) → (J + 1) / 4 * 4 ≡ J / 4 * 4
-same-set J later = go (decLt ((J + 1) % 4) 1)
-  where
-    go : Dec ((J + 1) % 4 < 1) → (J + 1) / 4 * 4 ≡ J / 4 * 4
-    go (yes h) = let none : (J + 1) % 4 ≡ 0 = omega arith in absurd (later none)
-    go (no h) = omega arith
-
--- the rows of a panel, as one part
-one-part : (n w m : ℕ) (A cells : List ℕ) (J : ℕ) → Folded n w m A J cells → PartFolded n w m A J 0 (J + 1) cells
-one-part n w m A cells J loaded q i h f z hq hi hh hf hz row col =
-    let same : q * 16 + f ≡ (0 + q) * 16 + f = omega arith in
-    loaded q i h f z (omega arith) hi hh hf hz (omega arith) col ∙ ap (λ k. foldedBit w (blockAt A (n * w) i) k (J * 16 + (h * 8 + z))) same
-
--- one panel more
-lines-more : (n w m : ℕ) (A cells : List ℕ) (J : ℕ) → Folded n w m A J cells → (x : ℕ → ℕ) → ((ρ : ℕ) → n ≤ ρ → x ρ ≡ 0) → (L₀ L L′ : List ℕ)
-    → ((i h z : ℕ) → i < m → h < 2 → z < 8 → bitOf (lineByte L′ m i (J * 2 + h)) z ≡ bitXor (bitOf (lineByte L m i (J * 2 + h)) z) (leftBit cells m x i 0 (J + 1) h z))
-    → LinesBeside m J L L′ → ((i c : ℕ) → i < m → c < n → c < J * 16 → AddedUpTo w (n * w) m A x L₀ L i c (c / 16 + 1)) → ((i c : ℕ) → i < m → c < n → J * 16 ≤ c → AddedUpTo w (n * w) m A x L₀ L i c 0)
-    → (i c : ℕ) → i < m → c < n → c < (J + 1) * 16 → AddedUpTo w (n * w) m A x L₀ L′ i c (c / 16 + 1)
-lines-more n w m A cells J loaded x none L₀ L L′ here beside old rest i c hi hc l = go (decLt c (J * 16))
-  where
-    go : Dec (c < J * 16) → AddedUpTo w (n * w) m A x L₀ L′ i c (c / 16 + 1)
-    go (yes less) = added-beside w (n * w) A x i m L₀ L L′ J c (c / 16 + 1) hi (λ e. omega arith) beside (old i c hi hc less)
-    go (no past) =
-        let all : 0 + (J + 1) ≡ c / 16 + 1 = omega arith in
-        rw all at (added-more n w m A cells J 0 (J + 1) (one-part n w m A cells J loaded) x none L₀ L L′ here i c hi hc (omega arith) (rest i c hi hc (omega arith)))
 
 -- where the polar form is not asked for, what would be added is 0
 all-added : (asked : Bool) (w size m : ℕ) (A xs L₀ L : List ℕ) (i c : ℕ) → (asked ≡ true → Added w size m A (byteAt xs) L₀ L i c) → (asked ≡ false → L ≡ L₀) → (asked ≡ false → (k : ℕ) → byteAt xs k ≡ 0) → Added w size m A (byteAt xs) L₀ L i c
@@ -68,59 +35,118 @@ all-added true w size m A xs L₀ L i c on off none = on refl
 all-added false w size m A xs L₀ L i c on off none =
     ap (λ l. lineBit l m i c) (off refl) ∙ sym (ap (bitXor (lineBit L₀ m i c)) (left-none w size A (byteAt xs) i c (none refl)) ∙ xor-zero-r _)
 
+-- what r sixteens of rows of panel J give: to the form, and to half of the polar form
+abbrev quadTerm : ℕ → ℕ → ℕ → List ℕ → List ℕ → (ℕ → ℕ → ℕ) → ℕ → ℕ → ℕ → ℕ
+quadTerm n w m A vs χ e r J = partTerm n w m A χ e (coordinateOf vs e) (coordinateOf vs e) 0 r J
+
+abbrev midTerm : ℕ → ℕ → ℕ → List ℕ → List ℕ → List ℕ → (ℕ → ℕ → ℕ) → ℕ → ℕ → ℕ → ℕ
+midTerm n w m A vs xs χ e r J = partTerm n w m A χ e (byteAt xs) (coordinateOf vs e) 0 r J
+
+-- the place of the walk: what is loaded, and how far the panel's number goes
+abbrev Held : ℕ → ℕ → ℕ → List ℕ → List ℕ → ℕ → ℕ → Type 0
+Held n w m A cells first top = FoldedSet n w m A top (first - top) (rowsOf (first - top) (endOf n first - top)) cells
+
 abbrev Inv-loop : tie.InvT-loop
-Inv-loop quad₀ mid₀ lines₀ a words table xs asked s n m tau width groups cells₀ sums₀ vectors bits stacks₀ panel₀ quad mid lines cells sums stacks panel = (panel * 16 < n + 16) × (length quad ≡ lanes) × (length mid ≡ lanes) × (length cells ≡ 133120) × (length sums ≡ 32768) × ((e c : ℕ) → e < tau → c < mostVariables → byteAt vectors (e * mostVariables + c) ≡ laneAt table c e) × ((c : ℕ) → c < mostVariables → byteAt bits c ≡ byteAt xs c * 255) × ((χ : ℕ → ℕ → ℕ) (e : ℕ) → IsBytes χ → ChosenAll χ m tau words → e < tau → byteAt quad e ≡ bitXor (byteAt quad₀ e) (xorSum panel (term n width m a table χ e))) × ((χ : ℕ → ℕ → ℕ) (e : ℕ) → IsBytes χ → ChosenAll χ m tau words → e < tau → byteAt mid e ≡ bitXor (byteAt mid₀ e) (xorSum panel (half n width m a table xs χ e))) × (length vectors ≡ 7680) × (length bits ≡ mostVariables) × ((panel % 4 ≡ 0 → ⊥) → FoldedSet n width m a (panel / 4 * 4) cells) × (length stacks ≡ 23040) × (length lines ≡ length lines₀) × (asked ≡ true → (i c : ℕ) → i < m → c < n → c < panel * 16 → AddedUpTo width (n * width) m a (byteAt xs) lines₀ lines i c (c / 16 + 1)) × (asked ≡ true → (i c : ℕ) → i < m → c < n → panel * 16 ≤ c → AddedUpTo width (n * width) m a (byteAt xs) lines₀ lines i c 0) × (asked ≡ false → lines ≡ lines₀)
+Inv-loop quad₀ mid₀ lines₀ cells₀ a words vectors xs s n m tau width polar sums₀ bits stacks₀ first₀ top₀ p₀ quad mid lines cells sums stacks first top p =
+    Walk first top × (first * 16 < n → first + p < endOf n first) × (first * 16 < n + 64) × (length quad ≡ lanes) × (length mid ≡ lanes) × SumsRoom sums
+    × (length stacks ≡ lanes * (planes * chunk))
+    × (length lines ≡ length lines₀) × (length cells ≡ length cells₀) × ((p ≡ 0 → ⊥) → Held n width m a cells first top)
+    × ((R : ℕ → ℕ) → Walked n first top p R → (χ : ℕ → ℕ → ℕ) (e : ℕ) → IsBytes χ → ChosenAll χ m tau words → e < tau
+    → byteAt quad e ≡ bitXor (byteAt quad₀ e) (xorSum (panelsOf n) (λ J. quadTerm n width m a vectors χ e (R J) J)))
+    × ((R : ℕ → ℕ) → Walked n first top p R → (χ : ℕ → ℕ → ℕ) (e : ℕ) → IsBytes χ → ChosenAll χ m tau words → e < tau
+    → byteAt mid e ≡ bitXor (byteAt mid₀ e) (xorSum (panelsOf n) (λ J. midTerm n width m a vectors xs χ e (R J) J)))
+    × (polar ≡ true → (R : ℕ → ℕ) → Walked n first top p R → (i c : ℕ) → i < m → c < n → AddedUpTo width (n * width) m a (byteAt xs) lines₀ lines i c (R (c / 16)))
+    × (polar ≡ false → lines ≡ lines₀)
 
 abbrev μ-loop : tie.MeasureT-loop
-μ-loop quad₀ mid₀ lines₀ a words table xs asked s n m tau width groups cells₀ sums₀ vectors bits stacks₀ panel₀ quad mid lines cells sums stacks panel = n + 16 - panel * 16
-
-slice-aggregate-fill-vectors : tie.Need-slice-aggregate-fill-vectors Inv-loop μ-loop
-slice-aggregate-fill-vectors c = search needs
-
-fill-vectors-requires : tie.Need-fill-vectors-requires Inv-loop μ-loop
-fill-vectors-requires c κs =
-    let pre = c .before .before .before .before .before .before .before .before .pre in
-    (pre .11, pre .8, omega (arith, pre .8))
+μ-loop quad₀ mid₀ lines₀ cells₀ a words vectors xs s n m tau width polar sums₀ bits stacks₀ first₀ top₀ p₀ quad mid lines cells sums stacks first top p =
+    walkMeasure first top p
 
 slice-aggregate-widen : tie.Need-slice-aggregate-widen Inv-loop μ-loop
 slice-aggregate-widen c = search needs
 
 widen-requires : tie.Need-widen-requires Inv-loop μ-loop
-widen-requires c κs =
-    let pre = c .before .before .before .before .before .before .before .before .before .before .before .pre in
-    (omega (arith, pre .12), pre .13)
+widen-requires c κs = (omega (arith, c .before .before .before .before .before .before .before .before .before .pre .12), c .before .before .before .before .before .before .before .before .before .pre .13)
 
 loop-holds : tie.Need-loop-holds Inv-loop μ-loop
-unfolding xorSum
 loop-holds c =
-    let pre = c .before .before .before .before .before .before .before .before .before .before .before .before .before .pre in
-    let filled = c .before .before .before .before .fill-vectors in
-    let widened = c .before .widen in
-    (omega (arith, pre .5), pre .0, pre .1, refl, refl, filled .ensures, (λ i h. widened .ensures i h), (λ χ e s k l. sym (xor-zero-r _)), (λ χ e s k l. sym (xor-zero-r _)), filled .kept .0, widened .kept .0, (λ later. absurd (later refl)), refl, refl, (λ on i k hi hk l. absurd (omega (arith, l))), (λ on i k hi hk l. added-start _ _ (now (c .before .before .before .before .before .before .before .before .before .before .before .before .before .args .a)) _ i _ (now (c .before .before .before .before .before .before .before .before .before .before .before .before .before .args .lines)) k), λ off. refl)
+    let a = c .before .before .before .before .before .before .before .before .before .before .before .args in
+    let pre = c .before .before .before .before .before .before .before .before .before .before .before .pre in
+    let A = now (a .a) in
+    let vs = now (a .vectors) in (
+      (refl, refl, omega arith),
+      (λ some. end-under (a .s .n) 0 0 (omega arith) (omega (arith, some))),
+      omega arith,
+      pre .0,
+      pre .1,
+      refl,
+      refl,
+      refl,
+      refl,
+      (λ later. absurd (later refl)),
+      (λ R walked χ e small chosen he.
+          terms-none (a .s .n) (a .s .width) (a .s .m) A χ e (panelsOf (a .s .n)) (byteAt (now (a .quad)) e) (coordinateOf vs e) (coordinateOf vs e) R (walk-start (a .s .n) R walked)),
+      (λ R walked χ e small chosen he.
+          terms-none (a .s .n) (a .s .width) (a .s .m) A χ e (panelsOf (a .s .n)) (byteAt (now (a .mid)) e) (byteAt (now (a .xs))) (coordinateOf vs e) R (walk-start (a .s .n) R walked)),
+      (λ on R walked i k hi hk.
+          let none : R (k / 16) ≡ 0 = walk-start (a .s .n) R walked (k / 16) (omega arith) in
+          rw none (added-start (a .s .width) (a .s .n * a .s .width) A (byteAt (now (a .xs))) i (a .s .m) (now (a .lines)) k)),
+      (λ off. refl),
+    )
 
 mul-loop : tie.Need-mul-loop Inv-loop μ-loop
 mul-loop c = search needs
+
+piece-at-requires : tie.Need-piece-at-requires Inv-loop μ-loop
+piece-at-requires c κs = (c .before .loop .inv .0 .2, c .loop-test .taken, c .before .before .before .before .before .before .before .before .before .before .before .before .before .pre .4)
 
 slice-aggregate-load : tie.Need-slice-aggregate-load Inv-loop μ-loop
 slice-aggregate-load c = search needs
 
 load-requires : tie.Need-load-requires Inv-loop μ-loop
 load-requires c κs =
+    let a = c .before .before .before .before .before .before .before .before .before .before .before .before .before .before .before .before .args in
     let pre = c .before .before .before .before .before .before .before .before .before .before .before .before .before .before .before .before .pre in
-    let l = c .before .before .loop in
-    ((l .inv .3, pre .2, pre .3, pre .4, pre .6, c .before .loop-test .taken), l .inv .11)
-
-slice-aggregate-panel-of : tie.Need-slice-aggregate-panel-of Inv-loop μ-loop
-slice-aggregate-panel-of c = search needs
+    let l = c .before .before .before .before .loop in
+    let at = c .before .before .piece-at .ensures in (
+      (
+        piece-of (a .s .n) (a .s .width) (l .first) (l .top) (c .before .before .piece-at .result) at (l .inv .0) (c .before .before .before .loop-test .taken) (pre .3) (pre .4),
+        pre .6,
+        pre .2,
+        omega (arith, pre .17, pre .6, l .inv .8),
+        omega (arith, l .inv .5),
+      ),
+      (λ later. rw (at .0, at .1, at .3) (l .inv .9 later)),
+    )
 
 panel-of-requires : tie.Need-panel-of-requires Inv-loop μ-loop
 panel-of-requires c κs =
-    (omega (arith, c .before .before .before .before .loop-test .taken, c .before .before .before .before .before .before .before .before .before .before .before .before .before .before .before .before .before .before .before .pre .4), c .before .before .before .before .before .before .before .before .before .before .before .before .before .before .before .before .before .before .before .pre .6, omega (arith, c .before .before .before .before .before .before .before .before .before .before .before .before .before .before .before .before .before .before .before .pre .6, c .before .before .load .kept .0, c .before .before .before .before .before .loop .inv .3))
+    let a = c .before .before .before .before .before .before .before .before .before .before .before .before .before .before .before .before .before .before .before .before .before .args in
+    let pre = c .before .before .before .before .before .before .before .before .before .before .before .before .before .before .before .before .before .before .before .before .before .pre in
+    let l = c .before .before .before .before .before .before .before .before .before .loop in
+    let at = c .before .before .before .before .before .before .before .piece-at .ensures in
+    let inside = l .inv .1 (c .before .before .before .before .before .before .before .before .loop-test .taken) in
+    let piece = piece-of (a .s .n) (a .s .width) (l .first) (l .top) (c .before .before .before .before .before .before .before .piece-at .result) at (l .inv .0) (c .before .before .before .before .before .before .before .before .loop-test .taken) (pre .3) (pre .4) in
+    let fits = piece .4 in (
+      omega (arith, fits .0, fits .2),
+      fits .3,
+      omega (arith, inside, end-bounds (a .s .n) (l .first)),
+      fits .6 (l .p) (omega (arith, inside, at .1, at .2, l .inv .0 .2)),
+      pre .6,
+      omega (arith, pre .17, pre .6, l .inv .8, c .before .before .before .before .load .kept .0),
+    )
 
-add-t28 : tie.Need-add-t28 Inv-loop μ-loop
-add-t28 c =
-    let few : c .before .before .before .before .before .before .loop .panel ≤ mostVariables = omega (arith, c .before .before .before .before .before .before .before .before .before .before .before .before .before .before .before .before .before .before .before .before .pre .4, c .before .before .before .before .before .loop-test .taken) in
-    search (needs, few)
+add-least : tie.Need-add-least Inv-loop μ-loop
+add-least c = omega (arith, c .before .before .before .before .before .before .before .before .before .before .loop .inv .1 (c .before .before .before .before .before .before .before .before .before .loop-test .taken), end-bounds (c .before .before .before .before .before .before .before .before .before .before .before .before .before .before .before .before .before .before .before .before .before .before .args .s .n) (c .before .before .before .before .before .before .before .before .before .before .loop .first), c .before .before .before .before .before .before .before .before .before .before .before .before .before .before .before .before .before .before .before .before .before .before .pre .4, c .before .before .before .before .before .before .before .before .piece-at .ensures .1)
+
+add-least-2 : tie.Need-add-least-2 Inv-loop μ-loop
+add-least-2 c = omega (arith, c .before .before .before .before .before .before .before .before .before .before .loop .inv .1 (c .before .before .before .before .before .before .before .before .before .loop-test .taken), end-bounds (c .before .before .before .before .before .before .before .before .before .before .before .before .before .before .before .before .before .before .before .before .before .before .args .s .n) (c .before .before .before .before .before .before .before .before .before .before .loop .first), c .before .before .before .before .before .before .before .before .before .before .before .before .before .before .before .before .before .before .before .before .before .before .pre .4, c .before .before .before .before .before .before .before .before .piece-at .ensures .1)
+
+least-requires : tie.Need-least-requires Inv-loop μ-loop
+least-requires c κs = search needs
+
+add-panel : tie.Need-add-panel Inv-loop μ-loop
+add-panel c = omega (arith, c .before .before .before .before .before .before .before .before .before .before .before .loop .inv .1 (c .before .before .before .before .before .before .before .before .before .before .loop-test .taken), end-bounds (c .before .before .before .before .before .before .before .before .before .before .before .before .before .before .before .before .before .before .before .before .before .before .before .args .s .n) (c .before .before .before .before .before .before .before .before .before .before .before .loop .first), c .before .before .before .before .before .before .before .before .before .before .before .before .before .before .before .before .before .before .before .before .before .before .before .pre .4)
 
 slice-aggregate-add-left : tie.Need-slice-aggregate-add-left Inv-loop μ-loop
 slice-aggregate-add-left c = search needs
@@ -130,100 +156,174 @@ slice-aggregate-add-left-2 c = search needs
 
 add-left-requires : tie.Need-add-left-requires Inv-loop μ-loop
 add-left-requires c κs =
-    let pre = c .before .before .before .before .before .before .before .before .before .before .before .before .before .before .before .before .before .before .before .before .before .before .before .pre in
-    let l = c .before .before .before .before .before .before .before .before .before .loop in
-    let there = c .before .before .before .panel-of in
-    let inside = c .before .before .before .before .before .before .before .before .loop-test .taken in
-    (omega (arith, pre .16, l .inv .13), omega (arith, pre .6, l .inv .4), omega (arith, there .ensures .0), l .inv .10, pre .6, omega (arith, pre .4, inside), omega (arith, pre .4, inside))
+    let a = c .before .before .before .before .before .before .before .before .before .before .before .before .before .before .before .before .before .before .before .before .before .before .before .before .before .before .args in
+    let pre = c .before .before .before .before .before .before .before .before .before .before .before .before .before .before .before .before .before .before .before .before .before .before .before .before .before .before .pre in
+    let l = c .before .before .before .before .before .before .before .before .before .before .before .before .before .before .loop in
+    let at = c .before .before .before .before .before .before .before .before .before .before .before .before .piece-at .ensures in
+    let inside = l .inv .1 (c .before .before .before .before .before .before .before .before .before .before .before .before .before .loop-test .taken) in
+    let least = c .before .before .before .least .ensures in
+    let held = c .before .before .before .before .panel-of .ensures .0 in
+    let tall = rows-height (c .before .before .before .before .before .before .before .before .before .before .before .before .piece-at .result .first) (c .before .before .before .before .before .before .before .before .before .before .before .before .piece-at .result .count) (l .p) (c .before .before .before .least .result) (least .0) (least .1) in (
+      omega (arith, pre .16, l .inv .7),
+      omega (arith, pre .6, l .inv .5, c .before .before .before .before .before .before .before .before .before .load .kept .1 .0),
+      omega (arith, held, mul-le-mul-right (a .s .m * chunk) tall),
+      c .before .before .before .before .before .before .before .before .before .before .before .before .before .before .before .before .widen .kept .0,
+      pre .6,
+      omega (arith, inside, end-bounds (a .s .n) (l .first), pre .4),
+      omega (arith, inside, end-bounds (a .s .n) (l .first), pre .4, least .0, at .1, l .inv .0 .2),
+    )
 
-slice-aggregate-stack-panel : tie.Need-slice-aggregate-stack-panel Inv-loop μ-loop
-slice-aggregate-stack-panel c = search needs
+slice-aggregate-stack-part : tie.Need-slice-aggregate-stack-part Inv-loop μ-loop
+slice-aggregate-stack-part c = search needs
 
-slice-aggregate-stack-panel-2 : tie.Need-slice-aggregate-stack-panel-2 Inv-loop μ-loop
-slice-aggregate-stack-panel-2 c = search needs
+slice-aggregate-stack-part-2 : tie.Need-slice-aggregate-stack-part-2 Inv-loop μ-loop
+slice-aggregate-stack-part-2 c = search needs
 
-slice-aggregate-stack-panel-3 : tie.Need-slice-aggregate-stack-panel-3 Inv-loop μ-loop
-slice-aggregate-stack-panel-3 c = search needs
-
-stack-panel-requires : tie.Need-stack-panel-requires Inv-loop μ-loop
-stack-panel-requires c κs =
-    let pre = c .before .before .before .before .before .before .before .before .before .before .before .before .before .before .before .before .before .before .before .before .before .before .before .before .before .before .before .before .before .before .pre in
-    let l = c .before .before .before .before .before .before .before .before .before .before .before .before .before .before .before .before .loop in
-    let left = c .before .before .before .before .before .before .add-left in
-    let there = c .before .before .before .before .before .before .before .before .before .before .panel-of in
-    (omega (arith, pre .8, l .inv .12), left .kept .1 .0 ∙ l .inv .4, omega (arith, there .ensures .0), omega (arith, pre .4, c .before .before .before .before .before .before .before .before .before .before .before .before .before .before .before .loop-test .taken), pre .5, pre .6, pre .7, pre .8, pre .9, pre .10, omega (arith, pre .8, l .inv .9))
+stack-part-requires : tie.Need-stack-part-requires Inv-loop μ-loop
+stack-part-requires c κs =
+    let a = c .before .before .before .before .before .before .before .before .before .before .before .before .before .before .before .before .before .before .before .before .before .before .before .before .before .before .before .before .before .before .before .before .args in
+    let pre = c .before .before .before .before .before .before .before .before .before .before .before .before .before .before .before .before .before .before .before .before .before .before .before .before .before .before .before .before .before .before .before .before .pre in
+    let l = c .before .before .before .before .before .before .before .before .before .before .before .before .before .before .before .before .before .before .before .before .loop in
+    let at = c .before .before .before .before .before .before .before .before .before .before .before .before .before .before .before .before .before .before .piece-at .ensures in
+    let inside = l .inv .1 (c .before .before .before .before .before .before .before .before .before .before .before .before .before .before .before .before .before .before .before .loop-test .taken) in
+    let least = c .before .before .before .before .before .before .before .before .before .least .ensures in
+    let held = c .before .before .before .before .before .before .before .before .before .before .panel-of .ensures .0 in
+    let tall = rows-height (c .before .before .before .before .before .before .before .before .before .before .before .before .before .before .before .before .before .before .piece-at .result .first) (c .before .before .before .before .before .before .before .before .before .before .before .before .before .before .before .before .before .before .piece-at .result .count) (l .p) (c .before .before .before .before .before .before .before .before .before .least .result) (least .0) (least .1) in (
+      omega (arith, pre .8, l .inv .6),
+      c .before .before .before .before .before .add-left .kept .1 .0 ∙ c .before .before .before .before .before .before .before .before .before .before .before .before .before .before .before .load .kept .1 .0 ∙ l .inv .5,
+      omega (arith, held, mul-le-mul-right (a .s .m * chunk) tall),
+      omega (arith, inside, end-bounds (a .s .n) (l .first), pre .4, least .0, at .1, l .inv .0 .2),
+      pre .5,
+      pre .6,
+      pre .7,
+      pre .8,
+      pre .9,
+      pre .10,
+      omega (arith, pre .8, pre .11),
+    )
 
 slice-aggregate-finish : tie.Need-slice-aggregate-finish Inv-loop μ-loop
 slice-aggregate-finish c = search needs
 
 finish-requires : tie.Need-finish-requires Inv-loop μ-loop
 finish-requires c κs =
-    let pre = c .before .before .before .before .before .before .before .before .before .before .before .before .before .before .before .before .before .before .before .before .before .before .before .before .before .before .before .before .before .before .before .before .before .before .before .before .pre in
-    let l = c .before .before .before .before .before .before .before .before .before .before .before .before .before .before .before .before .before .before .before .before .before .before .loop in
-    (l .inv .1, l .inv .2, pre .8, omega (arith, pre .8, l .inv .12, c .before .before .before .before .before .stack-panel .kept .0), pre .11, omega (arith, pre .12, pre .4, c .before .before .before .before .before .before .before .before .before .before .before .before .before .before .before .before .before .before .before .before .before .loop-test .taken), pre .13, pre .4)
+    let a = c .before .before .before .before .before .before .before .before .before .before .before .before .before .before .before .before .before .before .before .before .before .before .before .before .before .before .before .before .before .before .before .before .before .before .before .before .before .before .args in
+    let pre = c .before .before .before .before .before .before .before .before .before .before .before .before .before .before .before .before .before .before .before .before .before .before .before .before .before .before .before .before .before .before .before .before .before .before .before .before .before .before .pre in
+    let l = c .before .before .before .before .before .before .before .before .before .before .before .before .before .before .before .before .before .before .before .before .before .before .before .before .before .before .loop in
+    let inside = l .inv .1 (c .before .before .before .before .before .before .before .before .before .before .before .before .before .before .before .before .before .before .before .before .before .before .before .before .before .loop-test .taken) in (
+      l .inv .3,
+      l .inv .4,
+      pre .8,
+      omega (arith, pre .8, l .inv .6, c .before .before .before .before .before .stack-part .kept .0),
+      pre .11,
+      omega (arith, inside, end-bounds (a .s .n) (l .first), pre .4),
+      omega (arith, pre .12),
+      pre .13,
+    )
 
-add-panel : tie.Need-add-panel Inv-loop μ-loop
-add-panel c =
-    let few : c .before .before .before .before .before .before .before .before .before .before .before .before .before .before .before .before .before .before .before .before .before .before .before .before .before .before .before .loop .panel ≤ 160 = omega (arith, c .before .before .before .before .before .before .before .before .before .before .before .before .before .before .before .before .before .before .before .before .before .before .before .before .before .before .before .before .before .before .before .before .before .before .before .before .before .before .before .before .before .pre .4, c .before .before .before .before .before .before .before .before .before .before .before .before .before .before .before .before .before .before .before .before .before .before .before .before .before .before .loop-test .taken) in
-    search (needs, few)
+next-requires : tie.Need-next-requires Inv-loop μ-loop
+next-requires c κs =
+    let a = c .before .before .before .before .before .before .before .before .before .before .before .before .before .before .before .before .before .before .before .before .before .before .before .before .before .before .before .before .before .before .before .before .before .before .before .before .before .before .before .before .before .before .before .args in
+    let pre = c .before .before .before .before .before .before .before .before .before .before .before .before .before .before .before .before .before .before .before .before .before .before .before .before .before .before .before .before .before .before .before .before .before .before .before .before .before .before .before .before .before .before .before .pre in
+    let l = c .before .before .before .before .before .before .before .before .before .before .before .before .before .before .before .before .before .before .before .before .before .before .before .before .before .before .before .before .before .before .before .loop in
+    let at = c .before .before .before .before .before .before .before .before .before .before .before .before .before .before .before .before .before .before .before .before .before .before .before .before .before .before .before .before .before .piece-at .ensures in
+    let inside = l .inv .1 (c .before .before .before .before .before .before .before .before .before .before .before .before .before .before .before .before .before .before .before .before .before .before .before .before .before .before .before .before .before .before .loop-test .taken) in
+    let bounds = end-bounds (a .s .n) (l .first) in
+    let fits = piece-of (a .s .n) (a .s .width) (l .first) (l .top) (c .before .before .before .before .before .before .before .before .before .before .before .before .before .before .before .before .before .before .before .before .before .before .before .before .before .before .before .before .before .piece-at .result) at (l .inv .0) (c .before .before .before .before .before .before .before .before .before .before .before .before .before .before .before .before .before .before .before .before .before .before .before .before .before .before .before .before .before .before .loop-test .taken) (pre .3) (pre .4) .4 in (
+      omega (arith, inside, bounds, pre .4),
+      omega (arith, inside, bounds),
+      omega (arith, at .0, l .inv .0 .2, inside, bounds, pre .4),
+      omega (arith, fits .2),
+      omega (arith, fits .3),
+    )
 
 loop-less : tie.Need-loop-less Inv-loop μ-loop
-loop-less c = omega (arith, c .before .before .before .before .before .before .before .before .before .before .before .before .before .before .before .before .before .before .before .before .before .before .before .before .before .before .loop-test .taken)
+loop-less c =
+    let a = c .before .before .before .before .before .before .before .before .before .before .before .before .before .before .before .before .before .before .before .before .before .before .before .before .before .before .before .before .before .before .before .before .before .before .before .before .before .before .before .before .before .before .before .before .args in
+    let l = c .before .before .before .before .before .before .before .before .before .before .before .before .before .before .before .before .before .before .before .before .before .before .before .before .before .before .before .before .before .before .before .before .loop in
+    let some = c .before .before .before .before .before .before .before .before .before .before .before .before .before .before .before .before .before .before .before .before .before .before .before .before .before .before .before .before .before .before .before .loop-test .taken in
+    next-less (a .s .n) (l .first) (l .top) (l .p) (c .before .before .before .before .before .before .before .before .before .before .before .before .before .before .before .before .before .before .before .before .before .before .before .before .before .before .before .before .before .before .piece-at .result) (c .next .result) (c .before .before .before .before .before .before .before .before .before .before .before .before .before .before .before .before .before .before .before .before .before .before .before .before .before .before .before .before .before .before .piece-at .ensures) (c .next .ensures) (omega (arith, l .inv .0)) (l .inv .0 .2) (l .inv .1 some) (omega (arith, some, c .before .before .before .before .before .before .before .before .before .before .before .before .before .before .before .before .before .before .before .before .before .before .before .before .before .before .before .before .before .before .before .before .before .before .before .before .before .before .before .before .before .before .before .before .pre .4))
 
 loop-again : tie.Need-loop-again Inv-loop μ-loop
 loop-again c =
-    let a = c .before .before .before .before .before .before .before .before .before .before .before .before .before .before .before .before .before .before .before .before .before .before .before .before .before .before .before .before .before .before .before .before .before .before .before .before .before .before .before .before .before .args in
-    let pre = c .before .before .before .before .before .before .before .before .before .before .before .before .before .before .before .before .before .before .before .before .before .before .before .before .before .before .before .before .before .before .before .before .before .before .before .before .before .before .before .before .before .pre in
-    let l = c .before .before .before .before .before .before .before .before .before .before .before .before .before .before .before .before .before .before .before .before .before .before .before .before .before .before .before .loop in
-    let load = c .before .before .before .before .before .before .before .before .before .before .before .before .before .before .before .before .before .before .before .before .before .before .before .before .load in
-    let there = c .before .before .before .before .before .before .before .before .before .before .before .before .before .before .before .before .before .before .before .before .before .panel-of in
+    let a = c .before .before .before .before .before .before .before .before .before .before .before .before .before .before .before .before .before .before .before .before .before .before .before .before .before .before .before .before .before .before .before .before .before .before .before .before .before .before .before .before .before .before .before .before .args in
+    let pre = c .before .before .before .before .before .before .before .before .before .before .before .before .before .before .before .before .before .before .before .before .before .before .before .before .before .before .before .before .before .before .before .before .before .before .before .before .before .before .before .before .before .before .before .before .pre in
+    let l = c .before .before .before .before .before .before .before .before .before .before .before .before .before .before .before .before .before .before .before .before .before .before .before .before .before .before .before .before .before .before .before .before .loop in
+    let some = c .before .before .before .before .before .before .before .before .before .before .before .before .before .before .before .before .before .before .before .before .before .before .before .before .before .before .before .before .before .before .before .loop-test .taken in
+    let piece = c .before .before .before .before .before .before .before .before .before .before .before .before .before .before .before .before .before .before .before .before .before .before .before .before .before .before .before .before .before .before .piece-at .result in
+    let at = c .before .before .before .before .before .before .before .before .before .before .before .before .before .before .before .before .before .before .before .before .before .before .before .before .before .before .before .before .before .before .piece-at .ensures in
+    let r = c .next .result in
+    let next = c .next .ensures in
+    let inside = l .inv .1 some in
+    let least = c .before .before .before .before .before .before .before .before .before .before .before .before .before .before .before .before .before .before .before .before .before .least .ensures in
+    let rows = c .before .before .before .before .before .before .before .before .before .before .before .before .before .before .before .before .before .before .before .before .before .least .result in
+    let held = now (c .before .before .before .before .before .before .before .before .before .before .before .before .before .before .before .before .before .before .before .before .before .before .panel-of .result) in
     let left = c .before .before .before .before .before .before .before .before .before .before .before .before .before .before .before .before .before .add-left in
-    let stacked = c .before .before .before .before .before .before .before .before .before .before .stack-panel in
-    let done = c .before .before .before .before .finish in
-    let T = now (a .table) in
-    let gone : (e k : ℕ) → a .s .n ≤ k → laneAt T k e ≡ 0 = λ e k h. lane-past T (a .s .n) k e (pre .11) h in
-    let x = byteAt (now (a .xs)) in
-    let folded : Folded (a .s .n) (a .s .width) (a .s .m) (now (a .a)) (l .panel) (now (there .result)) = there .ensures .1 (a .s .n) (a .s .width) (now (a .a)) (load .ensures) in (
-      omega (arith, c .before .before .before .before .before .before .before .before .before .before .before .before .before .before .before .before .before .before .before .before .before .before .before .before .before .before .loop-test .taken),
-      done .kept .0 ∙ l .inv .1,
-      done .kept .1 .0 ∙ l .inv .2,
-      load .kept .0 ∙ l .inv .3,
-      stacked .kept .1 .0 ∙ left .kept .1 .0 ∙ l .inv .4,
-      l .inv .5,
-      l .inv .6,
-      (λ χ e small chosen he.
-          done .ensures .0 e he
-          ∙ ap (bitXor (byteAt (l .quad) e))
-          (quad-is (a .s .n) (a .s .width) (a .s .m) (now (a .a)) χ (now (there .result)) e (l .panel) folded (λ ρ. laneAt T ρ e) (gone e) (columnOf (stacked .last .0) e) (λ s hs col. stacked .ensures (now (a .a)) χ T (a .s .n) (a .s .width) e s folded small chosen (l .inv .5) (pre .11) he hs col) (λ k. laneAt T k e) (gone e))
-          ∙ sum-step (byteAt (now (a .quad)) e) (byteAt (l .quad) e) (l .panel) (term (a .s .n) (a .s .width) (a .s .m) (now (a .a)) (now (a .table)) χ e) (l .inv .7 χ e small chosen he)),
-      (λ χ e small chosen he.
-          mid-is (a .s .n) (a .s .width) (a .s .m) (now (a .a)) χ (now (there .result)) e (l .panel) folded (λ ρ. laneAt T ρ e) (gone e) (columnOf (stacked .last .0) e) (λ s hs col. stacked .ensures (now (a .a)) χ T (a .s .n) (a .s .width) e s folded small chosen (l .inv .5) (pre .11) he hs col) (a .polar) (now (a .xs)) (l .mid) (done .last .1 .0) (pre .13) (pre .14) (pre .15) (λ on. done .ensures .1 .0 on e he) (done .ensures .1 .1)
-          ∙ sum-step (byteAt (now (a .mid)) e) (byteAt (l .mid) e) (l .panel) (half (a .s .n) (a .s .width) (a .s .m) (now (a .a)) (now (a .table)) (now (a .xs)) χ e) (l .inv .8 χ e small chosen he)),
-      l .inv .9,
-      l .inv .10,
-      (λ later.
-          let first : (l .panel + 1) / 4 * 4 ≡ l .panel / 4 * 4 = same-set (l .panel) later in
-          rw first (load .ensures)),
-      stacked .kept .0 ∙ l .inv .12,
-      left .kept .0 ∙ l .inv .13,
-      (λ on. lines-more (a .s .n) (a .s .width) (a .s .m) (now (a .a)) (now (there .result)) (l .panel) folded x (pre .14) (now (a .lines)) (l .lines) (left .last .0) (λ i h z hi hh hz. left .ensures .0 on x i h z (pre .13) (l .inv .6) hi hh hz) (left .ensures .1 .0) (l .inv .14 on) (l .inv .15 on)),
-      (λ on i k hi hk h. added-beside (a .s .width) (a .s .n * a .s .width) (now (a .a)) x i (a .s .m) (now (a .lines)) (l .lines) (left .last .0) (l .panel) k 0 hi (λ e. omega (arith, h, e)) (left .ensures .1 .0) (l .inv .15 on i k hi hk (omega (arith, h)))),
-      (λ off. left .ensures .1 .1 off ∙ l .inv .16 off),
+    let stacked = c .before .before .before .before .before .before .before .before .before .before .before .stack-part in
+    let done = c .before .before .before .before .before .finish in
+    let n = a .s .n in
+    let w = a .s .width in
+    let m = a .s .m in
+    let A = now (a .a) in
+    let vs = now (a .vectors) in
+    let xs = now (a .xs) in
+    let J = l .first + l .p in
+    let even : (l .first - l .top) % 2 ≡ 0 = omega (arith, l .inv .0) in
+    let few : l .p < 4 = omega (arith, inside, end-bounds n (l .first)) in
+    let panel : J < panelsOf n = omega (arith, inside, end-bounds n (l .first)) in
+    let place : l .top + (piece .first + l .p) ≡ J = omega (arith, at .1, l .inv .0 .2) in
+    let from : l .first ≡ piece .first + l .top = omega (arith, at .1, l .inv .0 .2) in
+    let bottom : pieceEnd n (l .first) (l .top) ≡ l .top + piece .count = omega (arith, at .3) in
+    let loaded : FoldedSet n w m A (l .top) (piece .first) (piece .count) (c .before .before .before .before .before .before .before .before .before .before .before .before .before .before .before .before .before .before .before .before .before .before .before .before .before .before .before .load .last .0) = rw (at .0) at (c .before .before .before .before .before .before .before .before .before .before .before .before .before .before .before .before .before .before .before .before .before .before .before .before .before .before .before .load .ensures) in
+    let folded : Folded n w m A (l .top) (piece .first + l .p) (piece .count) held = c .before .before .before .before .before .before .before .before .before .before .before .before .before .before .before .before .before .before .before .before .before .before .panel-of .ensures .1 n w (l .top) A loaded in
+    let above : rows ≤ piece .first + l .p + 1 = least .0 in
+    let column : (χ : ℕ → ℕ → ℕ) (e : ℕ) → IsBytes χ → ChosenAll χ m (a .s .tau) (now (a .words)) → e < a .s .tau → (s : ℕ) → s < 16 → J * 16 + s < n
+    → columnOf degree (stacked .last .0) e s ≡ rowsSum w (n * w) m A χ e (coordinateOf vs e) (l .top) rows (J * 16 + s) =
+    λ χ e small chosen he s hs col.
+    rw place at (stacked .ensures A χ n w (piece .first + l .p) (piece .count) e s folded (least .1) above small chosen (pre .18) he hs (omega (arith, col, place))) in
+    let before : (R : ℕ → ℕ) → Walked n (r .first) (r .top) (r .p) R → Walked n (l .first) (l .top) (l .p + 1) R =
+    next-walked n (l .first) (l .top) (l .p) piece r at next even (l .inv .0 .2) inside in
+    let here : (R : ℕ → ℕ) → Walked n (l .first) (l .top) (l .p + 1) R → R J ≡ l .top + rows =
+    λ R walked. walked-here n (l .first) (l .top) (l .p) R walked few (piece .first) (piece .count) rows from bottom panel above (least .1) (least .2) in (
+      next-walk n (l .first) (l .top) (l .p) piece r at next even (l .inv .0 .2) inside (l .inv .0 .0) (l .inv .0 .1),
+      next-inside n (l .first) (l .top) (l .p) piece r at next even (l .inv .0 .2) inside some .0,
+      next-inside n (l .first) (l .top) (l .p) piece r at next even (l .inv .0 .2) inside some .1,
+      done .kept .0 ∙ l .inv .3,
+      done .kept .1 .0 ∙ l .inv .4,
+      stacked .kept .1 .0 ∙ left .kept .1 .0 ∙ c .before .before .before .before .before .before .before .before .before .before .before .before .before .before .before .before .before .before .before .before .before .before .before .before .before .before .before .load .kept .1 .0 ∙ l .inv .5,
+      stacked .kept .0 ∙ l .inv .6,
+      left .kept .0 ∙ l .inv .7,
+      c .before .before .before .before .before .before .before .before .before .before .before .before .before .before .before .before .before .before .before .before .before .before .before .before .before .before .before .load .kept .0 ∙ l .inv .8,
+      next-held n (l .first) (l .top) (l .p) piece r at next even (l .inv .0 .2) inside (Held n w m A (c .before .before .before .before .before .before .before .before .before .before .before .before .before .before .before .before .before .before .before .before .before .before .before .before .before .before .before .load .last .0)) (rw (at .1, at .3) at loaded),
+      (λ R walked χ e small chosen he.
+          let was = before R walked in
+          sum-walked n (l .first) (l .top) (l .p) R was few (quadTerm n w m A vs χ e) rows (partTerm n w m A χ e (coordinateOf vs e) (coordinateOf vs e) (l .top) rows J) (byteAt (now (a .quad)) e) (byteAt (l .quad) e) (byteAt (done .last .0) e) panel (here R was)
+          (term-parts n w m A χ e (coordinateOf vs e) (coordinateOf vs e) (l .top) rows J)
+          (l .inv .10 _ (back-walked n (l .first) (l .top) (l .p) R was few) χ e small chosen he)
+          (done .ensures .0 e he ∙ ap (bitXor (byteAt (l .quad) e)) (quad-is n w m A χ e (coordinateOf vs e) (l .top) rows J (columnOf degree (stacked .last .0) e) (column χ e small chosen he) (coordinateOf vs e) (λ k past low. pre .18 e k he past (omega (arith, low, panel, pre .4)))))),
+      (λ R walked χ e small chosen he.
+          let was = before R walked in
+          sum-walked n (l .first) (l .top) (l .p) R was few (midTerm n w m A vs xs χ e) rows (partTerm n w m A χ e (byteAt xs) (coordinateOf vs e) (l .top) rows J) (byteAt (now (a .mid)) e) (byteAt (l .mid) e) (byteAt (done .last .1 .0) e) panel (here R was)
+          (term-parts n w m A χ e (byteAt xs) (coordinateOf vs e) (l .top) rows J)
+          (l .inv .11 _ (back-walked n (l .first) (l .top) (l .p) R was few) χ e small chosen he)
+          (mid-is n w m A χ e (coordinateOf vs e) (l .top) rows J (columnOf degree (stacked .last .0) e) (column χ e small chosen he) (a .s .polar) xs (l .mid) (done .last .1 .0) (pre .13) (pre .14) (pre .15) (λ on. done .ensures .1 .0 on e he) (done .ensures .1 .1))),
+      (λ on R walked.
+          let was = before R walked in
+          lines-walked n w m A (byteAt xs) (l .first) (l .top) (l .p) rows R was few held (now (a .lines)) (l .lines) (left .last .0)
+          (part-folded n w m A (l .top) J (piece .first + l .p) (piece .count) rows held folded (least .1) above place) (pre .14)
+          (λ i h z hi hh hz. left .ensures .0 on (byteAt xs) i h z (pre .13) (c .before .before .before .before .before .before .before .before .before .before .before .before .before .before .before .before .before .before .before .before .before .before .before .before .before .before .before .before .before .before .before .before .before .before .widen .ensures) hi hh hz) (left .ensures .1 .0) (here R was)
+          (l .inv .12 on _ (back-walked n (l .first) (l .top) (l .p) R was few))),
+      (λ off. left .ensures .1 .1 off ∙ l .inv .13 off),
     )
 
 slice-aggregate-add-lines : tie.Need-slice-aggregate-add-lines Inv-loop μ-loop
 slice-aggregate-add-lines c = search needs
 
-slice-aggregate-add-lines-2 : tie.Need-slice-aggregate-add-lines-2 Inv-loop μ-loop
-slice-aggregate-add-lines-2 c = search needs
-
 add-lines-requires : tie.Need-add-lines-requires Inv-loop μ-loop
 add-lines-requires c κs =
-    let pre = c .before .before .before .before .before .before .before .before .before .before .before .before .before .before .before .before .before .before .before .pre in
-    let l = c .before .before .before .before .before .loop in
-    let a = c .before .before .before .before .before .before .before .before .before .before .before .before .before .before .before .before .before .before .before .args in
-    let T = now (a .table) in
-    (l .inv .2, l .inv .4, omega (arith, pre .16, l .inv .13), pre .4, pre .6, pre .8, pre .9, pre .10, omega (arith, pre .8, l .inv .9), λ e k he h inside. l .inv .5 e k he inside ∙ lane-past T (a .s .n) k e (pre .11) h)
+    let pre = c .before .before .before .before .before .before .before .before .before .before .before .before .before .before .before .before .pre in
+    let l = c .before .before .before .before .loop in
+    (l .inv .4, l .inv .5, omega (arith, pre .16, l .inv .7), pre .4, pre .6, pre .8, pre .9, pre .10, omega (arith, pre .8, pre .11), pre .18)
 
 same-length : tie.Need-same-length Inv-loop μ-loop
 same-length c = search needs
@@ -234,32 +334,42 @@ same-length-2 c = search needs
 same-length-3 : tie.Need-same-length-3 Inv-loop μ-loop
 same-length-3 c = search needs
 
+same-length-4 : tie.Need-same-length-4 Inv-loop μ-loop
+same-length-4 c = search needs
+
 returns : tie.Need-returns Inv-loop μ-loop
 returns c =
-    let a = c .before .before .before .before .before .before .before .before .before .before .before .before .before .before .before .before .before .before .before .before .before .before .before .args in
-    let pre = c .before .before .before .before .before .before .before .before .before .before .before .before .before .before .before .before .before .before .before .before .before .before .before .pre in
-    let l = c .before .before .before .before .before .before .before .before .before .loop in
+    let a = c .before .before .before .before .before .before .before .before .before .before .before .before .before .before .before .before .before .before .before .before .args in
+    let pre = c .before .before .before .before .before .before .before .before .before .before .before .before .before .before .before .before .before .before .before .before .pre in
+    let l = c .before .before .before .before .before .before .before .before .loop in
+    let n = a .s .n in
+    let w = a .s .width in
+    let m = a .s .m in
     let A = now (a .a) in
-    let T = now (a .table) in
+    let vs = now (a .vectors) in
     let x = byteAt (now (a .xs)) in
     let L = now (a .lines) in
-    let enough : a .s .n ≤ l .panel * 16 = omega arith in
-    let gone : (e k : ℕ) → a .s .n ≤ k → laneAt T k e ≡ 0 = λ e k h. lane-past T (a .s .n) k e (pre .11) h in
-    let added : (i k : ℕ) → i < a .s .m → k < a .s .n → Added (a .s .width) (a .s .n * a .s .width) (a .s .m) A x L (l .lines) i k =
-    λ i k hi hk. all-added (a .polar) (a .s .width) (a .s .n * a .s .width) (a .s .m) A (now (a .xs)) L (l .lines) i k (λ on. added-end (a .s .width) (a .s .n * a .s .width) A x i (a .s .m) L (l .lines) k (k / 16 + 1) refl (l .inv .14 on i k hi hk (omega (arith, enough, hk)))) (l .inv .16) (pre .15) in (
-      (λ χ e small chosen he. l .inv .7 χ e small chosen he ∙ ap (bitXor (byteAt (now (a .quad)) e)) (form-is (l .panel) (a .s .n) (a .s .width) (a .s .m) A χ e enough (λ k. laneAt T k e) (gone e))),
+    let N = panelsOf n in
+    let all : Walked n (l .first) (l .top) (l .p) (λ J. J + 1) = walk-end n (l .first) (l .top) (l .p) (omega arith) in
+    let enough : n ≤ N * 16 = omega arith in
+    let gone : (e : ℕ) → e < a .s .tau → (k : ℕ) → n ≤ k → k < N * 16 → coordinateOf vs e k ≡ 0 = λ e he k past low. pre .18 e k he past (omega (arith, low, pre .4)) in
+    let none : (k : ℕ) → n ≤ k → k < N * 16 → x k ≡ 0 = λ k past low. pre .14 k past in
+    let added : (i k : ℕ) → i < m → k < n → Added w (n * w) m A x L (l .lines) i k =
+    λ i k hi hk. all-added (a .s .polar) w (n * w) m A (now (a .xs)) L (l .lines) i k (λ on. added-end w (n * w) A x i m L (l .lines) k (k / 16 + 1) refl (l .inv .12 on (λ J. J + 1) all i k hi hk)) (l .inv .13) (pre .15) in (
+      (λ χ e small chosen he.
+          let y : ℕ → ℕ = coordinateOf vs e in
+          l .inv .10 (λ J. J + 1) all χ e small chosen he ∙ ap (bitXor (byteAt (now (a .quad)) e)) (terms-all n w m A χ e N y y ∙ form-is N n w m A χ e enough y (gone e he))),
       (
         (λ χ e small chosen he.
-            let y : ℕ → ℕ = λ k. laneAt T k e in
-            let columns = xorSum (l .panel) (half (a .s .n) (a .s .width) (a .s .m) A T (now (a .xs)) χ e) in
-            let given = xorSum (a .s .n) (λ k. byteProduct (y k) (lineSum L (a .s .m) χ e k)) in
-            let added-left = xorSum (l .panel) (λ J. xorSum 16 (λ s. byteProduct (y (J * 16 + s)) (leftSum (a .s .width) (a .s .n * a .s .width) (a .s .m) A χ e x J (J * 16 + s)))) in
+            let y : ℕ → ℕ = coordinateOf vs e in
+            let columns = xorSum N (λ J. xorSum 16 (λ s. byteProduct degree (x (J * 16 + s)) (leftSum w (n * w) m A χ e y J (J * 16 + s)))) in
+            let given = xorSum n (λ k. byteProduct degree (y k) (lineSum L m χ e k)) in
+            let added-left = xorSum N (λ J. xorSum 16 (λ s. byteProduct degree (y (J * 16 + s)) (leftSum w (n * w) m A χ e x J (J * 16 + s)))) in
             c .before .before .before .add-lines .ensures χ e small chosen he
-            ∙ ap₂ bitXor (l .inv .8 χ e small chosen he)
-            (sum-same (a .s .n) _ (λ k. byteProduct (y k) (lineSum (l .lines) (a .s .m) χ e k)) (λ k h. ap (λ (v : ℕ). byteProduct v (lineSum (l .lines) (a .s .m) χ e k)) (l .inv .5 e k he (omega (arith, h, pre .4))))
-            ∙ lines-added (a .s .width) (a .s .n * a .s .width) (a .s .m) A χ e small x (pre .13) (l .panel) (a .s .n) enough y (gone e) L (l .lines) added)
+            ∙ ap₂ bitXor (l .inv .11 (λ J. J + 1) all χ e small chosen he ∙ ap (bitXor (byteAt (now (a .mid)) e)) (terms-all n w m A χ e N x y))
+            (lines-added w (n * w) m A χ e small x (pre .13) N n enough y (gone e he) L (l .lines) added)
             ∙ both-halves (byteAt (now (a .mid)) e) given added-left columns
-            ∙ ap (λ (v : ℕ). bitXor (bitXor (byteAt (now (a .mid)) e) v) given) (polar-is (l .panel) (a .s .n) (a .s .width) (a .s .m) A χ e enough y (gone e) x (pre .14))),
+            ∙ ap (λ (v : ℕ). bitXor (bitXor (byteAt (now (a .mid)) e) v) given) (polar-is N n w m A χ e enough y (gone e he) x none)),
         added,
       ),
     )
@@ -270,33 +380,33 @@ add-forms-spec =
     (tie.spec
     Inv-loop
     μ-loop
-    slice-aggregate-fill-vectors
-    fill-vectors-requires
     slice-aggregate-widen
     widen-requires
     loop-holds
     mul-loop
+    piece-at-requires
     slice-aggregate-load
     load-requires
-    slice-aggregate-panel-of
     panel-of-requires
-    add-t28
+    add-least
+    add-least-2
+    least-requires
+    add-panel
     slice-aggregate-add-left
     slice-aggregate-add-left-2
     add-left-requires
-    slice-aggregate-stack-panel
-    slice-aggregate-stack-panel-2
-    slice-aggregate-stack-panel-3
-    stack-panel-requires
+    slice-aggregate-stack-part
+    slice-aggregate-stack-part-2
+    stack-part-requires
     slice-aggregate-finish
     finish-requires
-    add-panel
+    next-requires
     loop-less
     loop-again
     slice-aggregate-add-lines
-    slice-aggregate-add-lines-2
     add-lines-requires
     same-length
     same-length-2
     same-length-3
+    same-length-4
     returns)

@@ -2,19 +2,20 @@
 -- power. What they come to is `StackLaws`.
 -- Assumes nothing.
 use borrow.Author.Needs.{needs}
-use Prim.Native.Nat.{ℕ, _+_, _*_, _-_, _≤_, _<_}
+use Prim.Native.Nat.{ℕ, _+_, _*_, _-_, _≤_, _<_, _^_}
 use mathlib.Core.List.{List}
 use mathlib.Core.Path.{_≡_, refl, sym, ap, ap₂, _∙_}
 use native.Mathlib.Omega.{arith}
 use denote.Ref.{now}
 use lib.ListN.{length}
 use lib.Bits.{bitXor, xor-zero-r}
+use Rattle.field.specs.Degrees.{fieldOf, degreeOf, degree}
 use Rattle.strings.specs.Sums.{byteAt, bitOf, xorSum}
 use Rattle.strings.proofs.XorLaws.{xor-assoc}
 use Rattle.strings.proofs.SumLaws.{sum-same, sum-step}
 use Rattle.strings.proofs.Meaning.{bitOf-lt, bitOf-sum, bit-times}
 use Rattle.chunks.specs.Chunks.{chunk, cellAt, Masks}
-use Rattle.forms_choices.specs.Entries.{lookedUp, Weighed}
+use Rattle.forms_choices.specs.Entries.{byteValues, lookedUp, Weighed}
 use Rattle.forms_choices.proofs.ChoiceLaws.{chosen-sum}
 use Rattle.forms_columns.specs.Stacks.{alpha, byteProduct, planes, stackAt}
 use Rattle.forms_batching.proofs.StackLaws.{planes-added}
@@ -23,12 +24,12 @@ use Rattle.forms_batching.proofs.stacks.absorb.Tie as tie
 
 -- what plane p adds
 abbrev term : List ℕ → List ℕ → (ℕ → ℕ) → ℕ → ℕ → ℕ → ℕ → ℕ
-term S v χ m f z p = bitOf (xorSum m (λ i. bitOf (χ i) p * cellAt S i f)) z * byteProduct (alpha p) (byteAt v f)
+term S v χ m f z p = bitOf (xorSum m (λ i. bitOf (χ i) p * cellAt S i f)) z * byteProduct degree (alpha degree p) (byteAt v f)
 
-all-terms : (S v : List ℕ) (χ : ℕ → ℕ) (m f z : ℕ) → ((i : ℕ) → i < m → χ i < 256) → xorSum 8 (term S v χ m f z) ≡ byteProduct (byteAt v f) (xorSum m (λ i. bitOf (cellAt S i f) z * χ i))
+all-terms : (S v : List ℕ) (χ : ℕ → ℕ) (m f z : ℕ) → ((i : ℕ) → i < m → χ i < 256) → xorSum 8 (term S v χ m f z) ≡ byteProduct degree (byteAt v f) (xorSum m (λ i. bitOf (cellAt S i f) z * χ i))
 all-terms S v χ m f z small =
-    sum-same 8 _ (λ p. xorSum m (λ i. bitOf (χ i) p * bitOf (cellAt S i f) z) * byteProduct (alpha p) (byteAt v f))
-    (λ p l. ap (λ x. x * byteProduct (alpha p) (byteAt v f)) (bitOf-sum m (λ i. bitOf (χ i) p * cellAt S i f) z ∙ sum-same m _ _ (λ i k. bit-times (bitOf (χ i) p) (cellAt S i f) z (bitOf-lt (χ i) p))))
+    sum-same 8 _ (λ p. xorSum m (λ i. bitOf (χ i) p * bitOf (cellAt S i f) z) * byteProduct degree (alpha degree p) (byteAt v f))
+    (λ p l. ap (λ x. x * byteProduct degree (alpha degree p) (byteAt v f)) (bitOf-sum m (λ i. bitOf (χ i) p * cellAt S i f) z ∙ sum-same m _ _ (λ i k. bit-times (bitOf (χ i) p) (cellAt S i f) z (bitOf-lt (χ i) p))))
     ∙ planes-added m (byteAt v f) χ (λ i. bitOf (cellAt S i f) z) small (λ i. bitOf-lt (cellAt S i f) z)
 
 -- two more terms
@@ -37,8 +38,13 @@ step-two a s k f h =
     let e : 2 * k + 1 + 1 ≡ 2 * (k + 1) = omega arith in
     sym (xor-assoc s (f (2 * k)) (f (2 * k + 1))) ∙ ap (λ x. bitXor x (f (2 * k + 1))) (sum-step a s (2 * k) f h) ∙ sum-step a _ (2 * k + 1) f refl ∙ ap (λ n. bitXor a (xorSum n f)) e
 
+-- a byte is an element
+small-is : (v : ℕ) → v < byteValues → v < 2 ^ degreeOf degree
+unfolding degreeOf fieldOf
+small-is v h = h
+
 abbrev Inv-loop : tie.InvT-loop
-Inv-loop t₀ words base groups sums masks k₀ t k = (k ≤ 4) × (length t ≡ planes * chunk) × ((S v : List ℕ) (χ : ℕ → ℕ) (m f z : ℕ) → Weighed S χ m sums words groups base → Masks v masks → byteAt v f < 256 → f < chunk → stackAt t f z ≡ bitXor (stackAt t₀ f z) (xorSum (2 * k) (term S v χ m f z)))
+Inv-loop t₀ words base groups sums masks k₀ t k = (k ≤ 4) × (length t ≡ planes * chunk) × ((S v : List ℕ) (χ : ℕ → ℕ) (m f z : ℕ) → Weighed S χ m sums words groups base → Masks v masks → byteAt v f < 256 → f < chunk → stackAt degree t f z ≡ bitXor (stackAt degree t₀ f z) (xorSum (2 * k) (term S v χ m f z)))
 
 abbrev μ-loop : tie.MeasureT-loop
 μ-loop t₀ words base groups sums masks k₀ t k = 4 - k
@@ -94,9 +100,9 @@ loop-again c =
       omega (arith, lt),
       done .kept .0 ∙ l .inv .1,
       (λ S v χ m f z weighed masks hv h.
-          done .ensures v f z masks hv h
-          ∙ ap₂ (λ (x y : ℕ). bitXor (stackAt (l .t) f z) (bitXor (bitOf x z * byteProduct (alpha p) (byteAt v f)) (bitOf y z * byteProduct (alpha (p + 1)) (byteAt v f)))) (one S χ m f weighed h) (two S χ m f weighed h)
-          ∙ step-two (stackAt (now (a .t)) f z) (stackAt (l .t) f z) (l .k) (term S v χ m f z) (l .inv .2 S v χ m f z weighed masks hv h)),
+          done .ensures degree v f z masks (small-is (byteAt v f) hv) h
+          ∙ ap₂ (λ (x y : ℕ). bitXor (stackAt degree (l .t) f z) (bitXor (bitOf x z * byteProduct degree (alpha degree p) (byteAt v f)) (bitOf y z * byteProduct degree (alpha degree (p + 1)) (byteAt v f)))) (one S χ m f weighed h) (two S χ m f weighed h)
+          ∙ step-two (stackAt degree (now (a .t)) f z) (stackAt degree (l .t) f z) (l .k) (term S v χ m f z) (l .inv .2 S v χ m f z weighed masks hv h)),
     )
 
 same-length : tie.Need-same-length Inv-loop μ-loop
@@ -107,7 +113,7 @@ returns c =
     let a = c .before .before .before .before .before .before .args in
     let l = c .before .loop in
     let end : l .k ≡ 4 = omega arith in
-    λ S v χ m f z weighed masks hv h. (rw end at (l .inv .2)) S v χ m f z weighed masks hv h ∙ ap (bitXor (stackAt (now (a .t)) f z)) (all-terms S v χ m f z (weighed .3))
+    λ S v χ m f z weighed masks hv h. (rw end at (l .inv .2)) S v χ m f z weighed masks hv h ∙ ap (bitXor (stackAt degree (now (a .t)) f z)) (all-terms S v χ m f z (weighed .3))
 
 pub absorb-spec : {M : Type 1} → statement M
 absorb-spec =

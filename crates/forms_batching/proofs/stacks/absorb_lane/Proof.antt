@@ -12,6 +12,7 @@ use lib.ListN.{length, length-take, length-drop}
 use borrow.Rule.Slice.PartMut.{putMid}
 use lib.Bits.{bitXor}
 use Rattle.protocol.specs.Lists.{part, blockAt}
+use Rattle.field.specs.Degrees.{degree}
 use Rattle.strings.specs.Sums.{byteAt, bitOf, xorSum}
 use Rattle.strings.proofs.Rows.{row-byte, put-in, put-other}
 use Rattle.chunks.specs.Chunks.{chunk, cellAt, Masks}
@@ -88,7 +89,7 @@ returns c =
     let long : length (blockAt l (planes * chunk) (a .e)) ≡ planes * chunk = simp (length-take, length-drop) (omega arith) in
     let kept : length r ≡ planes * chunk = rw e at (done .kept .0) ∙ long in
     let filled = c .before .before .before .before .before .before .fill-masks in
-    let sums : ((S v : List ℕ) (χ : ℕ → ℕ) (m f z : ℕ) → Weighed S χ m (now (a .sums)) (now (a .words)) (a .groups) (a .e * 8) → Masks v (filled .last .0) → byteAt v f < 256 → f < chunk → stackAt r f z ≡ bitXor (stackAt (blockAt l (planes * chunk) (a .e)) f z) (byteProduct (byteAt v f) (xorSum m (λ i. bitOf (cellAt S i f) z * χ i)))) =
+    let sums : ((S v : List ℕ) (χ : ℕ → ℕ) (m f z : ℕ) → Weighed S χ m (now (a .sums)) (now (a .words)) (a .groups) (a .e * 8) → Masks v (filled .last .0) → byteAt v f < 256 → f < chunk → stackAt degree r f z ≡ bitXor (stackAt degree (blockAt l (planes * chunk) (a .e)) f z) (byteProduct degree (byteAt v f) (xorSum m (λ i. bitOf (cellAt S i f) z * χ i)))) =
     rw e at (done .ensures) in
     rw e (
       (λ S χ m h f z weighed hh hf.
@@ -97,7 +98,7 @@ returns c =
           let small : byteAt v (h * 16 + f) < 256 = rw lane (known ((a .e * mostVariables) + (a .first + f)) .fits) in
           stack-is (putMid at (planes * chunk) l r) r (a .e) (h * 16 + f) z inside (put-in at (planes * chunk) l r fits kept)
           ∙ sums S v χ m (h * 16 + f) z weighed (filled .ensures) small inside
-          ∙ ap₂ (λ (x y : ℕ). bitXor x (byteProduct y (xorSum m (λ i. bitOf (cellAt S i (h * 16 + f)) z * χ i))))
+          ∙ ap₂ (λ (x y : ℕ). bitXor x (byteProduct degree y (xorSum m (λ i. bitOf (cellAt S i (h * 16 + f)) z * χ i))))
           (sym (stack-is l (blockAt l (planes * chunk) (a .e)) (a .e) (h * 16 + f) z inside (λ b h. sym (row-byte l (planes * chunk) (a .e) b h)))) lane),
       put-other (a .e) (planes * chunk) l r fits kept,
     )

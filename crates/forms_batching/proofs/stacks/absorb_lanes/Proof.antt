@@ -12,6 +12,7 @@ use native.Mathlib.Omega.{arith}
 use denote.Ref.{now}
 use lib.ListN.{length}
 use lib.Bits.{bitXor}
+use Rattle.field.specs.Degrees.{degree}
 use Rattle.strings.specs.Sums.{byteAt, bitOf, xorSum}
 use Rattle.chunks.specs.Chunks.{chunk, cellAt}
 use Rattle.forms_choices.specs.Entries.{Weighed}
@@ -26,7 +27,7 @@ abbrev weight : List ℕ → (ℕ → ℕ → ℕ) → ℕ → ℕ → ℕ → �
 weight S χ m e f z = xorSum m (λ i. bitOf (cellAt S i f) z * χ e i)
 
 abbrev Inv-loop : tie.InvT-loop
-Inv-loop stacks₀ tau words groups sums vectors first e₀ stacks e = (e ≤ tau) × (length stacks ≡ length stacks₀) × ((S : List ℕ) (χ : ℕ → ℕ → ℕ) (m q h f z : ℕ) → ((q : ℕ) → q < tau → Weighed S (χ q) m sums words groups (q * 8)) → q < e → h < 2 → f < 16 → stackOf stacks q (h * 16 + f) z ≡ bitXor (stackOf stacks₀ q (h * 16 + f) z) (byteProduct (byteAt vectors (q * mostVariables + (first + f))) (weight S χ m q (h * 16 + f) z))) × ((q b : ℕ) → e ≤ q → b < planes * chunk → byteAt stacks (q * (planes * chunk) + b) ≡ byteAt stacks₀ (q * (planes * chunk) + b))
+Inv-loop stacks₀ tau words groups sums vectors first e₀ stacks e = (e ≤ tau) × (length stacks ≡ length stacks₀) × ((S : List ℕ) (χ : ℕ → ℕ → ℕ) (m q h f z : ℕ) → ((q : ℕ) → q < tau → Weighed S (χ q) m sums words groups (q * 8)) → q < e → h < 2 → f < 16 → stackOf degree stacks q (h * 16 + f) z ≡ bitXor (stackOf degree stacks₀ q (h * 16 + f) z) (byteProduct degree (byteAt vectors (q * mostVariables + (first + f))) (weight S χ m q (h * 16 + f) z))) × ((q b : ℕ) → e ≤ q → b < planes * chunk → byteAt stacks (q * (planes * chunk) + b) ≡ byteAt stacks₀ (q * (planes * chunk) + b))
 
 abbrev μ-loop : tie.MeasureT-loop
 μ-loop stacks₀ tau words groups sums vectors first e₀ stacks e = tau - e
@@ -62,7 +63,7 @@ loop-again c =
           (λ (same : q ≡ l .e).
           rw same
           (done .ensures .0 S (χ (l .e)) m h f z (weighed (l .e) lt) hh hf
-          ∙ ap (λ (x : ℕ). bitXor x (byteProduct (byteAt (now (a .vectors)) (l .e * mostVariables + (a .first + f))) (weight S χ m (l .e) (h * 16 + f) z)))
+          ∙ ap (λ (x : ℕ). bitXor x (byteProduct degree (byteAt (now (a .vectors)) (l .e * mostVariables + (a .first + f))) (weight S χ m (l .e) (h * 16 + f) z)))
           (stack-same (l .stacks) (now (a .stacks)) (l .e) (h * 16 + f) z inside (λ b hb. l .inv .3 (l .e) b (omega arith) hb))))
           (λ (less : q < l .e).
           stack-same (done .last .0) (l .stacks) q (h * 16 + f) z inside (λ b hb. done .ensures .1 q b (λ x. omega arith) hb)

@@ -12,6 +12,7 @@ use denote.Ref.{now}
 use lib.ListN.{length}
 use lib.Bits.{bitXor, xor-zero-r}
 use Rattle.protocol.specs.Lists.{blockAt}
+use Rattle.field.specs.Degrees.{degree}
 use Rattle.strings.specs.Sums.{byteAt, bitOf, xorSum}
 use Rattle.strings.proofs.Rows.{row-end, row-byte}
 use Rattle.strings.proofs.SumLaws.{sum-same, sum-none, sum-step}
@@ -19,7 +20,7 @@ use Rattle.strings.proofs.Meaning.{bitOf-zero}
 use Rattle.chunks.specs.Chunks.{chunk, cellAt}
 use Rattle.forms_choices.specs.Entries.{Tabled, upTo, IsBytes, ChosenAll, Weighed}
 use Rattle.forms_choices.proofs.ChoiceLaws.{up-to-first}
-use Rattle.forms_columns.specs.Stacks.{byteProduct, planes, stackOf}
+use Rattle.forms_columns.specs.Stacks.{coordinateOf, byteProduct, planes, stackOf}
 use Rattle.protocol.specs.Shape.{mostVariables}
 use Rattle.forms_batching.specs.Batched.{cellSum, SumsRoom}
 use Rattle.forms_batching.proofs.StackLaws.{stack-same}
@@ -28,8 +29,8 @@ use Rattle.forms_batching.proofs.stacks.collect.Statement.{statement}
 use Rattle.forms_batching.proofs.stacks.collect.Tie as tie
 
 -- what the sixteen rows q add to a byte of the stack of repetition e
-abbrev term : List ℕ → ℕ → (ℕ → ℕ → ℕ) → List ℕ → ℕ → ℕ → ℕ → ℕ → ℕ → ℕ
-term cells m χ vectors e h f z q = byteProduct (byteAt vectors (e * mostVariables + (q * 16 + f))) (cellSum cells m χ e q (h * 16 + f) z)
+abbrev term : List ℕ → ℕ → (ℕ → ℕ → ℕ) → List ℕ → ℕ → ℕ → ℕ → ℕ → ℕ → ℕ → ℕ
+term cells m χ vectors top e h f z q = byteProduct degree (coordinateOf vectors e ((top + q) * 16 + f)) (cellSum cells m χ e q (h * 16 + f) z)
 
 -- the first entry of a table of sums is 0
 first-zero : (S sums : List ℕ) (count f : ℕ) → 0 < count → Tabled S sums count → f < chunk → byteAt sums f ≡ 0
@@ -58,10 +59,13 @@ sum-is cells χ m e q f z h =
     ap₂ (λ x y. bitOf x z * y) (row-byte cells (m * chunk) q (i * chunk + f) inside ∙ ap (byteAt cells) (place q m i f)) (up-to-first m (χ e) i l))
 
 abbrev Inv-loop : tie.InvT-loop
-Inv-loop stacks₀ sums₀ cells panel m tau words groups vectors q₀ stacks sums q = (q ≤ panel + 1) × (length stacks ≡ length stacks₀) × SumsRoom sums × ((χ : ℕ → ℕ → ℕ) (e h f z : ℕ) → IsBytes χ → ChosenAll χ m tau words → e < tau → h < 2 → f < 16 → stackOf stacks e (h * 16 + f) z ≡ bitXor (stackOf stacks₀ e (h * 16 + f) z) (xorSum q (term cells m χ vectors e h f z)))
+Inv-loop stacks₀ sums₀ cells words vectors top rows m tau groups q₀ stacks sums q =
+    (q ≤ rows) × (length stacks ≡ length stacks₀) × SumsRoom sums
+    × ((χ : ℕ → ℕ → ℕ) (e h f z : ℕ) → IsBytes χ → ChosenAll χ m tau words → e < tau → h < 2 → f < 16
+    → stackOf degree stacks e (h * 16 + f) z ≡ bitXor (stackOf degree stacks₀ e (h * 16 + f) z) (xorSum q (term cells m χ vectors top e h f z)))
 
 abbrev μ-loop : tie.MeasureT-loop
-μ-loop stacks₀ sums₀ cells panel m tau words groups vectors q₀ stacks sums q = panel + 1 - q
+μ-loop stacks₀ sums₀ cells words vectors top rows m tau groups q₀ stacks sums q = rows - q
 
 loop-holds : tie.Need-loop-holds Inv-loop μ-loop
 unfolding xorSum
@@ -76,7 +80,7 @@ row-at-requires c κs =
     let a = c .before .before .before .before .before .before .before .before .args in
     let pre = c .before .before .before .before .before .before .before .before .pre in
     let l = c .before .before .loop in
-    omega (arith, pre .2, row-end (l .q) (a .panel + 1) (a .m * chunk) (omega (arith, c .before .loop-test .taken)))
+    omega (arith, pre .2, row-end (l .q) (a .rows) (a .s .m * chunk) (omega (arith, c .before .loop-test .taken)))
 
 fill-sums-requires : tie.Need-fill-sums-requires Inv-loop μ-loop
 fill-sums-requires c κs =
@@ -89,6 +93,9 @@ add-first-requires c κs =
     let pre = c .before .before .before .before .before .before .before .before .before .before .before .before .before .before .pre in
     let l = c .before .before .before .before .before .before .before .before .loop in
     (omega (arith, l .inv .1, pre .0, pre .6), omega (arith, l .inv .2, c .before .before .before .before .fill-sums .kept .0))
+
+add-absorb-lanes : tie.Need-add-absorb-lanes Inv-loop μ-loop
+add-absorb-lanes c = search needs
 
 mul-absorb-lanes : tie.Need-mul-absorb-lanes Inv-loop μ-loop
 mul-absorb-lanes c = search needs
@@ -111,7 +118,7 @@ absorb-lanes-requires c κs =
 add-q : tie.Need-add-q Inv-loop μ-loop
 add-q c =
     let pre = c .before .before .before .before .before .before .before .before .before .before .before .before .before .before .before .before .before .before .before .before .before .before .pre in
-    let few : c .before .before .before .before .before .before .before .before .before .before .before .before .before .before .before .before .loop .q ≤ 9 = omega (arith, pre .3, c .before .before .before .before .before .before .before .before .before .before .before .before .before .before .before .loop-test .taken) in
+    let few : c .before .before .before .before .before .before .before .before .before .before .before .before .before .before .before .before .loop .q ≤ mostVariables = omega (arith, pre .3, c .before .before .before .before .before .before .before .before .before .before .before .before .before .before .before .loop-test .taken) in
     search (needs, few)
 
 loop-less : tie.Need-loop-less Inv-loop μ-loop
@@ -127,24 +134,24 @@ loop-again c =
     let settled = c .before .before .before .before .before .before .before .add-first in
     let done = c .before .before .absorb-lanes in
     let cells = now (a .cells) in
-    let S = blockAt cells (a .m * chunk) (l .q) in
-    let tabled : Tabled S (filled .last .0) (a .groups * 32) = rw (sym (row .ensures .0)) (filled .ensures) in
-    let long : length S ≡ a .m * chunk = ap length (sym (row .ensures .0)) ∙ row .ensures .1 in
-    let few : a .groups ≤ 32 = pre .8 .0 .0 in
-    let some : 0 < a .groups * 32 = omega (arith, pre .8 .1, pre .4) in
-    let same = unchanged S (filled .last .0) (l .stacks) (settled .last .0) (a .groups * 32) some tabled (settled .ensures .0) (settled .ensures .1) in
-    let all : (χ : ℕ → ℕ → ℕ) → IsBytes χ → ChosenAll χ (a .m) (a .tau) (now (a .words)) → (q : ℕ) → q < a .tau → Weighed S (upTo (a .m) (χ q)) (a .m) (filled .last .0) (now (a .words)) (a .groups) (q * 8) =
-    λ χ. weighed-rows S (filled .last .0) (now (a .words)) χ (a .m) (a .groups) (a .tau) tabled long (pre .8 .1) few in (
+    let S = blockAt cells (a .s .m * chunk) (l .q) in
+    let tabled : Tabled S (filled .last .0) (a .s .groups * 32) = rw (sym (row .ensures .0)) (filled .ensures) in
+    let long : length S ≡ a .s .m * chunk = ap length (sym (row .ensures .0)) ∙ row .ensures .1 in
+    let few : a .s .groups ≤ 32 = pre .8 .0 .0 in
+    let some : 0 < a .s .groups * 32 = omega (arith, pre .8 .1, pre .4) in
+    let same = unchanged S (filled .last .0) (l .stacks) (settled .last .0) (a .s .groups * 32) some tabled (settled .ensures .0) (settled .ensures .1) in
+    let all : (χ : ℕ → ℕ → ℕ) → IsBytes χ → ChosenAll χ (a .s .m) (a .s .tau) (now (a .words)) → (q : ℕ) → q < a .s .tau → Weighed S (upTo (a .s .m) (χ q)) (a .s .m) (filled .last .0) (now (a .words)) (a .s .groups) (q * 8) =
+    λ χ. weighed-rows S (filled .last .0) (now (a .words)) χ (a .s .m) (a .s .groups) (a .s .tau) tabled long (pre .8 .1) few in (
       omega (arith, c .before .before .before .before .before .before .before .before .before .before .before .before .before .before .before .loop-test .taken),
       done .kept .0 ∙ settled .kept .0 ∙ l .inv .1,
       filled .kept .0 ∙ l .inv .2,
       (λ χ e h f z small chosen he hh hf.
           let inside : h * 16 + f < chunk = omega arith in
-          done .ensures S (λ q. upTo (a .m) (χ q)) (a .m) e h f z (all χ small chosen) he hh hf
-          ∙ ap₂ (λ (y x : ℕ). bitXor y (byteProduct (byteAt (now (a .vectors)) (e * mostVariables + (l .q * 16 + f))) x))
+          done .ensures S (λ q. upTo (a .s .m) (χ q)) (a .s .m) e h f z (all χ small chosen) he hh hf
+          ∙ ap₂ (λ (y x : ℕ). bitXor y (byteProduct degree (coordinateOf (now (a .vectors)) e ((a .top + l .q) * 16 + f)) x))
           (stack-same (settled .last .0) (l .stacks) e (h * 16 + f) z inside (λ b k. same (e * (planes * chunk) + b)))
-          (sum-is cells χ (a .m) e (l .q) (h * 16 + f) z inside)
-          ∙ sum-step (stackOf (now (a .stacks)) e (h * 16 + f) z) (stackOf (l .stacks) e (h * 16 + f) z) (l .q) (term cells (a .m) χ (now (a .vectors)) e h f z) (l .inv .3 χ e h f z small chosen he hh hf)),
+          (sum-is cells χ (a .s .m) e (l .q) (h * 16 + f) z inside)
+          ∙ sum-step (stackOf degree (now (a .stacks)) e (h * 16 + f) z) (stackOf degree (l .stacks) e (h * 16 + f) z) (l .q) (term cells (a .s .m) χ (now (a .vectors)) (a .top) e h f z) (l .inv .3 χ e h f z small chosen he hh hf)),
     )
 
 same-length : tie.Need-same-length Inv-loop μ-loop
@@ -157,7 +164,7 @@ returns : tie.Need-returns Inv-loop μ-loop
 returns c =
     let a = c .before .before .before .before .before .before .before .args in
     let l = c .before .loop in
-    let end : l .q ≡ a .panel + 1 = omega arith in
+    let end : l .q ≡ a .rows = omega arith in
     rw end at (l .inv .3)
 
 pub collect-spec : {M : Type 1} → statement M
@@ -171,6 +178,7 @@ collect-spec =
     row-at-requires
     fill-sums-requires
     add-first-requires
+    add-absorb-lanes
     mul-absorb-lanes
     absorb-lanes-requires
     add-q

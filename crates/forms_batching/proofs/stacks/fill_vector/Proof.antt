@@ -9,14 +9,16 @@ use denote.Ref.{now}
 use lib.ListN.{length, length-set}
 use Rattle.strings.proofs.Elementwise.{changed, changed-more, changed-all}
 use Rattle.lanes.specs.Lanes.{laneAt}
+use Rattle.forms_choices.specs.Entries.{upTo}
+use Rattle.forms_choices.proofs.ChoiceLaws.{up-to-first, up-to-past}
 use Rattle.forms_batching.proofs.stacks.fill_vector.Statement.{statement}
 use Rattle.forms_batching.proofs.stacks.fill_vector.Tie as tie
 
-abbrev change : List ℕ → ℕ → ℕ → ℕ → ℕ
-change table e c x = laneAt table c e
+abbrev change : List ℕ → ℕ → ℕ → ℕ → ℕ → ℕ
+change table n e c x = upTo n (λ k. laneAt table k e) c
 
 abbrev Inv-loop : tie.InvT-loop
-Inv-loop v₀ table n e c₀ v c = (c ≤ length v₀) × (v ≡ changed (change table e) v₀ c) × (length v ≡ length v₀)
+Inv-loop v₀ table n e c₀ v c = (c ≤ length v₀) × (v ≡ changed (change table n e) v₀ c) × (length v ≡ length v₀)
 
 abbrev μ-loop : tie.MeasureT-loop
 μ-loop v₀ table n e c₀ v c = length v₀ - c
@@ -42,7 +44,7 @@ loop-again c =
     let a = c .before .before .before .before .before .args in
     let l = c .before .before .loop in (
       omega arith,
-      changed-more (change (now (a .table)) (a .e)) (now (a .v)) (l .v) (l .c) _ (l .inv .1) (c .lane-byte .ensures),
+      changed-more (change (now (a .table)) (a .n) (a .e)) (now (a .v)) (l .v) (l .c) _ (l .inv .1) (c .lane-byte .ensures),
       simp length-set (l .inv .2),
     )
 
@@ -53,7 +55,7 @@ returns : tie.Need-returns Inv-loop μ-loop
 returns c =
     let a = c .before .before .before .before .args in
     let l = c .before .loop in
-    λ i h. changed-all (change (now (a .table)) (a .e)) (now (a .v)) (l .v) (l .c) (l .inv .1) (omega (arith, l .inv .2)) (omega arith) i h
+    λ i h. changed-all (change (now (a .table)) (a .n) (a .e)) (now (a .v)) (l .v) (l .c) (l .inv .1) (omega (arith, l .inv .2)) (omega arith) i h
 
 pub fill-vector-spec : {M : Type 1} → statement M
 fill-vector-spec =

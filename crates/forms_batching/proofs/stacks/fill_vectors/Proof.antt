@@ -9,11 +9,13 @@ use lib.ListN.{length}
 use Rattle.strings.proofs.Rows.{RowsAre, rows-more, row-end}
 use Rattle.lanes.specs.Lanes.{laneAt}
 use Rattle.protocol.specs.Shape.{mostVariables}
+use Rattle.forms_choices.specs.Entries.{upTo}
+use Rattle.forms_choices.proofs.ChoiceLaws.{up-to-first, up-to-past}
 use Rattle.forms_batching.proofs.stacks.fill_vectors.Statement.{statement}
 use Rattle.forms_batching.proofs.stacks.fill_vectors.Tie as tie
 
 abbrev Inv-loop : tie.InvT-loop
-Inv-loop vectors₀ tau table n e₀ vectors e = (e ≤ tau) × (length vectors ≡ length vectors₀) × RowsAre (λ i f. laneAt table f i) vectors e mostVariables
+Inv-loop vectors₀ tau table n e₀ vectors e = (e ≤ tau) × (length vectors ≡ length vectors₀) × RowsAre (λ i f. upTo n (λ k. laneAt table k i) f) vectors e mostVariables
 
 abbrev μ-loop : tie.MeasureT-loop
 μ-loop vectors₀ tau table n e₀ vectors e = tau - e
@@ -39,13 +41,18 @@ loop-again c =
     let a = c .before .before .before .before .before .before .before .before .args in
     let l = c .before .before .before .before .before .loop in
     let done = c .before .before .put-vector in
-    (omega arith, done .kept .0 ∙ l .inv .1, rows-more (λ i f. laneAt (now (a .table)) f i) (l .vectors) (done .last .0) (l .e) mostVariables (l .inv .2) (done .ensures .0) (done .ensures .1))
+    (omega arith, done .kept .0 ∙ l .inv .1, rows-more (λ i f. upTo (a .n) (λ k. laneAt (now (a .table)) k i) f) (l .vectors) (done .last .0) (l .e) mostVariables (l .inv .2) (done .ensures .0) (done .ensures .1))
 
 same-length : tie.Need-same-length Inv-loop μ-loop
 same-length c = search needs
 
 returns : tie.Need-returns Inv-loop μ-loop
-returns c i f h k = c .before .loop .inv .2 i f (omega arith) k
+returns c =
+    let a = c .before .before .before .before .args in
+    let all = c .before .loop .inv .2 in (
+      (λ i f h k. all i f (omega arith) k),
+      (λ i f h past k. all i f (omega arith) k ∙ up-to-past (a .n) (λ x. laneAt (now (a .table)) x i) f past),
+    )
 
 pub fill-vectors-spec : {M : Type 1} → statement M
 fill-vectors-spec =

@@ -1,4 +1,4 @@
--- `forms_batching::stacks::lane_byte` meets its contract. Past the last coordinate the table reads 0.
+-- `forms_batching::stacks::lane_byte` meets its contract.
 -- Assumes nothing.
 use borrow.Author.Needs.{needs}
 use Prim.Native.Nat.{_+_, _*_, _≤_}
@@ -6,7 +6,9 @@ use mathlib.Core.Path.{sym}
 use denote.Ref.{now}
 use lib.ListN.{length, List·getD-eq-default}
 use native.Mathlib.Omega.{arith}
-use Rattle.lanes.specs.Lanes.{lanes}
+use Rattle.lanes.specs.Lanes.{lanes, laneAt}
+use Rattle.forms_choices.specs.Entries.{upTo}
+use Rattle.forms_choices.proofs.ChoiceLaws.{up-to-first, up-to-past}
 use Rattle.forms_batching.proofs.stacks.lane_byte.Statement.{statement}
 use Rattle.forms_batching.proofs.stacks.lane_byte.Tie as tie
 
@@ -20,13 +22,12 @@ shared-slice-read-result : tie.Need-shared-slice-read-result
 shared-slice-read-result c = search needs
 
 returns : tie.Need-returns
-returns c = search needs
+returns c = let a = c .before .before .args in sym (up-to-first (a .n) (λ k. laneAt (now (a .table)) k (a .e)) (a .c) (omega arith))
 
 returns-2 : tie.Need-returns-2
 returns-2 c =
     let a = c .before .args in
-    let past : length (now (a .table)) ≤ a .c * lanes + a .e = omega arith in
-    sym (List·getD-eq-default (now (a .table)) 0 past)
+    sym (up-to-past (a .n) (λ k. laneAt (now (a .table)) k (a .e)) (a .c) (omega arith))
 
 pub lane-byte-spec : {M : Type 1} → statement M
 lane-byte-spec =

@@ -12,6 +12,8 @@ use Rattle.strings.specs.Sums.{byteAt}
 use Rattle.strings.proofs.Rows.{put-in, put-other}
 use Rattle.lanes.specs.Lanes.{laneAt}
 use Rattle.protocol.specs.Shape.{mostVariables}
+use Rattle.forms_choices.specs.Entries.{upTo}
+use Rattle.forms_choices.proofs.ChoiceLaws.{up-to-first, up-to-past}
 use Rattle.forms_batching.proofs.stacks.put_vector.Statement.{statement}
 use Rattle.forms_batching.proofs.stacks.put_vector.Tie as tie
 
@@ -47,7 +49,7 @@ returns c =
     let fits : at + mostVariables ≤ length l = omega arith in
     let long : length (take mostVariables (drop at l)) ≡ mostVariables = simp (length-take, length-drop) (omega arith) in
     let kept : length r ≡ mostVariables = rw e at (done .kept .0) ∙ long in
-    let all : (i : ℕ) → i < length (take mostVariables (drop at l)) → byteAt r i ≡ laneAt (now (a .table)) i (a .e) = rw e at (done .ensures) in
+    let all : (i : ℕ) → i < length (take mostVariables (drop at l)) → byteAt r i ≡ upTo (a .n) (λ k. laneAt (now (a .table)) k (a .e)) i = rw e at (done .ensures) in
     rw e ((λ i h. put-in at mostVariables l r fits kept i h ∙ all i (omega (arith, long))), put-other (a .e) mostVariables l r fits kept)
 
 pub put-vector-spec : {M : Type 1} → statement M

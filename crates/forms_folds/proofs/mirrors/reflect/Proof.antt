@@ -10,14 +10,8 @@ use Rattle.forms_folds.proofs.mirrors.reflect.Tie as tie
 turn-above-requires : tie.Need-turn-above-requires
 turn-above-requires c κs = search needs
 
-mul-fill-part : tie.Need-mul-fill-part
-mul-fill-part c = search needs
-
-add-fill-part : tie.Need-add-fill-part
-add-fill-part c = search needs
-
-fill-part-requires : tie.Need-fill-part-requires
-fill-part-requires c κs = search needs
+clear-own-requires : tie.Need-clear-own-requires
+clear-own-requires c κs = search needs
 
 same-length : tie.Need-same-length
 same-length c = search needs
@@ -25,19 +19,12 @@ same-length c = search needs
 returns : tie.Need-returns
 returns c =
     let a = c .before .before .before .before .before .before .before .before .before .before .args in
+    let pre = c .before .before .before .before .before .before .before .before .before .before .pre in
     let turn = c .before .before .before .before .before .before .turn-above in
-    let fill = c .before .before .fill-part in (
-      reflected (a .k) (a .col) (turn .last .0) (fill .last .0) (c .before .before .before .before .before .before .before .before .before .before .pre .1) (fill .ensures .1) (a .width) (drop (a .from) (now (a .src))) (turn .ensures .0) (fill .ensures .0),
-      reflected-kept (a .k) (a .col) (turn .last .0) (fill .last .0) (c .before .before .before .before .before .before .before .before .before .before .pre .1) (fill .ensures .1) (now (a .turned)) (turn .ensures .1),
+    let fill = c .before .before .clear-own in (
+      reflected (a .k) (a .col) (a .count) (turn .last .0) (fill .last .0) (pre .2) (fill .ensures .1) (a .width) (drop (a .from) (now (a .src))) (turn .ensures .0) (fill .ensures .0),
+      reflected-kept (a .k) (a .col) (a .count) (turn .last .0) (fill .last .0) (pre .2) (fill .ensures .1) (now (a .turned)) (turn .ensures .1),
     )
 
 pub reflect-spec : {M : Type 1} → statement M
-reflect-spec =
-    tie.close
-    (tie.spec
-    turn-above-requires
-    mul-fill-part
-    add-fill-part
-    fill-part-requires
-    same-length
-    returns)
+reflect-spec = tie.close (tie.spec turn-above-requires clear-own-requires same-length returns)

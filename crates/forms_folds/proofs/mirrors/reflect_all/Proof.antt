@@ -15,11 +15,11 @@ use Rattle.forms_folds.proofs.mirrors.reflect_all.Statement.{statement}
 use Rattle.forms_folds.proofs.mirrors.reflect_all.Tie as tie
 
 abbrev Inv-loop : tie.InvT-loop
-Inv-loop turned₀ src from width first end last k₀ turned k =
-    (k ≤ 8) × (length turned ≡ 1280) × ((x : ℕ) → x < k → 2 * first + x < 2 * end → Reflected width (drop from src) (2 * first + x) turned x)
+Inv-loop turned₀ src from width first end count last k₀ turned k =
+    (k ≤ 8) × (length turned ≡ 1280) × ((x : ℕ) → x < k → 2 * first + x < 2 * end → Reflected width (drop from src) (2 * first + x) count turned x)
 
 abbrev μ-loop : tie.MeasureT-loop
-μ-loop turned₀ src from width first end last k₀ turned k = 8 - k
+μ-loop turned₀ src from width first end count last k₀ turned k = 8 - k
 
 mul-least : tie.Need-mul-least Inv-loop μ-loop
 mul-least c = search needs
@@ -47,7 +47,7 @@ reflect-requires c κs =
     let a = c .before .before .before .before .before .before .args in
     let k = c .before .before .loop .k in
     let rows : (2 * a .first + k) * 8 + 8 ≤ a .end * 16 = omega arith in
-    (omega arith, omega arith, omega arith, omega (arith, mul-le-mul-right (a .width) rows))
+    (omega arith, omega arith, omega arith, (λ tall. omega (arith, c .before .before .before .before .before .before .pre .4 tall)), omega arith, omega (arith, mul-le-mul-right (a .width) rows))
 
 add-k : tie.Need-add-k Inv-loop μ-loop
 add-k c = search needs
@@ -60,12 +60,12 @@ loop-again c =
     let a = c .before .before .before .before .before .before .before .before .before .args in
     let l = c .before .before .before .before .before .loop in
     let done = c .before .before .reflect in
-    let few = c .before .before .before .before .before .before .before .before .before .pre .2 in
+    let few = c .before .before .before .before .before .before .before .before .before .pre .3 in
     let M = drop (a .from) (now (a .src)) in (
       omega arith,
       done .kept .0 ∙ l .inv .1,
-      below-next (λ x. 2 * a .first + x < 2 * a .end → Reflected (a .width) M (2 * a .first + x) (done .last .0) x) (l .k) (λ _. done .ensures .0)
-          (λ x lt h. reflected-stays (a .width) M (2 * a .first + x) x (l .k) (l .turned) (done .last .0) (done .ensures .1) (λ e. omega arith) (omega (arith, few)) (l .inv .2 x lt h)),
+      below-next (λ x. 2 * a .first + x < 2 * a .end → Reflected (a .width) M (2 * a .first + x) (a .count) (done .last .0) x) (l .k) (λ _. done .ensures .0)
+          (λ x lt h. reflected-stays (a .width) M (2 * a .first + x) (a .count) x (l .k) (l .turned) (done .last .0) (done .ensures .1) (λ e. omega arith) few (l .inv .2 x lt h)),
     )
 
 same-length : tie.Need-same-length Inv-loop μ-loop

@@ -5,7 +5,7 @@ use borrow.Author.Needs.{needs}
 use mathlib.Core.Path.{_∙_}
 use native.Mathlib.Omega.{arith}
 use denote.Ref.{now}
-use Rattle.forms_folds.proofs.MirrorLaws.{mirrored, mirrored-end, part-kept}
+use Rattle.forms_folds.proofs.MirrorLaws.{mirrored, mirrored-few, mirrored-end, part-kept}
 use Rattle.forms_folds.proofs.mirrors.turn_column.Statement.{statement}
 use Rattle.forms_folds.proofs.mirrors.turn_column.Tie as tie
 
@@ -32,12 +32,12 @@ same-length c = search needs
 
 returns : tie.Need-returns
 returns c =
-    let a = c .before .before .before .before .before .before .before .before .before .before .before .args in
-    let turn = c .before .before .before .before .before .before .before .turn-part in
+    let a = c .before .before .before .before .before .before .before .before .before .before .before .before .args in
+    let turn = c .before .before .before .before .before .before .before .before .turn-part in
     let end = c .before .before .turn-part2 in
     let first = part-kept (a .k) 0 (now (a .turned)) (turn .last .0) (omega arith) (turn .ensures .1 .0) (turn .ensures .1 .1) in
     let second = part-kept (a .k) 16 (turn .last .0) (end .last .0) (omega arith) (end .ensures .1 .0) (end .ensures .1 .1) in (
-      mirrored-end (a .width) (a .from) (a .col) (a .k) (now (a .src)) (turn .last .0) (end .last .0) (c .before .before .before .before .before .before .before .before .before .before .before .pre .1) (turn .ensures .0) (end .ensures .1 .0) (end .ensures .0),
+      mirrored-end (a .width) (a .from) (a .col) (a .k) (now (a .src)) (turn .last .0) (a .count) (end .last .0) (c .before .before .before .before .before .before .before .before .before .before .before .before .pre .3 (omega arith)) (turn .ensures .0) (end .ensures .1 .0) (end .ensures .0),
       λ x r other hr. second x r other hr ∙ first x r other hr,
     )
 
@@ -46,9 +46,20 @@ same-length-2 c = search needs
 
 returns-2 : tie.Need-returns-2
 returns-2 c =
+    let a = c .before .before .before .before .before .before .before .before .args in
+    let turn = c .before .before .before .before .turn-part in (
+      mirrored (a .width) (a .from) (a .col) (a .k) (now (a .src)) (turn .last .0) (a .count) (turn .ensures .0) (omega arith),
+      part-kept (a .k) 0 (now (a .turned)) (turn .last .0) (omega arith) (turn .ensures .1 .0) (turn .ensures .1 .1),
+    )
+
+same-length-3 : tie.Need-same-length-3
+same-length-3 c = search needs
+
+returns-3 : tie.Need-returns-3
+returns-3 c =
     let a = c .before .before .before .before .before .before .before .args in
     let turn = c .before .before .before .turn-part in (
-      mirrored (a .width) (a .from) (a .col) (a .k) (now (a .src)) (turn .last .0) (turn .ensures .0) (omega arith),
+      mirrored-few (a .width) (a .from) (a .col) (a .k) (now (a .src)) (turn .last .0) (a .count) (turn .ensures .0) (omega arith),
       part-kept (a .k) 0 (now (a .turned)) (turn .last .0) (omega arith) (turn .ensures .1 .0) (turn .ensures .1 .1),
     )
 
@@ -65,4 +76,6 @@ turn-column-spec =
     same-length
     returns
     same-length-2
-    returns-2)
+    returns-2
+    same-length-3
+    returns-3)

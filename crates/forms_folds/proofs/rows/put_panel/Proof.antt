@@ -1,4 +1,4 @@
--- `forms_folds::rows::put_panel` meets its contract: the chunk stands among the 26 sixteens of rows of the set.
+-- `forms_folds::rows::put_panel` meets its contract: the chunk stands among the sixteens of rows that the cells hold.
 -- Assumes nothing.
 use borrow.Author.Needs.{needs}
 use Prim.Native.Nat.{ℕ, _+_, _*_, _/_, _%_, _≤_, _<_}
@@ -9,15 +9,15 @@ use denote.Ref.{now}
 use lib.Bits.{bitXor}
 use Rattle.strings.specs.Sums.{byteAt}
 use Rattle.strings.proofs.Rows.{row-end}
-use Rattle.forms_folds.specs.Folds.{before}
-use Rattle.forms_folds.proofs.PlaceLaws.{before-fits}
+use Rattle.forms_folds.specs.Folds.{before, height, cellSixteens, pieceRows}
+use Rattle.forms_folds.proofs.PlaceLaws.{in-height}
 use Rattle.forms_folds.proofs.rows.put_panel.Statement.{statement}
 use Rattle.forms_folds.proofs.rows.put_panel.Tie as tie
 
-fits : (b first p q m : ℕ) → b ≡ before first p → first % 4 ≡ 0 → p < 4 → first + p < 10 → q ≤ first + p → (b + q < 26) × ((b + q) * m + m ≤ 26 * m)
-fits b first p q m begin h k l hq =
-    let few : b + q < 26 = omega (arith, begin, before-fits first p h k l) in
-    (few, row-end (b + q) 26 m few)
+fits : (b first count p q m : ℕ) → b ≡ before first count p → before first count p + height first count p ≤ cellSixteens → q < count → q ≤ first + p → (b + q < cellSixteens) × ((b + q) * m + m ≤ cellSixteens * m)
+fits b first count p q m begin all few above =
+    let few : b + q < cellSixteens = omega (arith, begin, in-height first count p q few above) in
+    (few, row-end (b + q) cellSixteens m few)
 
 add-if1 : tie.Need-add-if1
 add-if1 c = search needs
@@ -55,17 +55,17 @@ begin-requires c κs = search needs
 add-copy-part : tie.Need-add-copy-part
 add-copy-part c =
     let a = c .before .before .before .before .before .before .before .before .before .before .before .before .args in
-    omega (arith, fits (c .begin .result) (a .first) (a .p) (a .q) (a .m) (c .begin .ensures) (omega arith) (omega arith) (omega arith) (omega arith) .0)
+    omega (arith, fits (c .begin .result) (a .piece .first) (a .piece .count) (a .p) (a .q) (a .m) (c .begin .ensures) (c .before .before .before .before .before .before .before .before .before .before .before .before .pre .0 .0 .6 (a .p) (omega arith)) (omega arith) (omega arith) .0)
 
 mul-copy-part : tie.Need-mul-copy-part
 mul-copy-part c =
     let a = c .before .before .before .before .before .before .before .before .before .before .before .before .args in
-    omega (arith, fits (c .begin .result) (a .first) (a .p) (a .q) (a .m) (c .begin .ensures) (omega arith) (omega arith) (omega arith) (omega arith) .1)
+    omega (arith, fits (c .begin .result) (a .piece .first) (a .piece .count) (a .p) (a .q) (a .m) (c .begin .ensures) (c .before .before .before .before .before .before .before .before .before .before .before .before .pre .0 .0 .6 (a .p) (omega arith)) (omega arith) (omega arith) .1)
 
 add-copy-part-2 : tie.Need-add-copy-part-2
 add-copy-part-2 c =
     let a = c .before .before .before .before .before .before .before .before .before .before .before .before .args in
-    omega (arith, fits (c .begin .result) (a .first) (a .p) (a .q) (a .m) (c .begin .ensures) (omega arith) (omega arith) (omega arith) (omega arith) .1)
+    omega (arith, fits (c .begin .result) (a .piece .first) (a .piece .count) (a .p) (a .q) (a .m) (c .begin .ensures) (c .before .before .before .before .before .before .before .before .before .before .before .before .pre .0 .0 .6 (a .p) (omega arith)) (omega arith) (omega arith) .1)
 
 slice-aggregate-copy-part : tie.Need-slice-aggregate-copy-part
 slice-aggregate-copy-part c = search needs
@@ -73,7 +73,7 @@ slice-aggregate-copy-part c = search needs
 copy-part-requires : tie.Need-copy-part-requires
 copy-part-requires c κs =
     let a = c .before .before .before .before .before .before .before .before .before .before .before .before .before .args in
-    let end = fits (c .before .begin .result) (a .first) (a .p) (a .q) (a .m) (c .before .begin .ensures) (omega arith) (omega arith) (omega arith) (omega arith) .1 in
+    let end = fits (c .before .begin .result) (a .piece .first) (a .piece .count) (a .p) (a .q) (a .m) (c .before .begin .ensures) (c .before .before .before .before .before .before .before .before .before .before .before .before .before .pre .0 .0 .6 (a .p) (omega arith)) (omega arith) (omega arith) .1 in
     (omega (arith, end), omega arith)
 
 same-length : tie.Need-same-length
@@ -87,7 +87,7 @@ returns c =
     let begin = c .before .before .before .before .begin in
     let done = c .before .before .copy-part in (
       (λ hq hend e he.
-          let byte : 2 * a .p * 160 + a .q * 16 + (e / 16 * 160 + e % 16) ≡ (2 * a .p + e / 16) * 160 + (a .q * 16 + e % 16) = omega arith in
+          let byte : 2 * a .p * pieceRows + a .q * 16 + (e / 16 * pieceRows + e % 16) ≡ (2 * a .p + e / 16) * pieceRows + (a .q * 16 + e % 16) = omega arith in
           rw (begin .ensures, zero-add) at (done .ensures .0 e he) ∙ sum .ensures .1 e he ∙ ap₂ bitXor (copy .ensures .0 e he) (ap (byteAt (now (a .turned))) byte)),
       λ at e other he. done .ensures .1 at e (rw (begin .ensures) (other (omega arith))) he,
     )

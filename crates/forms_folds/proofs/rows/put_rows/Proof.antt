@@ -13,16 +13,19 @@ use Rattle.forms_folds.proofs.rows.put_rows.Statement.{statement}
 use Rattle.forms_folds.proofs.rows.put_rows.Tie as tie
 
 abbrev Inv-loop : tie.InvT-loop
-Inv-loop cells₀ made turned first end q m i p₀ cells p = (p ≤ 4) × (length cells ≡ length cells₀) × Put first end q m i p made turned cells × ChunksKept first q m i p cells₀ cells
+Inv-loop cells₀ made turned piece q m i p₀ cells p = (p ≤ 4) × (length cells ≡ length cells₀) × Put (piece .first) (piece .end) (piece .count) q m i p made turned cells × ChunksKept (piece .first) (piece .count) q m i p cells₀ cells
 
 abbrev μ-loop : tie.MeasureT-loop
-μ-loop cells₀ made turned first end q m i p₀ cells p = 4 - p
+μ-loop cells₀ made turned piece q m i p₀ cells p = 4 - p
 
 loop-holds : tie.Need-loop-holds Inv-loop μ-loop
 loop-holds c = (search needs, refl, (λ p e hp. absurd (omega arith)), (λ at e beside he. refl))
 
 put-panel-requires : tie.Need-put-panel-requires Inv-loop μ-loop
-put-panel-requires c κs = search needs
+put-panel-requires c κs =
+    let pre = c .before .before .before .before .before .before .pre in
+    let l = c .before .before .loop in
+    ((pre .0, pre .1, pre .2, pre .3, omega (arith, pre .4, l .inv .1), pre .5, pre .6), c .before .loop-test .taken)
 
 add-p : tie.Need-add-p Inv-loop μ-loop
 add-p c = search needs
@@ -37,8 +40,8 @@ loop-again c =
     let done = c .before .before .put-panel in (
       omega arith,
       done .kept .0 ∙ l .inv .1,
-      put-more (a .first) (l .p) (a .end) (a .q) (a .m) (a .i) (now (a .made)) (now (a .turned)) (l .cells) (done .last .0) (c .before .before .before .before .before .before .before .before .before .pre .3) (done .ensures .0) (done .ensures .1) (l .inv .2),
-      chunks-more (a .first) (l .p) (a .end) (a .q) (a .m) (a .i) (now (a .made)) (now (a .turned)) (l .cells) (done .last .0) (c .before .before .before .before .before .before .before .before .before .pre .3) (done .ensures .0) (done .ensures .1) (now (a .cells)) (l .inv .3),
+      put-more (a .piece .first) (l .p) (a .piece .end) (a .piece .count) (a .q) (a .m) (a .i) (now (a .made)) (now (a .turned)) (l .cells) (done .last .0) (c .before .before .before .before .before .before .before .before .before .pre .2) (c .before .before .before .before .before .before .before .before .before .pre .1) (done .ensures .0) (done .ensures .1) (l .inv .2),
+      chunks-more (a .piece .first) (l .p) (a .piece .end) (a .piece .count) (a .q) (a .m) (a .i) (now (a .made)) (now (a .turned)) (l .cells) (done .last .0) (c .before .before .before .before .before .before .before .before .before .pre .2) (c .before .before .before .before .before .before .before .before .before .pre .1) (done .ensures .0) (done .ensures .1) (now (a .cells)) (l .inv .3),
     )
 
 same-length : tie.Need-same-length Inv-loop μ-loop

@@ -1,4 +1,4 @@
--- `forms_batching::panels::stack_panel` meets its contract: the stacks of the cells, from zeros.
+-- `forms_batching::panels::stack_part` meets its contract: the stacks of the cells, from zeros.
 -- Assumes nothing.
 use borrow.Author.Needs.{needs}
 use Prim.Native.Nat.{ℕ, _+_, _*_, _/_, _%_, _≤_, _<_}
@@ -9,20 +9,18 @@ use denote.Ref.{now}
 use lib.ListN.{length, drop, length-take, length-append, List·getD-append}
 use lib.Seq.{length-take-le}
 use lib.Bits.{bitXor, xor-zero-l}
-use Rattle.protocol.specs.Shape.{mostVariables}
+use Rattle.field.specs.Degrees.{degree}
 use Rattle.strings.specs.Sums.{byteAt, xorSum}
-use Rattle.strings.proofs.SumLaws.{sum-same}
-use Rattle.lanes.specs.Lanes.{laneAt}
 use Rattle.chunks.specs.Chunks.{chunk}
-use Rattle.forms_columns.specs.Stacks.{byteProduct, planes, stackOf}
+use Rattle.forms_columns.specs.Stacks.{byteProduct, planes, stackOf, coordinateOf}
 use Rattle.forms_batching.specs.Batched.{cellSum}
-use Rattle.forms_batching.proofs.StackLaws.{stack-none, lane-past}
+use Rattle.forms_batching.proofs.StackLaws.{stack-none}
 use Rattle.forms_batching.proofs.PanelLaws.{fold-is}
-use Rattle.forms_batching.proofs.panels.stack_panel.Statement.{statement}
-use Rattle.forms_batching.proofs.panels.stack_panel.Tie as tie
+use Rattle.forms_batching.proofs.panels.stack_part.Statement.{statement}
+use Rattle.forms_batching.proofs.panels.stack_part.Tie as tie
 
 -- the stacks that were cleared
-cleared : (r l : List ℕ) (k : ℕ) → length r ≡ k → ((b : ℕ) → b < length r → byteAt r b ≡ 0) → (e f z : ℕ) → e * (planes * chunk) + planes * chunk ≤ k → f < chunk → stackOf (r ++ l) e f z ≡ 0
+cleared : (r l : List ℕ) (k : ℕ) → length r ≡ k → ((b : ℕ) → b < length r → byteAt r b ≡ 0) → (e f z : ℕ) → e * (planes * chunk) + planes * chunk ≤ k → f < chunk → stackOf degree (r ++ l) e f z ≡ 0
 cleared r l k long zero e f z h hf = stack-none (r ++ l) e f z hf (λ b hb. List·getD-append r l 0 (e * (planes * chunk) + b) (omega arith) ∙ zero (e * (planes * chunk) + b) (omega arith))
 
 mul-clear : tie.Need-mul-clear
@@ -41,7 +39,7 @@ collect-requires : tie.Need-collect-requires
 collect-requires c κs =
     let a = c .before .before .before .before .before .before .before .before .before .before .before .args in
     let pre = c .before .before .before .before .before .before .before .before .before .before .before .pre in
-    let k : ℕ = a .tau * (planes * chunk) in
+    let k : ℕ = a .s .tau * (planes * chunk) in
     let r = c .before .before .before .before .clear .last .0 in
     let front : length r ≡ k = c .before .before .before .before .clear .kept .0 ∙ length-take-le k (now (a .stacks)) (pre .0) in
     let whole : k ≤ length (r ++ drop k (now (a .stacks))) = rw (length-append r (drop k (now (a .stacks)))) (omega (arith, front)) in
@@ -58,22 +56,20 @@ returns c =
     let a = c .before .before .before .before .before .before .before .before .before .before .before .before .before .before .before .before .args in
     let pre = c .before .before .before .before .before .before .before .before .before .before .before .before .before .before .before .before .pre in
     let collected = c .before .before .before .before .collect in
-    let J = a .panel in
     let cells = now (a .cells) in
-    let k : ℕ = a .tau * (planes * chunk) in
+    let k : ℕ = a .s .tau * (planes * chunk) in
     let r = c .before .before .before .before .before .before .before .before .before .clear .last .0 in
     let front : length r ≡ k = c .before .before .before .before .before .before .before .before .before .clear .kept .0 ∙ length-take-le k (now (a .stacks)) (pre .0) in
     let empty = cleared r (drop k (now (a .stacks))) k front (λ b h. c .before .before .before .before .before .before .before .before .before .clear .ensures b (omega (arith, h, c .before .before .before .before .before .before .before .before .before .clear .kept .0))) in
-    λ A χ T n w e s folded small chosen are long he hs col.
-    fold-is n w (a .m) A χ cells e J folded (λ ρ. laneAt T ρ e) (λ ρ h. lane-past T n ρ e long h) (collected .last .0) s hs col
+    λ A χ n w J count e s folded held above small chosen end he hs col.
+    fold-is n w (a .s .m) A χ cells e (a .top) J count (a .rows) folded held above (coordinateOf (now (a .vectors)) e) (λ ρ past inside. end e ρ he past (omega (arith, inside, pre .3))) (collected .last .0) s hs col
     (λ f hf.
     collected .ensures χ e (s / 8) f (s % 8) small chosen he (omega arith) hf
-    ∙ ap (λ (x : ℕ). bitXor x (xorSum (J + 1) (λ q. byteProduct (byteAt (now (a .vectors)) (e * mostVariables + (q * 16 + f))) (cellSum cells (a .m) χ e q (s / 8 * 16 + f) (s % 8))))) (empty e (s / 8 * 16 + f) (s % 8) (omega (arith, he)) (omega (arith, hs, hf)))
-    ∙ xor-zero-l _
-    ∙ sum-same (J + 1) _ _ (λ q hq. ap (λ (x : ℕ). byteProduct x (cellSum cells (a .m) χ e q (s / 8 * 16 + f) (s % 8))) (are e (q * 16 + f) he (omega (arith, pre .3)))))
+    ∙ ap (λ (x : ℕ). bitXor x (xorSum (a .rows) (λ q. byteProduct degree (coordinateOf (now (a .vectors)) e ((a .top + q) * 16 + f)) (cellSum cells (a .s .m) χ e q (s / 8 * 16 + f) (s % 8))))) (empty e (s / 8 * 16 + f) (s % 8) (omega (arith, he)) (omega (arith, hs, hf)))
+    ∙ xor-zero-l _)
 
-pub stack-panel-spec : {M : Type 1} → statement M
-stack-panel-spec =
+pub stack-part-spec : {M : Type 1} → statement M
+stack-part-spec =
     tie.close
     (tie.spec
     mul-clear

@@ -1,0 +1,36 @@
+-- Laws of the fields by their degree: what holds of both.
+-- Assumes nothing.
+use mathlib.Core.Path.{_≡_, refl}
+use mathlib.Core.Bool.{Bool, true, false, cond}
+use Prim.Native.Nat.{ℕ, _≤_}
+use lib.Dec.{eqb, lit≤}
+use Rattle.algebra.specs.Coded.{Coded}
+use Rattle.field.specs.Gf256.{gf256}
+use Rattle.field.specs.Gf16.{gf16}
+use Rattle.field.specs.Degrees.{fieldOf, degreeOf, degree}
+
+-- what holds of both fields holds of the field of any degree
+pub each-field : (P : Coded → Type 0) → P gf16 → P gf256 → (d : ℕ) → P (fieldOf d)
+unfolding fieldOf
+each-field P small large d = go (eqb d (gf16 .degree))
+  where
+    go : (b : Bool) → P (cond b gf16 gf256)
+    go true = small
+    go false = large
+
+pub field-is : fieldOf degree ≡ gf256
+unfolding fieldOf
+field-is = refl
+
+pub degree-is : degreeOf degree ≡ degree
+unfolding degreeOf fieldOf
+degree-is = refl
+
+-- at least two bits, and at most those of a byte
+pub degree-least : (d : ℕ) → 2 ≤ degreeOf d
+unfolding degreeOf
+degree-least d = each-field (λ C. 2 ≤ C .degree) (lit≤ tt) (lit≤ tt) d
+
+pub degree-most : (d : ℕ) → degreeOf d ≤ 8
+unfolding degreeOf
+degree-most d = fieldOf d .degree≤8
