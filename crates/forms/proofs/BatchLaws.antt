@@ -9,7 +9,7 @@ use lib.Bits.{bitXor, xor-comm, xor-zero-r}
 use lib.Dec.{lit<}
 use Rattle.algebra.specs.Coded.{mulByte}
 use Rattle.field.specs.Gf256.{gf256}
-use Rattle.field.specs.Degrees.{degree}
+use Rattle.field.specs.Degrees.{fieldOf, degree}
 use Rattle.protocol.specs.Strings.{bytesFor, bit}
 use Rattle.protocol.proofs.StringLaws.{bit-lt}
 use Rattle.strings.specs.Sums.{byteAt, bitOf, xorSum}
@@ -32,7 +32,7 @@ use Rattle.forms.specs.Batch.{LinesAre, batchOf}
 -- ---- batched sums
 
 pub batch-xor : (m : ℕ) (χ : ℕ → ℕ → ℕ) (e : ℕ) (u v : ℕ → ℕ) → bitXor (batchOf m χ e u) (batchOf m χ e v) ≡ batchOf m χ e (λ i. bitXor (u i) (v i))
-unfolding byteProduct
+unfolding byteProduct fieldOf
 batch-xor m χ e u v =
     sym (sum-both m (λ i. mulByte gf256 (χ e i) (u i)) (λ i. mulByte gf256 (χ e i) (v i)))
     ∙ sum-same m _ _ (λ i l. sym (product-xor (χ e i) (u i) (v i)))
@@ -61,13 +61,13 @@ module _ (n m e : ℕ) (A : List ℕ) (χ : ℕ → ℕ → ℕ) (g : ℕ → �
       ap (λ x. x * y c) (row-bit (matrixOf n A i) (bytesFor n) ρ c (omega (arith, bytes-enough n))))))))
 
   pub form-is : formSum n (bytesFor n) m A (χ) e (λ c. g c) (λ c. g c) ≡ batchOf m χ e (λ i. formByte n (matrixOf n A i) g)
-  unfolding byteProduct
+  unfolding byteProduct fieldOf
   form-is = by-rows (λ c. g c) (λ c. g c)
 
   -- the batched lines at the vectors, where the lines are the rows of b
   pub lines-are : (b L : List ℕ) → LinesAre m (bytesFor n) b L
       → xorSum n (λ c. byteProduct degree (g c) (lineSum L m (χ) e c)) ≡ batchOf m χ e (λ i. rowBit n (rowOf n b i) g)
-  unfolding byteProduct degree lineSum
+  unfolding byteProduct fieldOf lineSum
   lines-are b L are =
       sum-same n _ (λ c. xorSum m (λ i. bit (rowOf n b i) c * byteProduct degree (χ e i) (g c))) (λ c l.
       ap (byteProduct degree (g c)) (sum-same m _ (λ i. bit (rowOf n b i) c * χ e i) (λ i k.
@@ -89,7 +89,7 @@ module _ (n m e : ℕ) (A : List ℕ) (χ : ℕ → ℕ → ℕ) (g : ℕ → �
     row-lt row = sum-lt 1 n _ (lit< tt) (λ c l. bit-times-lt (bit row c) (x c) (bit-lt row c) (bits c))
 
     pub polar-is : bitXor (formSum n (bytesFor n) m A (χ) e (λ c. g c) x) (formSum n (bytesFor n) m A (χ) e x (λ c. g c)) ≡ batchOf m χ e cross
-    unfolding byteProduct degree cross
+    unfolding byteProduct fieldOf cross
     polar-is =
         ap₂ bitXor
         (by-rows (λ c. g c) x ∙ sum-same m _ (λ i. mulByte gf256 (χ e i) (xorSum n (λ ρ. x ρ * rowBit n (rowOf n (matrixOf n A i) ρ) g))) (λ i l.

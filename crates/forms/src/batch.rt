@@ -65,7 +65,7 @@ fn put_lines(lines: &mut [u8], b: &[u8], width: usize, m: usize)
 
 // `count` rows of a table, from row `first` on, as that part of it.
 fn rows_at(table: &[u8], width: usize, first: usize, count: usize) -> &[u8]
-    requires { ⌜ first * width + count * width ≤ length (now vectors) ⌝ }
+    requires { ⌜ first * width + count * width ≤ length (now table) ⌝ }
     ensures { λ r. ⌜ (now r ≡ take (count * width) (drop (first * width) (now (table .entry)))) × (length (now r) ≡ count * width) ⌝ }
 {
     let at = first * width;

@@ -34,7 +34,7 @@ slice-aggregate-put-lines c = search needs
 put-lines-requires : tie.Need-put-lines-requires
 unfolding bytesFor
 put-lines-requires c κs =
-    let pre = c .pre in
+    let pre = c .before .before .before .before .before .before .before .before .before .before .before .before .before .pre in
     (omega (arith, pre .16), pre .6, omega (arith, pre .2))
 
 slice-aggregate-add-forms : tie.Need-slice-aggregate-add-forms
@@ -46,10 +46,10 @@ slice-aggregate-add-forms-2 c = search needs
 add-forms-requires : tie.Need-add-forms-requires
 unfolding bytesFor
 add-forms-requires c κs =
-    let pre = c .pre in
-    let groups = c .groups-for in
-    let chosen = c .fill-words in
-    (pre .0, pre .1, pre .5, refl, pre .2, pre .15, pre .16, pre .4, pre .3, groups .ensures, omega (arith, chosen .kept .0, pre .3), pre .8, pre .11, pre .12, pre .13, pre .14, omega (arith, pre .16, c .put-lines .kept .0), pre .10, pre .9)
+    let pre = c .before .before .before .before .before .before .before .before .before .before .before .before .before .before .before .before .before .before .before .before .pre in
+    let groups = c .before .before .before .before .before .before .before .before .before .before .before .groups-for in
+    let chosen = c .before .before .before .before .before .before .before .before .before .fill-words in
+    (pre .0, pre .1, pre .5, refl, pre .2, pre .15, pre .16, pre .4, pre .3, groups .ensures, omega (arith, chosen .kept .0, pre .3), pre .8, pre .11, pre .12, pre .13, pre .14, omega (arith, pre .16, c .before .before .before .before .before .before .put-lines .kept .0), pre .10, pre .9)
 
 same-length : tie.Need-same-length
 same-length c = search needs
@@ -57,18 +57,21 @@ same-length c = search needs
 same-length-2 : tie.Need-same-length-2
 same-length-2 c = search needs
 
+same-length-3 : tie.Need-same-length-3
+same-length-3 c = search needs
+
 returns : tie.Need-returns
 unfolding bytesFor
 returns c =
-    let pre = c .pre in
-    let a = c .args in
-    let chosen = c .fill-words in
-    let lines = c .put-lines in
-    let formed = c .add-forms in
+    let pre = c .before .before .before .before .before .before .before .before .before .before .before .before .before .before .before .before .before .before .before .before .before .before .before .before .before .before .before .before .pre in
+    let a = c .before .before .before .before .before .before .before .before .before .before .before .before .before .before .before .before .before .before .before .before .before .before .before .before .before .before .before .before .args in
+    let chosen = c .before .before .before .before .before .before .before .before .before .before .before .before .before .before .before .before .before .fill-words in
+    let lines = c .before .before .before .before .before .before .before .before .before .before .before .before .before .before .put-lines in
+    let formed = c .before .before .before .before .before .before .before .add-forms in
     let vs = now (a .vectors) in
     let χ = now (a .chi) in
-    let small : (k : ℕ) → byteAt χ k < 256 = λ k. c .shared-slice-known4 .given k .fits in
-    let bytes : (k : ℕ) → byteAt vs k < 256 = λ k. c .shared-slice-known5 .given k .fits in
+    let small : (k : ℕ) → byteAt χ k < 256 = λ k. c .before .before .before .before .before .before .before .before .before .before .before .before .before .before .before .before .before .before .before .before .before .shared-slice-known4 .given k .fits in
+    let bytes : (k : ℕ) → byteAt vs k < 256 = λ k. c .before .before .before .before .before .before .before .before .before .before .before .before .before .before .before .before .before .before .before .before .shared-slice-known5 .given k .fits in
     let X = blockBytes (a .k .m) (a .k .from) χ in
     let each : (q i : ℕ) → X q i < 256 = λ q i. small (q * a .k .m + a .k .from + i) in (
       (λ e h. formed .ensures .0 X e each (chosen .ensures) h ∙ ap (bitXor (byteAt (now (a .quad)) e)) (form-is (a .k .n) (a .k .count) e (now (a .a)) X (coordinateOf vs e))),
@@ -95,4 +98,5 @@ batch-block-spec =
     add-forms-requires
     same-length
     same-length-2
+    same-length-3
     returns)

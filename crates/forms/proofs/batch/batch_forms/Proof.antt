@@ -15,7 +15,6 @@ use Rattle.protocol.specs.Strings.{bytesFor}
 use Rattle.strings.specs.Sums.{byteAt, xorSum}
 use Rattle.lanes.specs.Lanes.{lanes}
 use Rattle.forms_columns.specs.Stacks.{coordinateOf}
-use Rattle.forms_batching.specs.Batched.{CellsRoom}
 use Rattle.strings.proofs.LeastLaws.{under-least}
 use Rattle.chunks.specs.Chunks.{mostBlock}
 use Rattle.equations.specs.Equations.{rowOf, matrixOf}
@@ -33,7 +32,7 @@ abbrev middleTerm : ℕ → ℕ → List ℕ → List ℕ → List ℕ → List 
 middleTerm n m A b xs χ vs e i = mulByte gf256 (byteAt χ (e * m + i)) (middleByte n (matrixOf n A i) (rowOf n b i) (byteAt xs) (coordinateOf vs e))
 
 abbrev Inv-loop : tie.InvT-loop
-Inv-loop quad₀ lin₀ cells₀ a b xs chi vectors n m tau polar width size from₀ quad lin cells from = (from ≤ m) × (length quad ≡ lanes) × (length lin ≡ lanes) × ((e : ℕ) → e < tau → byteAt quad e ≡ bitXor (byteAt quad₀ e) (xorSum from (formTerm n m a chi vectors e))) × ((e : ℕ) → e < tau → byteAt lin e ≡ bitXor (byteAt lin₀ e) (xorSum from (middleTerm n m a b xs chi vectors e))) × CellsRoom cells
+Inv-loop quad₀ lin₀ cells₀ a b xs chi vectors n m tau polar width size from₀ quad lin cells from = (from ≤ m) × (length quad ≡ lanes) × (length lin ≡ lanes) × ((e : ℕ) → e < tau → byteAt quad e ≡ bitXor (byteAt quad₀ e) (xorSum from (formTerm n m a chi vectors e))) × ((e : ℕ) → e < tau → byteAt lin e ≡ bitXor (byteAt lin₀ e) (xorSum from (middleTerm n m a b xs chi vectors e))) × (length cells ≡ length cells₀)
 
 abbrev μ-loop : tie.MeasureT-loop
 μ-loop quad₀ lin₀ cells₀ a b xs chi vectors n m tau polar width size from₀ quad lin cells from = m - from
@@ -43,13 +42,13 @@ add-width c = search needs
 
 mul-size : tie.Need-mul-size Inv-loop μ-loop
 mul-size c =
-    let n = c .args .f .n in
-    let narrow : _/_ (n + 7) 8 ≤ 1000 = omega (arith, c .pre .2) in
-    omega (arith, mul-le-mul (c .pre .2) narrow)
+    let n = c .before .before .before .before .before .before .before .before .args .f .n in
+    let narrow : _/_ (n + 7) 8 ≤ 1000 = omega (arith, c .before .before .before .before .before .before .before .before .pre .2) in
+    omega (arith, mul-le-mul (c .before .before .before .before .before .before .before .before .pre .2) narrow)
 
 loop-holds : tie.Need-loop-holds Inv-loop μ-loop
 unfolding xorSum
-loop-holds c = (search needs, c .pre .0, c .pre .1, (λ e h. sym (xor-zero-r _)), (λ e h. sym (xor-zero-r _)), c .pre .10)
+loop-holds c = (search needs, c .before .before .before .before .before .before .before .before .pre .0, c .before .before .before .before .before .before .before .before .pre .1, (λ e h. sym (xor-zero-r _)), (λ e h. sym (xor-zero-r _)), refl)
 
 sub-least : tie.Need-sub-least Inv-loop μ-loop
 sub-least c = search needs
@@ -60,50 +59,50 @@ least-requires c κs = search needs
 rows-at-requires : tie.Need-rows-at-requires Inv-loop μ-loop
 unfolding bytesFor
 rows-at-requires c κs =
-    part-inside (c .loop .from) (c .least .result) (c .args .f .m) _ (omega (arith, c .least .ensures .0, c .loop-test .taken)) (c .pre .5)
+    part-inside (c .before .before .before .before .before .loop .from) (c .before .before .before .least .result) (c .before .before .before .before .before .before .before .before .before .before .before .before .before .before .args .f .m) _ (omega (arith, c .before .before .before .least .ensures .0, c .before .before .before .before .loop-test .taken)) (c .before .before .before .before .before .before .before .before .before .before .before .before .before .before .pre .5)
 
 rows-at-requires-2 : tie.Need-rows-at-requires-2 Inv-loop μ-loop
 unfolding bytesFor
 rows-at-requires-2 c κs =
-    part-inside (c .loop .from) (c .least .result) (c .args .f .m) _ (omega (arith, c .least .ensures .0, c .loop-test .taken)) (c .pre .6)
+    part-inside (c .before .before .before .before .before .before .loop .from) (c .before .before .before .before .least .result) (c .before .before .before .before .before .before .before .before .before .before .before .before .before .before .before .args .f .m) _ (omega (arith, c .before .before .before .before .least .ensures .0, c .before .before .before .before .before .loop-test .taken)) (c .before .before .before .before .before .before .before .before .before .before .before .before .before .before .before .pre .6)
 
 -- a block has an equation
 some : (c : tie.After-least Inv-loop μ-loop) → 1 ≤ c .least .result
-some c = under-least 1 (c .least .result) (c .args .f .m - c .loop .from) mostBlock (c .least .ensures .2) (omega (arith, c .loop-test .taken)) (omega arith)
+some c = under-least 1 (c .least .result) (c .before .before .before .before .before .before .before .before .before .before .before .args .f .m - c .before .before .loop .from) mostBlock (c .least .ensures .2) (omega (arith, c .before .loop-test .taken)) (omega arith)
 
 batch-block-requires : tie.Need-batch-block-requires Inv-loop μ-loop
 unfolding bytesFor
 batch-block-requires c κs =
-    let least = c .least .ensures in
-    let more = c .loop-test .taken in
-    let count : 0 < c .least .result = some c◂ in
-    (c .loop .inv .1, c .loop .inv .2, c .pre .2, c .pre .3, c .pre .4, c .rows-at .ensures .1, c .rows-at2 .ensures .1, c .pre .7, c .pre .8, c .pre .9, c .loop .inv .5, c .pre .11, c .pre .12, c .pre .13, c .pre .14, count, least .1, omega (arith, least .0, more))
+    let least = c .before .before .before .before .before .least .ensures in
+    let more = c .before .before .before .before .before .before .loop-test .taken in
+    let count : 0 < c .before .before .before .before .before .least .result = some (c .before .before .before .before .before) in
+    (c .before .before .before .before .before .before .before .loop .inv .1, c .before .before .before .before .before .before .before .loop .inv .2, c .before .before .before .before .before .before .before .before .before .before .before .before .before .before .before .before .pre .2, c .before .before .before .before .before .before .before .before .before .before .before .before .before .before .before .before .pre .3, c .before .before .before .before .before .before .before .before .before .before .before .before .before .before .before .before .pre .4, c .before .rows-at .ensures .1, c .rows-at2 .ensures .1, c .before .before .before .before .before .before .before .before .before .before .before .before .before .before .before .before .pre .7, c .before .before .before .before .before .before .before .before .before .before .before .before .before .before .before .before .pre .8, c .before .before .before .before .before .before .before .before .before .before .before .before .before .before .before .before .pre .9, omega (arith, c .before .before .before .before .before .before .before .loop .inv .5, c .before .before .before .before .before .before .before .before .before .before .before .before .before .before .before .before .pre .10), c .before .before .before .before .before .before .before .before .before .before .before .before .before .before .before .before .pre .11, c .before .before .before .before .before .before .before .before .before .before .before .before .before .before .before .before .pre .12, c .before .before .before .before .before .before .before .before .before .before .before .before .before .before .before .before .pre .13, c .before .before .before .before .before .before .before .before .before .before .before .before .before .before .before .before .pre .14, count, least .1, omega (arith, least .0, more))
 
 add-from : tie.Need-add-from Inv-loop μ-loop
-add-from c = omega (arith, c .least .ensures .0, c .loop-test .taken, c .pre .15)
+add-from c = omega (arith, c .before .before .before .before .before .before .before .before .before .before .before .before .least .ensures .0, c .before .before .before .before .before .before .before .before .before .before .before .before .before .loop-test .taken, c .before .before .before .before .before .before .before .before .before .before .before .before .before .before .before .before .before .before .before .before .before .before .before .pre .15)
 
 loop-less : tie.Need-loop-less Inv-loop μ-loop
-loop-less c = omega (arith, c .least .ensures .0, some c◂, c .loop-test .taken)
+loop-less c = omega (arith, c .before .before .before .before .before .before .before .before .before .before .before .before .least .ensures .0, some (c .before .before .before .before .before .before .before .before .before .before .before .before), c .before .before .before .before .before .before .before .before .before .before .before .before .before .loop-test .taken)
 
 loop-again : tie.Need-loop-again Inv-loop μ-loop
 unfolding bytesFor
 loop-again c =
-    let a = c .args in
-    let l = c .loop in
-    let k = c .least .result in
-    let done = c .batch-block in
+    let a = c .before .before .before .before .before .before .before .before .before .before .before .before .before .before .before .before .before .before .before .before .before .before .before .args in
+    let l = c .before .before .before .before .before .before .before .before .before .before .before .before .before .before .loop in
+    let k = c .before .before .before .before .before .before .before .before .before .before .before .before .least .result in
+    let done = c .before .before .before .before .before .before .batch-block in
     let χ = now (a .chi) in
     let vs = now (a .vectors) in (
-      omega (arith, c .least .ensures .0, c .loop-test .taken),
+      omega (arith, c .before .before .before .before .before .before .before .before .before .before .before .before .least .ensures .0, c .before .before .before .before .before .before .before .before .before .before .before .before .before .loop-test .taken),
       done .kept .0 ∙ l .inv .1,
       done .kept .1 .0 ∙ l .inv .2,
       (λ e h.
           done .ensures .0 e h
-          ∙ ap (bitXor (byteAt (l .quad) e)) (ap (λ (M : List ℕ). blockForms (a .f .n) (a .f .m) (l .from) k M χ e (coordinateOf vs e)) (c .rows-at .ensures .0) ∙ forms-part (a .f .n) (a .f .m) (l .from) k e (now (a .a)) (now (a .b)) χ (coordinateOf vs e))
+          ∙ ap (bitXor (byteAt (l .quad) e)) (ap (λ (M : List ℕ). blockForms (a .f .n) (a .f .m) (l .from) k M χ e (coordinateOf vs e)) (c .before .before .before .before .before .before .before .before .rows-at .ensures .0) ∙ forms-part (a .f .n) (a .f .m) (l .from) k e (now (a .a)) (now (a .b)) χ (coordinateOf vs e))
           ∙ sums-more (byteAt (now (a .quad)) e) (byteAt (l .quad) e) (l .from) k (formTerm (a .f .n) (a .f .m) (now (a .a)) χ vs e) (l .inv .3 e h)),
       (λ e h.
           done .ensures .1 e h
-          ∙ ap (bitXor (byteAt (l .lin) e)) (ap₂ (λ (M r : List ℕ). blockMiddles (a .f .n) (a .f .m) (l .from) k M r (byteAt (now (a .xs))) χ e (coordinateOf vs e)) (c .rows-at .ensures .0) (c .rows-at2 .ensures .0) ∙ middles-part (a .f .n) (a .f .m) (l .from) k e (now (a .a)) (now (a .b)) χ (coordinateOf vs e) (byteAt (now (a .xs))))
+          ∙ ap (bitXor (byteAt (l .lin) e)) (ap₂ (λ (M r : List ℕ). blockMiddles (a .f .n) (a .f .m) (l .from) k M r (byteAt (now (a .xs))) χ e (coordinateOf vs e)) (c .before .before .before .before .before .before .before .before .rows-at .ensures .0) (c .before .before .before .before .before .before .before .rows-at2 .ensures .0) ∙ middles-part (a .f .n) (a .f .m) (l .from) k e (now (a .a)) (now (a .b)) χ (coordinateOf vs e) (byteAt (now (a .xs))))
           ∙ sums-more (byteAt (now (a .lin)) e) (byteAt (l .lin) e) (l .from) k (middleTerm (a .f .n) (a .f .m) (now (a .a)) (now (a .b)) (now (a .xs)) χ vs e) (l .inv .4 e h)),
       done .kept .1 .1 .0 ∙ l .inv .5,
     )
@@ -114,10 +113,13 @@ same-length c = search needs
 same-length-2 : tie.Need-same-length-2 Inv-loop μ-loop
 same-length-2 c = search needs
 
+same-length-3 : tie.Need-same-length-3 Inv-loop μ-loop
+same-length-3 c = search needs
+
 returns : tie.Need-returns Inv-loop μ-loop
 returns c =
-    let l = c .loop in
-    let end : l .from ≡ c .args .f .m = omega arith in
+    let l = c .before .loop in
+    let end : l .from ≡ c .before .before .before .before .before .before .before .before .before .before .args .f .m = omega arith in
     ((rw end at (l .inv .3)), (rw end at (l .inv .4)))
 
 pub batch-forms-spec : {M : Type 1} → statement M
@@ -139,4 +141,5 @@ batch-forms-spec =
     loop-again
     same-length
     same-length-2
+    same-length-3
     returns)

@@ -36,16 +36,16 @@ slice-aggregate-unpack : tie.Need-slice-aggregate-unpack
 slice-aggregate-unpack c = search needs
 
 unpack-requires : tie.Need-unpack-requires
-unpack-requires c κs = (omega (arith, c .pre .2), omega (arith, c .pre .11, bytes-enough (c .args .d .n)))
+unpack-requires c κs = (omega (arith, c .before .before .before .before .before .before .before .before .before .pre .2), omega (arith, c .before .before .before .before .before .before .before .before .before .pre .11, bytes-enough (c .before .before .before .before .before .before .before .before .before .args .d .n)))
 
 slice-aggregate-batch-forms : tie.Need-slice-aggregate-batch-forms
 slice-aggregate-batch-forms c = search needs
 
 batch-forms-requires : tie.Need-batch-forms-requires
 batch-forms-requires c κs =
-    let pre = c .pre in
-    let a = c .args in
-    let unpacked = c .unpack in
+    let pre = c .before .before .before .before .before .before .before .before .before .before .before .before .before .before .before .pre in
+    let a = c .before .before .before .before .before .before .before .before .before .before .before .before .before .before .before .args in
+    let unpacked = c .before .before .before .before .before .unpack in
     let past : (k : ℕ) → a .d .n ≤ k → byteAt (unpacked .last .0) k ≡ 0 = λ k h. unpacked .ensures .1 k h ∙ zeros mostVariables k in
     (pre .0, pre .1, pre .2, pre .3, pre .4, pre .5, pre .6, pre .7, pre .8, pre .9, pre .10, unpacked .kept .0, bits-lt (a .d .n) (now (a .x)) (unpacked .last .0) (unpacked .ensures .0) past, past, (λ e. absurd (false≢true (sym e))), pre .12)
 
@@ -55,12 +55,15 @@ same-length c = search needs
 same-length-2 : tie.Need-same-length-2
 same-length-2 c = search needs
 
+same-length-3 : tie.Need-same-length-3
+same-length-3 c = search needs
+
 returns : tie.Need-returns
 returns c =
-    let a = c .args in
+    let a = c .before .before .before .before .before .before .before .before .before .before .before .before .before .before .before .before .before .before .before .before .before .before .args in
     let n = a .d .n in
-    let formed = c .batch-forms in
-    let unpacked = c .unpack in (
+    let formed = c .before .before .before .before .before .before .batch-forms in
+    let unpacked = c .before .before .before .before .before .before .before .before .before .before .before .before .unpack in (
       formed .ensures .0,
       (λ e h.
           formed .ensures .1 e h
@@ -79,4 +82,5 @@ batch-lanes-spec =
     batch-forms-requires
     same-length
     same-length-2
+    same-length-3
     returns)
