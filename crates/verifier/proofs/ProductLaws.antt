@@ -1,7 +1,7 @@
 -- The product check's left side, put together from its parts: `l₁`, `l₂`, `l₃` are the lane as the parts are added to
 -- what stood there, `l₀`.
 -- Assumes nothing.
-use mathlib.Core.Path.{_≡_, sym, ap, ap₂, _∙_}
+use mathlib.Core.Path.{_≡_, ap₂, _∙_}
 use mathlib.Core.List.{List}
 use Prim.Native.Nat.{ℕ}
 use lib.Bits.{bitXor}

@@ -5,8 +5,8 @@
 --   productByte n m A b y χ e δ f == the left side of repetition e at its vector f, but for the mask: the batched
 --     f·A·f, plus δ times the batched b·f, plus δ² times the batched y
 --   LeftSides s A b y χ Δ f left left′ == to byte e of left that of repetition e is added, f e being its vector
---   maskedByte s A b y χ e δ T f == the whole left side of repetition e: its mask, whose coordinates are in lane e of the
---     table T, and productByte
+--   maskedByte s A b y χ e δ T f == the whole left side of repetition e: its mask, of the coordinates in lane e of the
+--     table T, plus productByte
 -- Assumes nothing.
 use mathlib.Core.Path.{_≡_}
 use mathlib.Core.Bool.{true}

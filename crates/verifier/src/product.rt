@@ -4,7 +4,6 @@ ghost use mathlib.Core.Path.{_≡_};
 ghost use Prim.Native.Nat.{ℕ, _+_, _*_, _<_, _≤_};
 ghost use lib.ListN.{length};
 ghost use lib.Bits.{bitXor};
-ghost use Rattle.field.specs.Gf256.{gf256};
 ghost use Rattle.protocol.specs.Strings.{bit};
 ghost use Rattle.protocol.specs.Shape.{wOf};
 ghost use Rattle.strings.specs.Sums.{byteAt, xorSum};
