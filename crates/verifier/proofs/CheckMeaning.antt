@@ -5,7 +5,7 @@ use mathlib.Core.List.{List}
 use Prim.Native.Nat.{ℕ, _+_, _*_, _≤_, _<_}
 use native.Mathlib.Omega.{arith}
 use lib.Dec.{eqb}
-use lib.Bits.{bitXor}
+use lib.Bits.{bitXor, xor-comm}
 use Rattle.algebra.specs.Ring.{Ring}
 use Rattle.algebra.specs.Coded.{mulByte}
 use Rattle.algebra.specs.Sum.{sum}
@@ -16,9 +16,9 @@ use Rattle.protocol.specs.Lists.{blockAt}
 use Rattle.protocol.specs.Strings.{bytesFor, bit}
 use Rattle.protocol.specs.Alphabet.{sym as symbol, elemAt}
 use Rattle.protocol.specs.Binary.{bits256}
-use Rattle.protocol.specs.Shape.{Shape, kOf, lOf}
+use Rattle.protocol.specs.Shape.{Shape, maskAt, kOf, lOf}
 use Rattle.protocol.specs.Key.{sectionA, sectionB, sectionY, ySym}
-use Rattle.protocol.specs.Forms.{quad, lin, yOf, χAt, batch}
+use Rattle.protocol.specs.Forms.{quad, lin, yOf, maskOf, χAt, batch}
 use Rattle.protocol.specs.Sections.{Sections}
 use Rattle.protocol.specs.Verifier.{keyAt, consistent, productLeft, productHolds}
 use Rattle.protocol.proofs.StringLaws.{bit-lt}
@@ -27,14 +27,15 @@ use Rattle.strings.specs.Sums.{byteAt}
 use Rattle.strings.proofs.Rows.{row-byte}
 use Rattle.strings.proofs.SumLaws.{sum-same}
 use Rattle.strings.proofs.Meaning.{byte-sum, byte-times}
-use Rattle.lanes.specs.Lanes.{lanes, laneAt}
+use Rattle.lanes.specs.Lanes.{laneAt, maskLane}
+use Rattle.format.proofs.FitLaws.{mask-below}
 use Rattle.forms.proofs.FormsMeaning.{form-is, lin-is, batch-is, mask-is}
 use Rattle.tables.proofs.SumsMeaning.{byteOf}
 use Rattle.hash.specs.Hashed.{hashLane}
 use Rattle.questions.specs.Facts.{HashForm}
 use Rattle.hash.proofs.HashMeaning.{hash-lane-is}
 use Rattle.verifier.specs.Repetitions.{rowConsistent}
-use Rattle.verifier.specs.Product.{valueByte, productByte}
+use Rattle.verifier.specs.Product.{valueByte, productByte, maskedByte}
 
 abbrev F : Type 0
 F = bits256 .K .base .R .F
@@ -87,8 +88,7 @@ module _ (s : Shape) (p : Sections) (e δ : ℕ) (small : δ < 256) (w : ℕ →
       ∙ sym (bits256 .K .byte-add _ _))
       ∙ same-bytes _ _)
 
-  module _ (key χ T : List ℕ) (front : (c : ℕ) → c < s .n → laneAt T c e ≡ byteOf (keyAt bits256 s p (elem δ) w c))
-      (masked : (c : ℕ) → s .n ≤ c → c < kOf bits256 s → laneAt T c e ≡ byteOf (w c)) where
+  module _ (key χ : List ℕ) (g : ℕ → ℕ) (front : (c : ℕ) → c < s .n → g c ≡ byteOf (keyAt bits256 s p (elem δ) w c)) where
     abbrev K : ℕ → F
     K = keyAt bits256 s p (elem δ) w
 
@@ -98,9 +98,11 @@ module _ (s : Shape) (p : Sections) (e δ : ℕ) (small : δ < 256) (w : ℕ →
     abbrev linear : ℕ → F
     linear i = lin bits256 s key i K
 
+    abbrev whole : ℕ → F
+    whole i = forms i ⊕ elem δ ⊗ linear i ⊕ yOf bits256 s key i ⊗ (elem δ ⊗ elem δ)
+
     -- the parts of each equation, batched apart
-    apart : batch bits256 s χ e (λ i. forms i ⊕ elem δ ⊗ linear i ⊕ yOf bits256 s key i ⊗ (elem δ ⊗ elem δ))
-        ≡ batch bits256 s χ e forms ⊕ elem δ ⊗ batch bits256 s χ e linear ⊕ (elem δ ⊗ elem δ) ⊗ batch bits256 s χ e (yOf bits256 s key)
+    apart : batch bits256 s χ e whole ≡ batch bits256 s χ e forms ⊕ elem δ ⊗ batch bits256 s χ e linear ⊕ (elem δ ⊗ elem δ) ⊗ batch bits256 s χ e (yOf bits256 s key)
     unfolding batch
     apart = sums-apart (bits256 .K .base .R) (s .m) (χAt bits256 s χ e) forms linear (yOf bits256 s key) (elem δ)
 
@@ -110,27 +112,38 @@ module _ (s : Shape) (p : Sections) (e δ : ℕ) (small : δ < 256) (w : ℕ →
         sum-same (s .m) _ _ (λ i l. sym (byte-times gf256 (byteAt χ (e * s .m + i)) (bit (sectionY bits256 s key) i) (bytes (e * s .m + i)) (bit-lt (sectionY bits256 s key) i)))
         ∙ sym (byte-sum gf256 (s .m) _)
 
-    mask-of : (i : ℕ) → i < gf256 .degree → laneAt T (s .n + i) e ≡ byteOf (w (s .n + i))
-    unfolding kOf
-    mask-of i h = masked (s .n + i) (omega arith) (omega (arith, h))
-
-    pub product-is : ((i : ℕ) → byteAt χ i < 256)
-        → productByte (s .n) (s .m) (sectionA bits256 s key) (sectionB bits256 s key) (sectionY bits256 s key) χ δ T e ≡ byteOf (productLeft bits256 s key χ p e (elem δ) w)
-    unfolding productLeft
+    product-is : ((i : ℕ) → byteAt χ i < 256) → productByte (s .n) (s .m) (sectionA bits256 s key) (sectionB bits256 s key) (sectionY bits256 s key) χ e δ g ≡ byteOf (batch bits256 s χ e whole)
     product-is bytes =
         ap₂ bitXor
-        (ap₂ bitXor
-        (ap₂ bitXor (batch-is gf256 s χ e _ forms (λ i. form-is gf256 s key i T e K front))
-        (ap (mulByte gf256 δ) (batch-is gf256 s χ e _ linear (λ i. lin-is gf256 s key i T e K front)) ∙ ap (λ z. byteOf (elem δ ⊗ z)) (bits256 .K .elem-byte (batch bits256 s χ e linear)))
+        (ap₂ bitXor (batch-is gf256 s χ e _ forms (λ i. form-is gf256 s key i g K front))
+        (ap (mulByte gf256 δ) (batch-is gf256 s χ e _ linear (λ i. lin-is gf256 s key i g K front)) ∙ ap (λ z. byteOf (elem δ ⊗ z)) (bits256 .K .elem-byte (batch bits256 s χ e linear)))
         ∙ sym (bits256 .K .byte-add _ _))
         (ap (mulByte gf256 (mulByte gf256 δ δ)) (values-are bytes) ∙ ap₂ (λ y z. byteOf (y ⊗ z)) (bits256 .K .elem-byte (elem δ ⊗ elem δ)) (bits256 .K .elem-byte (batch bits256 s χ e (yOf bits256 s key))))
-        ∙ sym (bits256 .K .byte-add _ _) ∙ ap byteOf (sym apart))
-        (sum-same (gf256 .degree) _ _ (λ i h. ap (mulByte gf256 (maskElement i)) (mask-of i h)) ∙ mask-is s e (λ c. byteOf (w c)) w (λ c h. refl))
-        ∙ sym (bits256 .K .byte-add _ _)
+        ∙ sym (bits256 .K .byte-add _ _) ∙ ap byteOf (sym apart)
 
-    pub holds-is : ((i : ℕ) → byteAt χ i < 256) → (left : List ℕ)
-        → byteAt left e ≡ productByte (s .n) (s .m) (sectionA bits256 s key) (sectionB bits256 s key) (sectionY bits256 s key) χ δ T e → byteAt (p .QS0) e < 256
-        → eqb (byteAt left e) (bitXor (byteAt (p .QS0) e) (mulByte gf256 (byteAt (p .QS1) e) δ)) ≡ productHolds bits256 s key χ p e (elem δ) w
-    unfolding productHolds elemAt
-    holds-is bytes left lefts byte =
-        ap₂ eqb (lefts ∙ product-is bytes) (ap (λ (x : ℕ). bitXor x (mulByte gf256 (byteAt (p .QS1) e) δ)) (sym (bits256 .K .byte-elem _ byte)) ∙ sym (bits256 .K .byte-add _ _)) ∙ same-bytes _ _
+    -- the mask stands in the lane of a table, from coordinate n on
+    module _ (T : List ℕ) (le : e < s .τ) (masked : (c : ℕ) → s .n ≤ c → c < kOf bits256 s → laneAt T c e ≡ byteOf (w c)) where
+      mask-above : s .n ≤ maskAt bits256 s e
+      unfolding maskAt
+      mask-above = omega arith
+
+      mask-of : (i : ℕ) → i < gf256 .degree → laneAt T (maskAt bits256 s e + i) e ≡ byteOf (w (maskAt bits256 s e + i))
+      mask-of i h = masked (maskAt bits256 s e + i) (omega (arith, mask-above)) (omega (arith, h, mask-below s e le))
+
+      masked-is : maskLane T (maskAt bits256 s e) e ≡ byteOf (maskOf bits256 s e w)
+      masked-is = sum-same (gf256 .degree) _ _ (λ i h. ap (mulByte gf256 (maskElement i)) (mask-of i h)) ∙ mask-is s e (λ c. byteOf (w c)) w le (λ c h. refl)
+
+      left-is : ((i : ℕ) → byteAt χ i < 256)
+          → maskedByte s (sectionA bits256 s key) (sectionB bits256 s key) (sectionY bits256 s key) χ e δ T g ≡ byteOf (productLeft bits256 s key χ p e (elem δ) w)
+      unfolding productLeft
+      left-is bytes =
+          xor-comm (maskLane T (maskAt bits256 s e) e) (productByte (s .n) (s .m) (sectionA bits256 s key) (sectionB bits256 s key) (sectionY bits256 s key) χ e δ g)
+          ∙ ap₂ bitXor (product-is bytes) masked-is
+          ∙ sym (bits256 .K .byte-add _ _)
+
+      pub holds-is : ((i : ℕ) → byteAt χ i < 256) → (left : List ℕ)
+          → byteAt left e ≡ maskedByte s (sectionA bits256 s key) (sectionB bits256 s key) (sectionY bits256 s key) χ e δ T g → byteAt (p .QS0) e < 256
+          → eqb (byteAt left e) (bitXor (byteAt (p .QS0) e) (mulByte gf256 (byteAt (p .QS1) e) δ)) ≡ productHolds bits256 s key χ p e (elem δ) w
+      unfolding productHolds elemAt
+      holds-is bytes left lefts byte =
+          ap₂ eqb (lefts ∙ left-is bytes) (ap (λ (x : ℕ). bitXor x (mulByte gf256 (byteAt (p .QS1) e) δ)) (sym (bits256 .K .byte-elem _ byte)) ∙ sym (bits256 .K .byte-add _ _)) ∙ same-bytes _ _

@@ -3,7 +3,7 @@
 use mathlib.Core.Path.{_≡_, ap, _∙_}
 use mathlib.Core.Bool.{true}
 use mathlib.Core.List.{List, [], _∷_}
-use Prim.Native.Nat.{ℕ, _*_}
+use Prim.Native.Nat.{ℕ, _*_, _-_, _^_}
 use lib.ListN.{length}
 use Rattle.protocol.specs.Binary.{bits256}
 use Rattle.protocol.specs.Shape.{Shape, shapeOf, perOpened, perTree, wOf}
@@ -59,7 +59,13 @@ all-asked s key Δ H′ χ opened proof e {a} {b} {c} {d} of-key of-inputs of-pr
     (then-ask (proofQuestions bits256 z proof) (checkQuestions bits256 z key Δ H′ χ opened proof) (of-proof ∙ ap (λ (z : Shape). ask (proofQuestions bits256 z proof)) e)
     (ap (andThen c) (checked ∙ ap (λ (z : Shape). ask (checkQuestions bits256 z key Δ H′ χ opened proof)) e))))))
 
--- over a width that is w, and corrections that are C
-pub opened-is : (s : Shape) (Δ opened proof T C : List ℕ) (w : ℕ) → w ≡ wOf bits256 s → C ≡ sectionsIn bits256 s proof .C → length T ≡ 8 * wOf bits256 s * lanes
-    → OpenedTableIs T opened Δ C (s .τ) w (perTree bits256) → Opened bits256 s Δ opened proof T
-opened-is s Δ opened proof T C w e f long is = record { table-length = long; table-is = rw (e, f) at is }
+-- over a width that is w, corrections that are C, and a degree that is the field's
+pub opened-is : (s : Shape) (Δ opened proof T C : List ℕ) (w r : ℕ) → w ≡ wOf bits256 s → C ≡ sectionsIn bits256 s proof .C → r ≡ bits256 .K .degree
+    → length T ≡ 8 * wOf bits256 s * lanes → OpenedTableIs T opened Δ C (s .τ) w (2 ^ r) → Opened bits256 s Δ opened proof T
+unfolding perTree
+opened-is s Δ opened proof T C w r e f d long is = record { table-length = long; table-is = rw (e, f, d) at is }
+
+-- the opened leaves of a tree, by the field's degree
+pub opened-long : (s : Shape) (opened : List ℕ) → length opened ≡ s .τ * perOpened bits256 * wOf bits256 s → length opened ≡ s .τ * (2 ^ bits256 .K .degree - 1) * wOf bits256 s
+unfolding perOpened perTree
+opened-long s opened e = e

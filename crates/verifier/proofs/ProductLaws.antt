@@ -1,21 +1,23 @@
 -- The product check's left side, put together from its parts: `l₁`, `l₂`, `l₃` are the lane as the parts are added to
--- it.
+-- what stood there, `l₀`.
 -- Assumes nothing.
-use mathlib.Core.Path.{_≡_, ap, ap₂, _∙_}
+use mathlib.Core.Path.{_≡_, ap₂, _∙_}
 use mathlib.Core.List.{List}
 use Prim.Native.Nat.{ℕ}
 use lib.Bits.{bitXor}
 use Rattle.algebra.specs.Coded.{mulByte}
 use Rattle.field.specs.Gf256.{gf256}
-use Rattle.strings.specs.Sums.{selected}
-use Rattle.lanes.specs.Lanes.{lanes, maskLane}
-use Rattle.equations.specs.Equations.{rowOf, matrixOf}
-use Rattle.forms.specs.Forms.{formByte}
-use Rattle.forms.specs.Batch.{batchByte}
+use Rattle.strings.proofs.XorLaws.{xor-assoc}
+use Rattle.equations.specs.Equations.{rowOf}
+use Rattle.forms.specs.Forms.{rowBit}
+use Rattle.forms.specs.Batch.{batchByte, formsByte}
 use Rattle.verifier.specs.Product.{valueByte, productByte}
 
-pub left-side : (n m : ℕ) (A b y χ : List ℕ) (δ : ℕ) (T : List ℕ) (e : ℕ) {forms linear square values l₁ l₂ l₃ : ℕ} → forms ≡ batchByte m χ e (λ i. formByte n (matrixOf n A i) T e)
-    → linear ≡ batchByte m χ e (λ i. selected n (rowOf n b i) T lanes e) → square ≡ mulByte gf256 δ δ → values ≡ valueByte m χ y e
-    → l₁ ≡ bitXor forms (mulByte gf256 δ linear) → l₂ ≡ bitXor l₁ (mulByte gf256 square values) → l₃ ≡ bitXor l₂ (maskLane T n e) → l₃ ≡ productByte n m A b y χ δ T e
-left-side n m A b y χ δ T e f l s v e₁ e₂ e₃ =
-    e₃ ∙ ap (λ (z : ℕ). bitXor z (maskLane T n e)) (e₂ ∙ ap₂ bitXor (e₁ ∙ ap₂ (λ (x z : ℕ). bitXor x (mulByte gf256 δ z)) f l) (ap₂ (mulByte gf256) s v))
+pub left-side : (n m : ℕ) (A b y χ : List ℕ) (e δ : ℕ) (f : ℕ → ℕ) (l₀ : ℕ) {l₁ l₂ l₃ linear square values : ℕ} → l₁ ≡ bitXor l₀ (formsByte n m A χ e f)
+    → linear ≡ batchByte m χ e (λ i. rowBit n (rowOf n b i) f) → square ≡ mulByte gf256 δ δ → values ≡ valueByte m χ y e
+    → l₂ ≡ bitXor l₁ (mulByte gf256 δ linear) → l₃ ≡ bitXor l₂ (mulByte gf256 square values) → l₃ ≡ bitXor l₀ (productByte n m A b y χ e δ f)
+left-side n m A b y χ e δ f l₀ e₁ l s v e₂ e₃ =
+    let F = formsByte n m A χ e f in
+    let L = mulByte gf256 δ (batchByte m χ e (λ i. rowBit n (rowOf n b i) f)) in
+    e₃ ∙ ap₂ bitXor (e₂ ∙ ap₂ (λ (x z : ℕ). bitXor x (mulByte gf256 δ z)) e₁ l ∙ xor-assoc l₀ F L) (ap₂ (mulByte gf256) s v)
+    ∙ xor-assoc l₀ (bitXor F L) (mulByte gf256 (mulByte gf256 δ δ) (valueByte m χ y e))

@@ -25,9 +25,9 @@ use Rattle.protocol.specs.Verifier.{W, keyAt, consistentAt, productAt}
 use Rattle.protocol.proofs.StringLaws.{bit-lt}
 use Rattle.strings.specs.Sums.{byteAt}
 use Rattle.strings.proofs.Meaning.{byte-times}
-use Rattle.lanes.specs.Lanes.{lanes, laneAt}
+use Rattle.lanes.specs.Lanes.{laneAt}
 use Rattle.sections.proofs.SectionLaws.{section-part}
-use Rattle.tables.proofs.SumsMeaning.{byteOf}
+use Rattle.tables.proofs.SumsMeaning.{byteOf, per-tree}
 use Rattle.format.proofs.FitLaws.{in-width}
 use Rattle.tables.proofs.OpenedMeaning.{table-w}
 use Rattle.hash.specs.Hashed.{hashLane}
@@ -35,7 +35,7 @@ use Rattle.questions.specs.Facts.{HashForm}
 use Rattle.format.proofs.FitLaws.{k-below}
 use Rattle.verifier.specs.Repetitions.{rowConsistent, firstInconsistent, firstDiffering}
 use Rattle.verifier.proofs.FirstLaws.{first-congr}
-use Rattle.verifier.specs.Product.{productByte}
+use Rattle.verifier.specs.Product.{maskedByte}
 use Rattle.verifier.specs.Proved.{Opened}
 use Rattle.verifier.proofs.CheckMeaning.{consistent-is, holds-is}
 
@@ -60,7 +60,7 @@ module _ (s : Shape) (Δ opened proof T : List ℕ) (is : Opened bits256 s Δ op
   w e = W bits256 s p e (byteAt Δ e) (treeOf bits256 s opened e)
 
   holds : (e c : ℕ) → e < s .τ → c < lOf bits256 s → laneAt T c e ≡ byteOf (w e c)
-  holds e c l h = table-w s p opened c T Δ (s .τ) e (is .table-is) l (in-width s c h) (challenges e)
+  holds e c l h = table-w s p opened c T Δ (s .τ) e (is .table-is) l (in-width s c h) (rw per-tree (challenges e))
 
   pub first-inconsistent-is : (H′ hashed : List ℕ) → HashForm bits256 s H′ → ((i : ℕ) → byteAt (p .Ṽ) i < 256)
       → ((e ρ : ℕ) → e < s .τ → ρ < s .t → byteAt hashed (e * s .t + ρ) ≡ hashLane H′ (bytesFor (kOf bits256 s)) (kOf bits256 s) T ρ e)
@@ -70,32 +70,32 @@ module _ (s : Shape) (Δ opened proof T : List ℕ) (is : Opened bits256 s Δ op
       ap (λ n. firstNot n (λ e. rowConsistent (blockAt hashed (s .t) e) (blockAt (p .Ṽ) (s .t) e) (p .ũ) (byteAt Δ e) (s .t))) long
       ∙ first-congr (s .τ) _ _ (λ e l. consistent-is s p e (byteAt Δ e) (challenges e) (w e) H′ T hashed form (λ c h. holds e c l h) (λ ρ h. rows e ρ l h) bytes)
 
-  -- K_e in the first n coordinates of another table, and W_e in the others
-  module _ (challenge T′ : List ℕ) (same : (e : ℕ) → e < s .τ → byteAt challenge e ≡ byteAt Δ e) (lane : (e : ℕ) → e < s .τ → e < lanes)
-      (changed : (c e : ℕ) → c < s .n → e < lanes → laneAt T′ c e ≡ bitXor (laneAt T c e) (bit (p .d) c * byteAt challenge e))
-      (stays : (c e : ℕ) → s .n ≤ c → e < lanes → laneAt T′ c e ≡ laneAt T c e) where
+  -- K_e are the vectors f, and the mask coordinates of another table are those of W_e
+  module _ (challenge T′ : List ℕ) (f : ℕ → ℕ → ℕ) (same : (e : ℕ) → e < s .τ → byteAt challenge e ≡ byteAt Δ e)
+      (changed : (e c : ℕ) → e < s .τ → c < s .n → f e c ≡ bitXor (laneAt T c e) (bit (p .d) c * byteAt challenge e))
+      (stays : (e c : ℕ) → e < s .τ → s .n ≤ c → laneAt T′ c e ≡ laneAt T c e) where
     in-k : (c : ℕ) → c < s .n → c < kOf bits256 s
     unfolding kOf
     in-k c h = omega (arith, h)
 
-    front : (e : ℕ) → e < s .τ → (c : ℕ) → c < s .n → laneAt T′ c e ≡ byteOf (keyAt bits256 s p (bits256 .K .elem (byteAt Δ e)) (w e) c)
+    front : (e : ℕ) → e < s .τ → (c : ℕ) → c < s .n → f e c ≡ byteOf (keyAt bits256 s p (bits256 .K .elem (byteAt Δ e)) (w e) c)
     unfolding keyAt symbol
     front e l c h =
-        changed c e h (lane e l)
+        changed e c l h
         ∙ ap₂ bitXor (holds e c l (k-below s c (in-k c h)))
         (ap (λ z. bit (p .d) c * z) (same e l) ∙ mul-comm (bit (p .d) c) (byteAt Δ e) ∙ sym (byte-times gf256 (byteAt Δ e) (bit (p .d) c) (challenges e) (bit-lt (p .d) c)))
         ∙ sym (bits256 .K .byte-add _ _)
 
     pub first-differing-is : (key χ left : List ℕ) → ((i : ℕ) → byteAt χ i < 256) → ((i : ℕ) → byteAt (p .QS0) i < 256)
-        → ((e : ℕ) → e < s .τ → byteAt left e ≡ productByte (s .n) (s .m) (sectionA bits256 s key) (sectionB bits256 s key) (sectionY bits256 s key) χ (byteAt challenge e) T′ e)
+        → ((e : ℕ) → e < s .τ → byteAt left e ≡ maskedByte s (sectionA bits256 s key) (sectionB bits256 s key) (sectionY bits256 s key) χ e (byteAt challenge e) T′ (f e))
         → firstDiffering left (p .QS0) (p .QS1) Δ ≡ firstNot (s .τ) (productIn bits256 s key Δ χ opened proof)
     unfolding productIn productAt
     first-differing-is key χ left bytes sent lefts =
         ap (λ n. firstNot n (λ e. eqb (byteAt left e) (bitXor (byteAt (p .QS0) e) (mulByte gf256 (byteAt (p .QS1) e) (byteAt Δ e))))) long
         ∙ first-congr (s .τ) _ _
         (λ e l.
-        holds-is s p e (byteAt Δ e) (challenges e) (w e) key χ T′ (front e l) (λ c low h. stays c e low (lane e l) ∙ holds e c l (k-below s c h)) bytes left
-        (lefts e l ∙ ap (λ z. productByte (s .n) (s .m) (sectionA bits256 s key) (sectionB bits256 s key) (sectionY bits256 s key) χ z T′ e) (same e l)) (sent e))
+        holds-is s p e (byteAt Δ e) (challenges e) (w e) key χ (f e) (front e l) T′ l (λ c low h. stays e c l low ∙ holds e c l (k-below s c h)) bytes left
+        (lefts e l ∙ ap (λ z. maskedByte s (sectionA bits256 s key) (sectionB bits256 s key) (sectionY bits256 s key) χ e z T′ (f e)) (same e l)) (sent e))
 
 take-lt : (l : List ℕ) (n j : ℕ) → ((k : ℕ) → byteAt l k < 256) → byteAt (take n l) j < 256
 take-lt l zero j h = lit< tt

@@ -1,10 +1,12 @@
 -- The product check's left side on bytes, as the code makes it.
 --   KeyLanes n d Δ T T′ == the first n coordinates of T′ are those of T plus δ_e·d, in every lane e
 --   EquationsOf s A b y χ == the sections of a key of sizes s that are in range, and its batching bytes
---   LeftSides s A b y χ Δ T left == byte e of left is the left side of repetition e
 --   valueByte m χ y e == Σ_i χ(e, i)·y_i
---   productByte == the left side at the vector f of repetition e: the batched f·A·f, plus δ times the batched b·f, plus
---     δ² times the batched y, plus the mask
+--   productByte n m A b y χ e δ f == the left side of repetition e at its vector f, but for the mask: the batched
+--     f·A·f, plus δ times the batched b·f, plus δ² times the batched y
+--   LeftSides s A b y χ Δ f left left′ == to byte e of left that of repetition e is added, f e being its vector
+--   maskedByte s A b y χ e δ T f == the whole left side of repetition e: its mask, of the coordinates in lane e of the
+--     table T, plus productByte
 -- Assumes nothing.
 use mathlib.Core.Path.{_≡_}
 use mathlib.Core.Bool.{true}
@@ -15,12 +17,13 @@ use lib.Bits.{bitXor}
 use Rattle.algebra.specs.Coded.{mulByte}
 use Rattle.field.specs.Gf256.{gf256}
 use Rattle.protocol.specs.Strings.{bytesFor, bit}
-use Rattle.protocol.specs.Shape.{Shape, limits}
-use Rattle.strings.specs.Sums.{byteAt, xorSum, selected}
-use Rattle.lanes.specs.Lanes.{lanes, laneAt, maskLane}
-use Rattle.equations.specs.Equations.{rowOf, matrixOf}
-use Rattle.forms.specs.Forms.{formByte}
-use Rattle.forms.specs.Batch.{batchByte}
+use Rattle.protocol.specs.Binary.{bits256}
+use Rattle.protocol.specs.Shape.{Shape, limits, maskAt}
+use Rattle.strings.specs.Sums.{byteAt, xorSum}
+use Rattle.lanes.specs.Lanes.{lanes, laneAt, LanesAdded, maskLane}
+use Rattle.equations.specs.Equations.{rowOf}
+use Rattle.forms.specs.Forms.{rowBit}
+use Rattle.forms.specs.Batch.{batchByte, formsByte}
 
 abbrev pub KeyLanes : ℕ → List ℕ → List ℕ → List ℕ → List ℕ → Type 0
 KeyLanes n d Δ T T′ = (c e : ℕ) → c < n → e < lanes → laneAt T′ c e ≡ bitXor (laneAt T c e) (bit d c * byteAt Δ e)
@@ -31,11 +34,13 @@ EquationsOf s A b y χ = (limits s ≡ true) × (length A ≡ s .m * (s .n * byt
 abbrev pub valueByte : ℕ → List ℕ → List ℕ → ℕ → ℕ
 valueByte m χ y e = xorSum m (λ i. byteAt χ (e * m + i) * bit y i)
 
-abbrev pub productByte : ℕ → ℕ → List ℕ → List ℕ → List ℕ → List ℕ → ℕ → List ℕ → ℕ → ℕ
-productByte n m A b y χ δ T e =
-    let forms = batchByte m χ e (λ i. formByte n (matrixOf n A i) T e) in
-    let linear = batchByte m χ e (λ i. selected n (rowOf n b i) T lanes e) in
-    bitXor (bitXor (bitXor forms (mulByte gf256 δ linear)) (mulByte gf256 (mulByte gf256 δ δ) (valueByte m χ y e))) (maskLane T n e)
+abbrev pub productByte : ℕ → ℕ → List ℕ → List ℕ → List ℕ → List ℕ → ℕ → ℕ → (ℕ → ℕ) → ℕ
+productByte n m A b y χ e δ f =
+    let linear = batchByte m χ e (λ i. rowBit n (rowOf n b i) f) in
+    bitXor (bitXor (formsByte n m A χ e f) (mulByte gf256 δ linear)) (mulByte gf256 (mulByte gf256 δ δ) (valueByte m χ y e))
 
-abbrev pub LeftSides : Shape → List ℕ → List ℕ → List ℕ → List ℕ → List ℕ → List ℕ → List ℕ → Type 0
-LeftSides s A b y χ Δ T left = (e : ℕ) → e < s .τ → byteAt left e ≡ productByte (s .n) (s .m) A b y χ (byteAt Δ e) T e
+abbrev pub LeftSides : Shape → List ℕ → List ℕ → List ℕ → List ℕ → List ℕ → (ℕ → ℕ → ℕ) → List ℕ → List ℕ → Type 0
+LeftSides s A b y χ Δ f left left′ = LanesAdded (s .τ) (λ e. productByte (s .n) (s .m) A b y χ e (byteAt Δ e) (f e)) left left′
+
+abbrev pub maskedByte : Shape → List ℕ → List ℕ → List ℕ → List ℕ → ℕ → ℕ → List ℕ → (ℕ → ℕ) → ℕ
+maskedByte s A b y χ e δ T f = bitXor (maskLane T (maskAt bits256 s e) e) (productByte (s .n) (s .m) A b y χ e δ f)

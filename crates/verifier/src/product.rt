@@ -4,7 +4,6 @@ ghost use mathlib.Core.Path.{_≡_};
 ghost use Prim.Native.Nat.{ℕ, _+_, _*_, _<_, _≤_};
 ghost use lib.ListN.{length};
 ghost use lib.Bits.{bitXor};
-ghost use Rattle.field.specs.Gf256.{gf256};
 ghost use Rattle.protocol.specs.Strings.{bit};
 ghost use Rattle.protocol.specs.Shape.{wOf};
 ghost use Rattle.strings.specs.Sums.{byteAt, xorSum};
@@ -17,7 +16,8 @@ ghost use Rattle.verifier.specs.Proved.{FirstDiffers};
 use field::Gf256;
 use format::sizes::MOST_VARIABLES;
 use format::sizes::Sizes;
-use lanes::Dimensions;
+use forms::batch::Forms;
+use forms::batch::batch_forms;
 use lanes::LANES;
 use questions::proof::D;
 use questions::proof::QS0;
@@ -74,8 +74,8 @@ fn batch_values(out: &mut [u8], y: &[u8], chi: &[u8], m: usize, tau: usize)
     }
 }
 
-// The left side in each repetition: the batched equations of the sections a, b, y of a key at the table's vectors, with
-// the masks.
+// Adds the left side of each repetition, but for its mask: the batched equations of the sections a, b, y of a key at
+// the vector of the repetition.
 fn product_lanes(
     left: &mut [u8],
     a: &[u8],
@@ -87,8 +87,9 @@ fn product_lanes(
     table: &[u8],
 )
     requires { ⌜ EquationsOf (shapeFor s) (now a) (now b) (now y) (now chi) ⌝ }
-    requires { ⌜ (length (now left) ≡ lanes) × (length (now delta) ≡ lanes) × ((s .n + gf256 .degree) * lanes ≤ length (now table)) ⌝ }
-    ensures { λ _. ⌜ LeftSides (shapeFor s) (now (a .entry)) (now (b .entry)) (now (y .entry)) (now (chi .entry)) (now (delta .entry)) (now (table .entry)) (now (left .exit)) ⌝ }
+    requires { ⌜ (length (now left) ≡ lanes) × (length (now delta) ≡ lanes) × (length (now table) ≡ s .n * lanes) ⌝ }
+    ensures { λ _. ⌜ LeftSides (shapeFor s) (now (a .entry)) (now (b .entry)) (now (y .entry)) (now (chi .entry)) (now (delta .entry)) (λ e c. laneAt (now (table .entry)) c e)
+        (now (left .entry)) (now (left .exit)) ⌝ }
 {
     let n = s.n;
     let m = s.m;
@@ -97,24 +98,17 @@ fn product_lanes(
     let mut values = [0u8; LANES];
     let mut square = [0u8; LANES];
     let zeros = [0u8; MOST_VARIABLES];
-    let front = &table[..n * LANES];
-    strings::clear(left);
-    forms::batch::batch_forms(
-        left,
-        &mut linear,
-        a,
-        b,
-        &zeros,
-        chi,
-        front,
-        false,
-        Dimensions { n, m, tau },
-    );
+    let f = Forms {
+        n,
+        m,
+        tau,
+        polar: false,
+    };
+    batch_forms(left, &mut linear, a, b, &zeros, chi, table, f);
     batch_values(&mut values, y, chi, m, tau);
     lanes::accumulate(left, delta, &linear);
     lanes::accumulate(&mut square, delta, delta);
     lanes::accumulate(left, &square, &values);
-    lanes::add_mask(left, table, n);
 }
 
 // The right side: the first repetition whose left side is not QS0_e + QS1_e·δ_e, or their number where none is.
@@ -164,6 +158,8 @@ pub fn check_product(
     let mut left = [0u8; LANES];
     load_challenge(&mut challenge, delta);
     add_difference(table, proof_section(proof, places, D), n, &challenge);
+    lanes::add_masks(&mut left, table, s);
+    let front = &table[..n * LANES];
     product_lanes(
         &mut left,
         questions::key::section_a(key, s),
@@ -172,7 +168,7 @@ pub fn check_product(
         batching,
         &challenge,
         s,
-        table,
+        front,
     );
     first_differing(
         &left,

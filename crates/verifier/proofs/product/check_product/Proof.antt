@@ -2,24 +2,27 @@
 -- product check.
 -- Assumes nothing.
 use borrow.Author.Needs.{needs}
-use Prim.Native.Nat.{ℕ, _*_, _<_}
+use Prim.Native.Nat.{ℕ, _+_, _*_, _<_}
 use mathlib.Core.Path.{refl, sym, ap, ap₂, _∙_}
 use mathlib.Core.List.{List}
 use native.Mathlib.Nat.{mul-assoc}
 use native.Mathlib.Omega.{arith}
 use denote.Ref.{now}
 use lib.Dec.{lit<}
+use lib.ListN.{take, length-take, getD-replicate}
+use lib.Seq.{getD-take}
 use lib.Bits.{bitXor}
 use Rattle.protocol.specs.Strings.{bytesFor, bit}
 use Rattle.protocol.specs.Binary.{bits256}
 use Rattle.protocol.specs.Key.{sectionA, sectionB}
+use Rattle.protocol.specs.Shape.{maskAt}
 use Rattle.protocol.specs.Sections.{lengths}
 use Rattle.strings.specs.Sums.{byteAt}
-use Rattle.lanes.specs.Lanes.{laneAt}
+use Rattle.lanes.specs.Lanes.{lanes, laneAt, maskLane}
 use Rattle.format.specs.Sizes.{shapeFor}
 use Rattle.format.proofs.SizeLaws.{in-limits}
 use Rattle.equations.proofs.BlockLaws.{bytes-enough}
-use Rattle.format.proofs.FitLaws.{mask-fits}
+use Rattle.format.proofs.FitLaws.{mask-below, mask-fits, l-fits}
 use Rattle.verifier.specs.Repetitions.{firstDiffering}
 use Rattle.verifier.specs.Product.{productByte}
 use Rattle.verifier.proofs.ProvedLaws.{section-lengths, section-bytes, first-differing-is}
@@ -35,7 +38,7 @@ load-challenge-requires c κs =
     omega (arith, s .pre .0 .2, in-limits (shapeFor (s .args .s)) (s .pre .0 .0 .in-range) .τ-most)
 
 proof-section-requires : tie.Need-proof-section-requires
-proof-section-requires c κs = (c .before .before .before .before .before .before .before .before .before .pre .0 .1 .1, lit< tt)
+proof-section-requires c κs = search needs
 
 slice-aggregate-add-difference : tie.Need-slice-aggregate-add-difference
 slice-aggregate-add-difference c = search needs
@@ -48,6 +51,30 @@ add-difference-requires c κs =
       omega (arith, c .before .proof-section .ensures (s .args .s) (s .pre .0 .1 .0) .1, section-lengths shape .d-length, bytes-enough (s .args .s .n)),
       c .before .before .before .before .load-challenge .kept .0,
     )
+
+slice-aggregate-add-masks : tie.Need-slice-aggregate-add-masks
+slice-aggregate-add-masks c = search needs
+
+add-masks-requires : tie.Need-add-masks-requires
+add-masks-requires c κs =
+    let s = c .before .before .before .before .before .before .before .before .before .before .before .before .before .before .before .before in
+    let shape = shapeFor (s .args .s) in
+    (refl, (in-limits shape (s .pre .0 .0 .in-range) .τ-most, λ e h. omega (arith, c .before .before .before .before .add-difference .kept .0, s .pre .1 .1, mask-below shape e h, l-fits shape)))
+
+mul-front : tie.Need-mul-front
+mul-front c =
+    let s = c .before .before .before .before .before .before .before .before .before .before .before .before .before .before .before .before .before .before in
+    omega (arith, in-limits (shapeFor (s .args .s)) (s .pre .0 .0 .in-range) .n-most)
+
+slice-reshare-prefix-front : tie.Need-slice-reshare-prefix-front
+slice-reshare-prefix-front c =
+    let s = c .before .before .before .before .before .before .before .before .before .before .before .before .before .before .before .before .before .before in
+    omega (arith, c .before .before .before .before .before .before .add-difference .kept .0, s .pre .1 .1, mask-fits (shapeFor (s .args .s)))
+
+slice-aggregate-front : tie.Need-slice-aggregate-front
+slice-aggregate-front c =
+    let s = c .before .before .before .before .before .before .before .before .before .before .before .before .before .before .before .before .before .before .before in
+    sym (simp length-take (omega (arith, c .before .before .before .before .before .before .before .add-difference .kept .0, s .pre .1 .1, mask-fits (shapeFor (s .args .s)))))
 
 slice-aggregate-product-lanes : tie.Need-slice-aggregate-product-lanes
 slice-aggregate-product-lanes c = search needs
@@ -66,34 +93,30 @@ slice-aggregate-product-lanes-2 c = search needs
 
 product-lanes-requires : tie.Need-product-lanes-requires
 product-lanes-requires c κs =
-    let s = c .before .before .before .before .before .before .before .before .before .before .before .before .before .before .before .before .before .before .before .before in
+    let s = c .before .before .before .before .before .before .before .before .before .before .before .before .before .before .before .before .before .before .before .before .before .before .before .before in
     let shape = shapeFor (s .args .s) in (
       (
         s .pre .0 .0 .in-range,
-        c .before .before .before .before .section-a .ensures .1 ∙ mul-assoc (shape .m) (shape .n) (bytesFor (shape .n)),
-        c .before .before .before .section-b .ensures .1,
-        omega (arith, c .before .before .section-y .ensures .1, bytes-enough (shape .m)),
+        c .before .before .before .section-a .ensures .1 ∙ mul-assoc (shape .m) (shape .n) (bytesFor (shape .n)),
+        c .before .before .section-b .ensures .1,
+        omega (arith, c .before .section-y .ensures .1, bytes-enough (shape .m)),
         s .pre .1 .0,
       ),
-      (
-        refl,
-        c .before .before .before .before .before .before .before .before .before .before .before .before .before .load-challenge .kept .0,
-        omega (arith, c .before .before .before .before .before .before .before .before .add-difference .kept .0, s .pre .1 .1, mask-fits shape),
-      ),
+      (c .before .before .before .before .before .before .before .add-masks .kept .0, c .before .before .before .before .before .before .before .before .before .before .before .before .before .before .before .before .before .load-challenge .kept .0, simp length-take (omega (arith, c .before .before .before .before .before .before .before .before .before .before .before .before .add-difference .kept .0, s .pre .1 .1, mask-fits shape))),
     )
 
 slice-aggregate-first-differing : tie.Need-slice-aggregate-first-differing
 slice-aggregate-first-differing c = search needs
 
 proof-section-requires-2 : tie.Need-proof-section-requires-2
-proof-section-requires-2 c κs = (c .before .before .before .before .before .before .before .before .before .before .before .before .before .before .before .before .before .before .before .before .before .before .before .pre .0 .1 .1, lit< tt)
+proof-section-requires-2 c κs = (c .before .before .before .before .before .before .before .before .before .before .before .before .before .before .before .before .before .before .before .before .before .before .before .before .before .before .before .pre .0 .1 .1, lit< tt)
 
 proof-section-requires-3 : tie.Need-proof-section-requires-3
-proof-section-requires-3 c κs = (c .before .before .before .before .before .before .before .before .before .before .before .before .before .before .before .before .before .before .before .before .before .before .before .before .pre .0 .1 .1, lit< tt)
+proof-section-requires-3 c κs = (c .before .before .before .before .before .before .before .before .before .before .before .before .before .before .before .before .before .before .before .before .before .before .before .before .before .before .before .before .pre .0 .1 .1, lit< tt)
 
 first-differing-requires : tie.Need-first-differing-requires
 first-differing-requires c κs =
-    let s = c .before .before .before .before .before .before .before .before .before .before .before .before .before .before .before .before .before .before .before .before .before .before .before .before .before in
+    let s = c .before .before .before .before .before .before .before .before .before .before .before .before .before .before .before .before .before .before .before .before .before .before .before .before .before .before .before .before .before in
     let shape = shapeFor (s .args .s) in
     let form = s .pre .0 .1 .0 in (
       omega (arith, s .pre .0 .2, c .before .before .before .before .product-lanes .kept .0, in-limits shape (s .pre .0 .0 .in-range) .τ-most),
@@ -102,34 +125,43 @@ first-differing-requires c κs =
     )
 
 same-length : tie.Need-same-length
-same-length c = search needs
+same-length c = c .before .before .before .before .before .before .before .before .before .before .before .before .before .before .before .before .before .before .add-difference .kept .0
 
 returns : tie.Need-returns
 unfolding lengths
 returns c opened is =
-    let s = c .before .before .before .before .before .before .before .before .before .before .before .before .before .before .before .before .before .before .before .before .before .before .before .before .before .before in
+    let s = c .before .before .before .before .before .before .before .before .before .before .before .before .before .before .before .before .before .before .before .before .before .before .before .before .before .before .before .before .before .before in
     let a = s .args in
     let shape = shapeFor (a .s) in
     let form = s .pre .0 .1 .0 in
     let key = now (a .key) in
     let proof = now (a .proof) in
     let χ = now (a .batching) in
-    let keys = c .before .before .before .before .before .before .before .before .before .before .before .before .before .before .add-difference in
-    let load = c .before .before .before .before .before .before .before .before .before .before .before .before .before .before .before .before .before .before .before .load-challenge in
-    let challenge = load .last .0 in
+    let keys = c .before .before .before .before .before .before .before .before .before .before .before .before .before .before .before .before .before .before .add-difference in
+    let load = c .before .before .before .before .before .before .before .before .before .before .before .before .before .before .before .before .before .before .before .before .before .before .before .load-challenge in
+    let masks = c .before .before .before .before .before .before .before .before .before .before .before .before .before .add-masks in
     let left = c .before .before .before .before .before .product-lanes in
-    let y = c .before .before .before .before .before .before .before .before in
-    let d = c .before .before .before .before .before .before .before .before .before .before .before .before .before .before .before .before .proof-section .ensures (a .s) form .0 in
+    let challenge = load .last .0 in
+    let T : List ℕ = keys .last .0 in
+    let f : ℕ → ℕ → ℕ = λ e k. laneAt (take (a .s .n * lanes) T) k e in
+    let y = now (c .before .before .before .before .before .before .before .section-y .result) in
+    let d = c .before .before .before .before .before .before .before .before .before .before .before .before .before .before .before .before .before .before .before .before .proof-section .ensures (a .s) form .0 in
+    let lane : (e : ℕ) → e < a .s .tau → e < lanes = λ e l. omega (arith, l, in-limits shape (s .pre .0 .0 .in-range) .τ-most) in
     c .first-differing .ensures
     ∙ ap₂ (λ (x y : List ℕ). firstDiffering (left .last .0) x y (now (a .delta))) (c .before .before .proof-section2 .ensures (a .s) form .0) (c .before .proof-section3 .ensures (a .s) form .0)
-    ∙ first-differing-is shape (now (a .delta)) opened proof (now (a .table)) is (s .pre .0 .2) (λ i. c .before .before .before .before .before .before .before .before .before .before .before .before .before .before .before .before .before .before .before .before .before .before .before .shared-slice-known2 .given i .fits) challenge (keys .last .0)
-    (λ e l. load .ensures e (omega (arith, s .pre .0 .2, l))) (λ e l. omega (arith, l, in-limits shape (s .pre .0 .0 .in-range) .τ-most))
-    (λ k e h l. keys .ensures .0 k e h l ∙ ap (λ (r : List ℕ). bitXor (laneAt (now (a .table)) k e) (bit r k * byteAt challenge e)) d) (λ k e h l. keys .ensures .1 k e h l) key χ (left .last .0) (λ i. c .before .before .before .before .before .before .before .before .before .before .before .before .before .before .before .before .before .before .before .before .before .before .shared-slice-known3 .given i .fits)
-    (section-bytes (lengths bits256 shape) proof 4 (lit< tt) (λ i. c .before .before .before .before .before .before .before .before .before .before .before .before .before .before .before .before .before .before .before .before .before .shared-slice-known4 .given i .fits))
+    ∙ first-differing-is shape (now (a .delta)) opened proof (now (a .table)) is (s .pre .0 .2) (λ i. c .before .before .before .before .before .before .before .before .before .before .before .before .before .before .before .before .before .before .before .before .before .before .before .before .before .before .before .shared-slice-known2 .given i .fits) challenge T f
+    (λ e l. load .ensures e (omega (arith, s .pre .0 .2, l)))
+    (λ e k l h.
+    getD-take (a .s .n * lanes) T (k * lanes + e) 0 (omega (arith, h, lane e l))
+    ∙ keys .ensures .0 k e h (lane e l)
+    ∙ ap (λ (r : List ℕ). bitXor (laneAt (now (a .table)) k e) (bit r k * byteAt challenge e)) d)
+    (λ e k l h. keys .ensures .1 k e h (lane e l)) key χ (left .last .0) (λ i. c .before .before .before .before .before .before .before .before .before .before .before .before .before .before .before .before .before .before .before .before .before .before .before .before .before .before .shared-slice-known3 .given i .fits)
+    (section-bytes (lengths bits256 shape) proof 4 (lit< tt) (λ i. c .before .before .before .before .before .before .before .before .before .before .before .before .before .before .before .before .before .before .before .before .before .before .before .before .before .shared-slice-known4 .given i .fits))
     (λ e l.
     left .ensures e l
-    ∙ ap₂ (λ (r q : List ℕ). productByte (a .s .n) (a .s .m) r q (now (y .section-y .result)) χ (byteAt challenge e) (keys .last .0) e) (y .before .before .section-a .ensures .0) (y .before .section-b .ensures .0)
-    ∙ ap (λ (r : List ℕ). productByte (a .s .n) (a .s .m) (sectionA bits256 shape key) (sectionB bits256 shape key) r χ (byteAt challenge e) (keys .last .0) e) (y .section-y .ensures .0))
+    ∙ ap₂ bitXor (masks .ensures e l ∙ ap (λ (z : ℕ). bitXor z (maskLane T (maskAt bits256 shape e) e)) (getD-replicate lanes e 0 0 (lane e l)))
+    (ap₂ (λ (r q : List ℕ). productByte (a .s .n) (a .s .m) r q y χ e (byteAt challenge e) (f e)) (c .before .before .before .before .before .before .before .before .before .section-a .ensures .0) (c .before .before .before .before .before .before .before .before .section-b .ensures .0)
+    ∙ ap (λ (r : List ℕ). productByte (a .s .n) (a .s .m) (sectionA bits256 shape key) (sectionB bits256 shape key) r χ e (byteAt challenge e) (f e)) (c .before .before .before .before .before .before .before .section-y .ensures .0)))
 
 pub check-product-spec : {M : Type 1} → statement M
 check-product-spec =
@@ -140,6 +172,11 @@ check-product-spec =
     proof-section-requires
     slice-aggregate-add-difference
     add-difference-requires
+    slice-aggregate-add-masks
+    add-masks-requires
+    mul-front
+    slice-reshare-prefix-front
+    slice-aggregate-front
     slice-aggregate-product-lanes
     section-a-requires
     section-b-requires
