@@ -19,6 +19,9 @@ use Rattle.protocol.specs.Shape.{Shape, limits, wOf}
 use Rattle.protocol.specs.Sections.{bytesOf}
 use Rattle.protocol.specs.Prover.{cSection, dSection, ũSection, ṼSection, qs0Section, qs1Section, sectionsOf}
 use Rattle.lanes.specs.Lanes.{lanes}
+use Rattle.forms_columns.specs.Stacks.{VectorsRoom}
+use Rattle.forms_batching.specs.Batched.{CellsRoom}
+use Rattle.forms_batching.specs.Lines.{VectorsEnd}
 use Rattle.questions.specs.Facts.{KeyFacts, WitnessForm, HashForm}
 use Rattle.prover.specs.Loaded.{Buffers, Loaded}
 
@@ -56,11 +59,12 @@ module _ (A : Alphabet) (s : Shape) where
   abbrev pub HashWritten : (H′ table sums out : List ℕ) → Type 0
   HashWritten H′ table sums out = (leaves : List ℕ) → Loaded A s leaves table sums → out ≡ hashFrame leaves H′
 
-  pub record BatchReady (key x χ table sums out : List ℕ) : Type 0 where
+  pub record BatchReady (key x χ space sums out : List ℕ) : Type 0 where
     pub key-facts : KeyFacts A s key
     pub witness-form : WitnessForm A s x
     pub batching-length : length χ ≡ s .τ * s .m
-    pub buffers : Buffers A s table sums
+    pub buffers : Buffers A s space sums
+    pub cells-room : CellsRoom space
     pub out-length : length out ≡ 8 + s .τ + s .τ
 
   abbrev pub BatchWritten : (key x χ table sums out : List ℕ) → Type 0
@@ -72,20 +76,23 @@ module _ (A : Alphabet) (s : Shape) where
     pub qs0-lanes : length qs0 ≡ lanes
     pub qs1-lanes : length qs1 ≡ lanes
 
-  pub record FormsReady (key x χ table qs0 qs1 : List ℕ) : Type 0 where
+  pub record FormsReady (key x χ vs qs0 qs1 cells : List ℕ) : Type 0 where
     pub key-facts : KeyFacts A s key
     pub witness-form : WitnessForm A s x
     pub batching-length : length χ ≡ s .τ * s .m
-    pub table-room : s .n * lanes ≤ length table
+    pub vectors-room : VectorsRoom vs
+    pub vectors-end : VectorsEnd (s .n) (s .τ) vs
+    pub cells-room : CellsRoom cells
     pub qs0-lanes : length qs0 ≡ lanes
     pub qs1-lanes : length qs1 ≡ lanes
 
-  pub record RestReady (key x H′ χ table sums out : List ℕ) : Type 0 where
+  pub record RestReady (key x H′ χ space sums out : List ℕ) : Type 0 where
     pub key-facts : KeyFacts A s key
     pub hash-form : HashForm A s H′
     pub witness-form : WitnessForm A s x
     pub batching-length : length χ ≡ s .τ * s .m
-    pub buffers : Buffers A s table sums
+    pub buffers : Buffers A s space sums
+    pub cells-room : CellsRoom space
     pub out-length : length out ≡ 16 + bytesFor (s .t) + s .τ * s .t + s .τ + s .τ
 
   abbrev pub RestWritten : (key x H′ χ table sums out : List ℕ) → Type 0

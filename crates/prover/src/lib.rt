@@ -12,6 +12,7 @@ use format::Sizes;
 use format::sizes::MOST_LEAF;
 use format::sizes::degree_of;
 use format::sizes::leaf_bytes;
+use forms_batching::panels::CELLS;
 use lanes::LANES;
 use sections::outputs::commit_bytes;
 use sections::outputs::hash_bytes;
@@ -20,7 +21,8 @@ use steps::commit_into;
 use steps::hash_into;
 use strings::BITS;
 
-// Room for the largest key: the table of the v_e, and the u_e.
+// Room for the largest key: the table of the v_e, and the u_e. The steps that batch put the table at the front of the
+// cells, which need more room and are made when the table has served.
 const TABLE_ROOM: usize = BITS * MOST_LEAF * LANES;
 
 const SUMS_ROOM: usize = LANES * MOST_LEAF;
@@ -69,30 +71,30 @@ pub fn batch(out: &mut [u8], key: &[u8], leaves: &[u8], witness: &[u8], batching
     requires { ⌜ BatchFacts (alphabetFor s) (shapeFor s) (now key) (now leaves) (now witness) (now batching) (now out) ⌝ }
     ensures { λ _. ⌜ now (out .exit) ≡ batchFrame (alphabetFor s) (shapeFor s) (now (leaves .entry)) (now (key .entry)) (now (witness .entry)) (now (batching .entry)) ⌝ }
 {
-    let mut table = [0u8; TABLE_ROOM];
+    let mut space = [0u8; CELLS];
     let mut sums = [0u8; SUMS_ROOM];
-    load(&mut table, &mut sums, leaves, s);
-    batch_into(out, key, witness, batching, &table, &sums, s);
+    load(&mut space, &mut sums, leaves, s);
+    batch_into(out, &mut space, key, witness, batching, &sums, s);
 }
 
 // The second and the third step, one after the other.
 fn rest_into(
     out: &mut [u8],
+    space: &mut [u8],
     key: &[u8],
     witness: &[u8],
     matrix: &[u8],
     batching: &[u8],
-    table: &[u8],
     sums: &[u8],
     s: Sizes,
 )
-    requires { ⌜ RestReady (alphabetFor s) (shapeFor s) (now key) (now witness) (now matrix) (now batching) (now table) (now sums) (now out) ⌝ }
+    requires { ⌜ RestReady (alphabetFor s) (shapeFor s) (now key) (now witness) (now matrix) (now batching) (now space) (now sums) (now out) ⌝ }
     ensures { λ _. ⌜ RestWritten (alphabetFor s) (shapeFor s) (now (key .entry)) (now (witness .entry)) (now (matrix .entry)) (now (batching .entry))
-        (now (table .entry)) (now (sums .entry)) (now (out .exit)) ⌝ }
+        (now (space .entry)) (now (sums .entry)) (now (out .exit)) ⌝ }
 {
     let split = hash_bytes(s);
-    hash_into(&mut out[..split], matrix, table, sums, s);
-    batch_into(&mut out[split..], key, witness, batching, table, sums, s);
+    hash_into(&mut out[..split], matrix, space, sums, s);
+    batch_into(&mut out[split..], space, key, witness, batching, sums, s);
 }
 
 // The three steps in one call (01): a whole proof.
@@ -108,18 +110,18 @@ pub fn prove(
     requires { ⌜ ProveFacts (alphabetFor s) (shapeFor s) (now key) (now leaves) (now witness) (now matrix) (now batching) (now out) ⌝ }
     ensures { λ _. ⌜ now (out .exit) ≡ proofFrame (alphabetFor s) (shapeFor s) (now (leaves .entry)) (now (key .entry)) (now (witness .entry)) (now (matrix .entry)) (now (batching .entry)) ⌝ }
 {
-    let mut table = [0u8; TABLE_ROOM];
+    let mut space = [0u8; CELLS];
     let mut sums = [0u8; SUMS_ROOM];
-    load(&mut table, &mut sums, leaves, s);
+    load(&mut space, &mut sums, leaves, s);
     let split = commit_bytes(s);
     commit_into(&mut out[..split], witness, &sums, s);
     rest_into(
         &mut out[split..],
+        &mut space,
         key,
         witness,
         matrix,
         batching,
-        &table,
         &sums,
         s,
     );

@@ -4,7 +4,8 @@ ghost use Rattle.protocol.specs.Strings.{bit};
 ghost use Rattle.protocol.specs.Shape.{wOf};
 ghost use Rattle.protocol.specs.Key.{sectionA, sectionB};
 ghost use Rattle.format.specs.Sizes.{alphabetFor, shapeFor};
-ghost use Rattle.lanes.specs.Lanes.{laneAt, LanesAdded, maskLane, maskBits, firstMask};
+ghost use Rattle.lanes.specs.Lanes.{LanesAdded, maskLane, maskBits, firstMask};
+ghost use Rattle.forms_columns.specs.Stacks.{coordinateOf};
 ghost use Rattle.forms.specs.Batch.{formsByte, middlesByte};
 ghost use Rattle.prover.specs.Steps.{CommitReady, CommitWritten, HashReady, HashWritten, BatchReady, BatchWritten, MasksReady, FormsReady};
 use super::framed::write_c;
@@ -12,12 +13,17 @@ use super::framed::write_d;
 use super::framed::write_u;
 use super::framed::write_v;
 use format::Sizes;
+use format::sizes::MOST_VARIABLES;
 use format::sizes::bytes_for;
 use format::sizes::leaf_bytes;
+use forms_batching::stacks::fill_vectors;
 use lanes::Dimensions;
 use lanes::LANES;
 use sections::COUNT;
 use sections::frames::put_two;
+
+// The vectors of as many repetitions as there are lanes.
+const VECTORS: usize = LANES * MOST_VARIABLES;
 
 // C and d.
 pub fn commit_into(out: &mut [u8], witness: &[u8], sums: &[u8], s: Sizes)
@@ -51,23 +57,24 @@ fn add_masks(qs0: &mut [u8], qs1: &mut [u8], table: &[u8], sums: &[u8], s: Sizes
     lanes::add_mask_bits(qs1, strings::row_at(sums, w, 0), s);
 }
 
-// Adds what the equations of the key give.
+// Adds what the equations of the key give at the vectors. `cells` is space.
 fn add_forms(
     qs0: &mut [u8],
     qs1: &mut [u8],
+    cells: &mut [u8],
     key: &[u8],
     witness: &[u8],
     batching: &[u8],
-    table: &[u8],
+    vectors: &[u8],
     s: Sizes,
 )
-    requires { ⌜ FormsReady (alphabetFor s) (shapeFor s) (now key) (now witness) (now batching) (now table) (now qs0) (now qs1) ⌝ }
+    requires { ⌜ FormsReady (alphabetFor s) (shapeFor s) (now key) (now witness) (now batching) (now vectors) (now qs0) (now qs1) (now cells) ⌝ }
     ensures { λ _. ⌜ LanesAdded (s .tau)
-        (λ e. formsByte (s .n) (s .m) (sectionA (alphabetFor s) (shapeFor s) (now (key .entry))) (now (batching .entry)) e (λ c. laneAt (now (table .entry)) c e))
+        (λ e. formsByte (s .n) (s .m) (sectionA (alphabetFor s) (shapeFor s) (now (key .entry))) (now (batching .entry)) e (coordinateOf (now (vectors .entry)) e))
         (now (qs0 .entry)) (now (qs0 .exit)) ⌝ }
     ensures { λ _. ⌜ LanesAdded (s .tau)
         (λ e. middlesByte (s .n) (s .m) (sectionA (alphabetFor s) (shapeFor s) (now (key .entry))) (sectionB (alphabetFor s) (shapeFor s) (now (key .entry)))
-            (bit (now (witness .entry))) (now (batching .entry)) e (λ c. laneAt (now (table .entry)) c e))
+            (bit (now (witness .entry))) (now (batching .entry)) e (coordinateOf (now (vectors .entry)) e))
         (now (qs1 .entry)) (now (qs1 .exit)) ⌝ }
 {
     let n = s.n;
@@ -76,32 +83,45 @@ fn add_forms(
     forms::batch::batch_lanes(
         qs0,
         qs1,
+        cells,
         questions::key::section_a(key, s),
         questions::key::section_b(key, s),
         witness,
         batching,
-        &table[..n * LANES],
+        vectors,
         Dimensions { n, m, tau },
     );
 }
 
-// QS0 and QS1.
+// QS0 and QS1. The space holds the table of the v_e; once vectors and masks are taken from it, it is the cells.
 pub fn batch_into(
     out: &mut [u8],
+    space: &mut [u8],
     key: &[u8],
     witness: &[u8],
     batching: &[u8],
-    table: &[u8],
     sums: &[u8],
     s: Sizes,
 )
-    requires { ⌜ BatchReady (alphabetFor s) (shapeFor s) (now key) (now witness) (now batching) (now table) (now sums) (now out) ⌝ }
-    ensures { λ _. ⌜ BatchWritten (alphabetFor s) (shapeFor s) (now (key .entry)) (now (witness .entry)) (now (batching .entry)) (now (table .entry)) (now (sums .entry)) (now (out .exit)) ⌝ }
+    requires { ⌜ BatchReady (alphabetFor s) (shapeFor s) (now key) (now witness) (now batching) (now space) (now sums) (now out) ⌝ }
+    ensures { λ _. ⌜ BatchWritten (alphabetFor s) (shapeFor s) (now (key .entry)) (now (witness .entry)) (now (batching .entry)) (now (space .entry)) (now (sums .entry)) (now (out .exit)) ⌝ }
 {
+    let n = s.n;
+    let tau = s.tau;
     let mut qs0 = [0u8; LANES];
     let mut qs1 = [0u8; LANES];
-    add_masks(&mut qs0, &mut qs1, table, sums, s);
-    add_forms(&mut qs0, &mut qs1, key, witness, batching, table, s);
-    let tau = s.tau;
+    let mut vectors = [0u8; VECTORS];
+    fill_vectors(&mut vectors, tau, space, n);
+    add_masks(&mut qs0, &mut qs1, space, sums, s);
+    add_forms(
+        &mut qs0,
+        &mut qs1,
+        space,
+        key,
+        witness,
+        batching,
+        &vectors,
+        s,
+    );
     put_two(out, &qs0[..tau], &qs1[..tau]);
 }

@@ -21,7 +21,7 @@ use Rattle.format.proofs.SizeLaws.{in-limits, k-most, w-most, bytes-most, corre
 use Rattle.format.proofs.FitLaws.{n-fits, l-fits, mask-fits}
 use Rattle.sections.proofs.Writes.{framed-one, framed-two, rest-length, part-starts, take-length}
 use borrow.Author.Needs.{needs}
-use Rattle.prover.proofs.LoadedLaws.{buffers-of}
+use Rattle.prover.proofs.LoadedLaws.{space-of}
 use Rattle.prover.proofs.batch.Statement.{statement}
 use Rattle.prover.proofs.batch.Tie as tie
 
@@ -33,7 +33,7 @@ slice-aggregate-load-2 c = search needs
 
 load-requires : tie.Need-load-requires
 load-requires c κs =
-    (c .before .before .before .before .before .before .before .pre .of-key .in-range, c .before .before .before .before .before .before .before .pre .of-leaves, buffers-of (shapeFor (c .before .before .before .before .before .before .before .args .s)) (c .before .before .before .before .before .before .before .pre .of-key .in-range))
+    (c .before .before .before .before .before .before .before .pre .of-key .in-range, c .before .before .before .before .before .before .before .pre .of-leaves, space-of (shapeFor (c .before .before .before .before .before .before .before .args .s)) (c .before .before .before .before .before .before .before .pre .of-key .in-range))
 
 slice-aggregate-batch-into : tie.Need-slice-aggregate-batch-into
 slice-aggregate-batch-into c = search needs
@@ -43,13 +43,13 @@ slice-aggregate-batch-into-2 c = search needs
 
 batch-into-requires : tie.Need-batch-into-requires
 batch-into-requires c κs =
-    record { key-facts = c .before .before .before .before .before .before .before .before .before .before .before .before .before .pre .of-key; witness-form = c .before .before .before .before .before .before .before .before .before .before .before .before .before .pre .of-witness; batching-length = c .before .before .before .before .before .before .before .before .before .before .before .before .before .pre .of-batching; buffers = c .before .before .before .before .before .load .ensures .buffers; out-length = c .before .before .before .before .before .before .before .before .before .before .before .before .before .pre .of-out }
+    record { key-facts = c .before .before .before .before .before .before .before .before .before .before .before .before .before .pre .of-key; witness-form = c .before .before .before .before .before .before .before .before .before .before .before .before .before .pre .of-witness; batching-length = c .before .before .before .before .before .before .before .before .before .before .before .before .before .pre .of-batching; buffers = c .before .before .before .before .before .load .ensures .buffers; cells-room = omega (arith, c .before .before .before .before .before .load .kept .0); out-length = c .before .before .before .before .before .before .before .before .before .before .before .before .before .pre .of-out }
 
 same-length : tie.Need-same-length
 same-length c = search needs
 
 returns : tie.Need-returns
-returns c = c .before .before .batch-into .ensures (now (c .before .before .before .before .before .before .before .before .before .before .before .before .before .before .before .before .args .leaves)) (c .before .before .before .before .before .before .before .before .load .ensures)
+returns c = c .before .before .before .batch-into .ensures (now (c .before .before .before .before .before .before .before .before .before .before .before .before .before .before .before .before .before .args .leaves)) (c .before .before .before .before .before .before .before .before .before .load .ensures)
 
 pub batch-spec : {M : Type 1} → statement M
 batch-spec =

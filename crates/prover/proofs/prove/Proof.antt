@@ -22,7 +22,7 @@ use Rattle.format.proofs.FitLaws.{n-fits, l-fits, mask-fits}
 use Rattle.sections.proofs.Writes.{framed-one, framed-two, rest-length, part-starts, take-length}
 use borrow.Author.Needs.{needs}
 use Rattle.protocol.specs.Sections.{bytesOf}
-use Rattle.prover.proofs.LoadedLaws.{buffers-of, commit-length}
+use Rattle.prover.proofs.LoadedLaws.{space-of, commit-length}
 use Rattle.prover.proofs.prove.Statement.{statement}
 use Rattle.prover.proofs.prove.Tie as tie
 
@@ -34,7 +34,7 @@ slice-aggregate-load-2 c = search needs
 
 load-requires : tie.Need-load-requires
 load-requires c κs =
-    (c .before .before .before .before .before .before .before .before .pre .of-key .in-range, c .before .before .before .before .before .before .before .before .pre .of-leaves, buffers-of (shapeFor (c .before .before .before .before .before .before .before .before .args .s)) (c .before .before .before .before .before .before .before .before .pre .of-key .in-range))
+    (c .before .before .before .before .before .before .before .before .pre .of-key .in-range, c .before .before .before .before .before .before .before .before .pre .of-leaves, space-of (shapeFor (c .before .before .before .before .before .before .before .before .args .s)) (c .before .before .before .before .before .before .before .before .pre .of-key .in-range))
 
 commit-bytes-requires : tie.Need-commit-bytes-requires
 commit-bytes-requires c κs = c .before .before .before .before .before .before .before .before .before .before .before .pre .of-key .in-range
@@ -78,7 +78,7 @@ rest-into-requires c κs =
       hash-form = c .before .before .before .before .before .before .before .before .before .before .before .before .before .before .before .before .before .before .before .before .pre .of-hash;
       witness-form = c .before .before .before .before .before .before .before .before .before .before .before .before .before .before .before .before .before .before .before .before .pre .of-witness;
       batching-length = c .before .before .before .before .before .before .before .before .before .before .before .before .before .before .before .before .before .before .before .before .pre .of-batching;
-      buffers = c .before .before .before .before .before .before .before .before .before .before .before .load .ensures .buffers;
+      buffers = c .before .before .before .before .before .before .before .before .before .before .before .load .ensures .buffers; cells-room = omega (arith, c .before .before .before .before .before .before .before .before .before .before .before .load .kept .0);
       out-length = rest-length (c .before .before .before .before .before .before .before .before .commit-bytes .result) (16 + bytesFor (c .before .before .before .before .before .before .before .before .before .before .before .before .before .before .before .before .before .before .before .before .args .s .t) + c .before .before .before .before .before .before .before .before .before .before .before .before .before .before .before .before .before .before .before .before .args .s .tau * c .before .before .before .before .before .before .before .before .before .before .before .before .before .before .before .before .before .before .before .before .args .s .t + c .before .before .before .before .before .before .before .before .before .before .before .before .before .before .before .before .before .before .before .before .args .s .tau + c .before .before .before .before .before .before .before .before .before .before .before .before .before .before .before .before .before .before .before .before .args .s .tau) (c .before .before .before .before .before .commit-into .last .0) (now (c .before .before .before .before .before .before .before .before .before .before .before .before .before .before .before .before .before .before .before .before .args .out)) (c .before .before .before .before .before .commit-into .kept .0 ∙ take-length (c .before .before .before .before .before .before .before .before .commit-bytes .result) (now (c .before .before .before .before .before .before .before .before .before .before .before .before .before .before .before .before .before .before .before .before .args .out)) (omega (arith, c .before .before .before .before .before .before .before .before .commit-bytes .ensures ∙ commit-length (shapeFor (c .before .before .before .before .before .before .before .before .before .before .before .before .before .before .before .before .before .before .before .before .args .s)), c .before .before .before .before .before .before .before .before .before .before .before .before .before .before .before .before .before .before .before .before .pre .of-out))) (omega (arith, c .before .before .before .before .before .before .before .before .commit-bytes .ensures ∙ commit-length (shapeFor (c .before .before .before .before .before .before .before .before .before .before .before .before .before .before .before .before .before .before .before .before .args .s)), c .before .before .before .before .before .before .before .before .before .before .before .before .before .before .before .before .before .before .before .before .pre .of-out));
     }
 
@@ -88,12 +88,12 @@ same-length c = search needs
 returns : tie.Need-returns
 unfolding bytesOf
 returns c =
-    let a = c .before .before .before .before .before .before .before .before .before .before .before .before .before .before .before .before .before .before .before .before .before .before .before .args in
-    let shape = (shapeFor (c .before .before .before .before .before .before .before .before .before .before .before .before .before .before .before .before .before .before .before .before .before .before .before .args .s)) in
-    let leaves = now (c .before .before .before .before .before .before .before .before .before .before .before .before .before .before .before .before .before .before .before .before .before .before .before .args .leaves) in
-    framed-two (c .before .before .before .before .before .before .before .before .before .before .before .commit-bytes .result) (c .before .before .before .before .before .before .before .before .commit-into .last .0) (drop (c .before .before .before .before .before .before .before .before .before .before .before .commit-bytes .result) (now (a .out))) (c .before .before .rest-into .last .0) (cSection bits256 shape leaves ∷ dSection bits256 shape leaves (now (a .witness)) ∷ [])
+    let a = c .before .before .before .before .before .before .before .before .before .before .before .before .before .before .before .before .before .before .before .before .before .before .before .before .args in
+    let shape = (shapeFor (c .before .before .before .before .before .before .before .before .before .before .before .before .before .before .before .before .before .before .before .before .before .before .before .before .args .s)) in
+    let leaves = now (c .before .before .before .before .before .before .before .before .before .before .before .before .before .before .before .before .before .before .before .before .before .before .before .before .args .leaves) in
+    framed-two (c .before .before .before .before .before .before .before .before .before .before .before .before .commit-bytes .result) (c .before .before .before .before .before .before .before .before .before .commit-into .last .0) (drop (c .before .before .before .before .before .before .before .before .before .before .before .before .commit-bytes .result) (now (a .out))) (c .before .before .before .rest-into .last .0) (cSection bits256 shape leaves ∷ dSection bits256 shape leaves (now (a .witness)) ∷ [])
     (ũSection bits256 shape leaves (now (a .matrix)) ∷ ṼSection bits256 shape leaves (now (a .matrix)) ∷ qs0Section bits256 shape leaves (now (a .key)) (now (a .batching)) ∷ qs1Section bits256 shape leaves (now (a .key)) (now (a .witness)) (now (a .batching)) ∷ [])
-    (c .before .before .before .before .before .before .before .before .commit-into .kept .0 ∙ take-length (c .before .before .before .before .before .before .before .before .before .before .before .commit-bytes .result) (now (c .before .before .before .before .before .before .before .before .before .before .before .before .before .before .before .before .before .before .before .before .before .before .before .args .out)) (omega (arith, c .before .before .before .before .before .before .before .before .before .before .before .commit-bytes .ensures ∙ commit-length (shapeFor (c .before .before .before .before .before .before .before .before .before .before .before .before .before .before .before .before .before .before .before .before .before .before .before .args .s)), c .before .before .before .before .before .before .before .before .before .before .before .before .before .before .before .before .before .before .before .before .before .before .before .pre .of-out))) (c .before .before .before .before .before .before .before .before .commit-into .ensures leaves (c .before .before .before .before .before .before .before .before .before .before .before .before .before .before .load .last .0) (c .before .before .before .before .before .before .before .before .before .before .before .before .before .before .load .ensures)) (c .before .before .rest-into .ensures leaves (c .before .before .before .before .before .before .before .before .before .before .before .before .before .before .load .ensures))
+    (c .before .before .before .before .before .before .before .before .before .commit-into .kept .0 ∙ take-length (c .before .before .before .before .before .before .before .before .before .before .before .before .commit-bytes .result) (now (c .before .before .before .before .before .before .before .before .before .before .before .before .before .before .before .before .before .before .before .before .before .before .before .before .args .out)) (omega (arith, c .before .before .before .before .before .before .before .before .before .before .before .before .commit-bytes .ensures ∙ commit-length (shapeFor (c .before .before .before .before .before .before .before .before .before .before .before .before .before .before .before .before .before .before .before .before .before .before .before .before .args .s)), c .before .before .before .before .before .before .before .before .before .before .before .before .before .before .before .before .before .before .before .before .before .before .before .before .pre .of-out))) (c .before .before .before .before .before .before .before .before .before .commit-into .ensures leaves (c .before .before .before .before .before .before .before .before .before .before .before .before .before .before .before .load .last .0) (c .before .before .before .before .before .before .before .before .before .before .before .before .before .before .before .load .ensures)) (c .before .before .before .rest-into .ensures leaves (c .before .before .before .before .before .before .before .before .before .before .before .before .before .before .before .load .ensures))
 
 pub prove-spec : {M : Type 1} → statement M
 prove-spec =

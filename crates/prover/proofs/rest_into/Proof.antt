@@ -38,15 +38,15 @@ slice-aggregate-hash-into c =
 
 hash-into-requires : tie.Need-hash-into-requires
 hash-into-requires c κs =
-    record { in-range = c .before .before .before .before .before .before .before .before .before .pre .key-facts .in-range; hash-form = c .before .before .before .before .before .before .before .before .before .pre .hash-form; buffers = c .before .before .before .before .before .before .before .before .before .pre .buffers; out-length = take-length (c .before .hash-bytes .result) (now (c .before .before .before .before .before .before .before .before .before .args .out)) (omega (arith, c .before .hash-bytes .ensures ∙ hash-length (shapeFor (c .before .before .before .before .before .before .before .before .before .args .s)), c .before .before .before .before .before .before .before .before .before .pre .out-length)) ∙ c .before .hash-bytes .ensures ∙ hash-length (shapeFor (c .before .before .before .before .before .before .before .before .before .args .s)) }
+    record { in-range = c .before .before .before .before .before .before .before .before .before .before .pre .key-facts .in-range; hash-form = c .before .before .before .before .before .before .before .before .before .before .pre .hash-form; buffers = c .before .before .before .before .before .before .before .before .before .before .pre .buffers; out-length = take-length (c .before .before .hash-bytes .result) (now (c .before .before .before .before .before .before .before .before .before .before .args .out)) (omega (arith, c .before .before .hash-bytes .ensures ∙ hash-length (shapeFor (c .before .before .before .before .before .before .before .before .before .before .args .s)), c .before .before .before .before .before .before .before .before .before .before .pre .out-length)) ∙ c .before .before .hash-bytes .ensures ∙ hash-length (shapeFor (c .before .before .before .before .before .before .before .before .before .before .args .s)) }
 
 sub-batch-into : tie.Need-sub-batch-into
 sub-batch-into c =
-    part-starts (c .before .before .before .before .hash-bytes .result) (c .before .before .hash-into .last .0) (drop (c .before .before .before .before .hash-bytes .result) (now (c .before .before .before .before .before .before .before .before .before .before .before .before .args .out))) (c .before .before .hash-into .kept .0 ∙ take-length (c .before .before .before .before .hash-bytes .result) (now (c .before .before .before .before .before .before .before .before .before .before .before .before .args .out)) (omega (arith, c .before .before .before .before .hash-bytes .ensures ∙ hash-length (shapeFor (c .before .before .before .before .before .before .before .before .before .before .before .before .args .s)), c .before .before .before .before .before .before .before .before .before .before .before .before .pre .out-length)))
+    part-starts (c .before .before .before .before .before .hash-bytes .result) (c .before .before .hash-into .last .0) (drop (c .before .before .before .before .before .hash-bytes .result) (now (c .before .before .before .before .before .before .before .before .before .before .before .before .before .args .out))) (c .before .before .hash-into .kept .0 ∙ take-length (c .before .before .before .before .before .hash-bytes .result) (now (c .before .before .before .before .before .before .before .before .before .before .before .before .before .args .out)) (omega (arith, c .before .before .before .before .before .hash-bytes .ensures ∙ hash-length (shapeFor (c .before .before .before .before .before .before .before .before .before .before .before .before .before .args .s)), c .before .before .before .before .before .before .before .before .before .before .before .before .before .pre .out-length)))
 
 part-batch-into-start : tie.Need-part-batch-into-start
 part-batch-into-start c =
-    part-starts (c .before .before .before .before .hash-bytes .result) (c .before .before .hash-into .last .0) (drop (c .before .before .before .before .hash-bytes .result) (now (c .before .before .before .before .before .before .before .before .before .before .before .before .args .out))) (c .before .before .hash-into .kept .0 ∙ take-length (c .before .before .before .before .hash-bytes .result) (now (c .before .before .before .before .before .before .before .before .before .before .before .before .args .out)) (omega (arith, c .before .before .before .before .hash-bytes .ensures ∙ hash-length (shapeFor (c .before .before .before .before .before .before .before .before .before .before .before .before .args .s)), c .before .before .before .before .before .before .before .before .before .before .before .before .pre .out-length)))
+    part-starts (c .before .before .before .before .before .hash-bytes .result) (c .before .before .hash-into .last .0) (drop (c .before .before .before .before .before .hash-bytes .result) (now (c .before .before .before .before .before .before .before .before .before .before .before .before .before .args .out))) (c .before .before .hash-into .kept .0 ∙ take-length (c .before .before .before .before .before .hash-bytes .result) (now (c .before .before .before .before .before .before .before .before .before .before .before .before .before .args .out)) (omega (arith, c .before .before .before .before .before .hash-bytes .ensures ∙ hash-length (shapeFor (c .before .before .before .before .before .before .before .before .before .before .before .before .before .args .s)), c .before .before .before .before .before .before .before .before .before .before .before .before .before .pre .out-length)))
 
 part-batch-into-end : tie.Need-part-batch-into-end
 part-batch-into-end c = search needs
@@ -54,24 +54,28 @@ part-batch-into-end c = search needs
 batch-into-requires : tie.Need-batch-into-requires
 batch-into-requires c κs =
     record {
-      key-facts = c .before .before .before .before .before .before .before .before .before .before .before .before .before .pre .key-facts;
-      witness-form = c .before .before .before .before .before .before .before .before .before .before .before .before .before .pre .witness-form;
-      batching-length = c .before .before .before .before .before .before .before .before .before .before .before .before .before .pre .batching-length;
-      buffers = c .before .before .before .before .before .before .before .before .before .before .before .before .before .pre .buffers;
-      out-length = rest-length (c .before .before .before .before .before .hash-bytes .result) (8 + c .before .before .before .before .before .before .before .before .before .before .before .before .before .args .s .tau + c .before .before .before .before .before .before .before .before .before .before .before .before .before .args .s .tau) (c .before .before .before .hash-into .last .0) (now (c .before .before .before .before .before .before .before .before .before .before .before .before .before .args .out)) (c .before .before .before .hash-into .kept .0 ∙ take-length (c .before .before .before .before .before .hash-bytes .result) (now (c .before .before .before .before .before .before .before .before .before .before .before .before .before .args .out)) (omega (arith, c .before .before .before .before .before .hash-bytes .ensures ∙ hash-length (shapeFor (c .before .before .before .before .before .before .before .before .before .before .before .before .before .args .s)), c .before .before .before .before .before .before .before .before .before .before .before .before .before .pre .out-length))) (omega (arith, c .before .before .before .before .before .hash-bytes .ensures ∙ hash-length (shapeFor (c .before .before .before .before .before .before .before .before .before .before .before .before .before .args .s)), c .before .before .before .before .before .before .before .before .before .before .before .before .before .pre .out-length));
+      key-facts = c .before .before .before .before .before .before .before .before .before .before .before .before .before .before .before .pre .key-facts;
+      witness-form = c .before .before .before .before .before .before .before .before .before .before .before .before .before .before .before .pre .witness-form;
+      batching-length = c .before .before .before .before .before .before .before .before .before .before .before .before .before .before .before .pre .batching-length;
+      buffers = c .before .before .before .before .before .before .before .before .before .before .before .before .before .before .before .pre .buffers;
+      cells-room = c .before .before .before .before .before .before .before .before .before .before .before .before .before .before .before .pre .cells-room;
+      out-length = rest-length (c .before .before .before .before .before .before .before .hash-bytes .result) (8 + c .before .before .before .before .before .before .before .before .before .before .before .before .before .before .before .args .s .tau + c .before .before .before .before .before .before .before .before .before .before .before .before .before .before .before .args .s .tau) (c .before .before .before .before .hash-into .last .0) (now (c .before .before .before .before .before .before .before .before .before .before .before .before .before .before .before .args .out)) (c .before .before .before .before .hash-into .kept .0 ∙ take-length (c .before .before .before .before .before .before .before .hash-bytes .result) (now (c .before .before .before .before .before .before .before .before .before .before .before .before .before .before .before .args .out)) (omega (arith, c .before .before .before .before .before .before .before .hash-bytes .ensures ∙ hash-length (shapeFor (c .before .before .before .before .before .before .before .before .before .before .before .before .before .before .before .args .s)), c .before .before .before .before .before .before .before .before .before .before .before .before .before .before .before .pre .out-length))) (omega (arith, c .before .before .before .before .before .before .before .hash-bytes .ensures ∙ hash-length (shapeFor (c .before .before .before .before .before .before .before .before .before .before .before .before .before .before .before .args .s)), c .before .before .before .before .before .before .before .before .before .before .before .before .before .before .before .pre .out-length));
     }
 
 same-length : tie.Need-same-length
 same-length c = search needs
 
+same-length-2 : tie.Need-same-length-2
+same-length-2 c = search needs
+
 returns : tie.Need-returns
 returns c =
-    let a = c .before .before .before .before .before .before .before .before .before .before .before .before .before .before .before .before .args in
-    let shape = (shapeFor (c .before .before .before .before .before .before .before .before .before .before .before .before .before .before .before .before .args .s)) in
+    let a = c .before .before .before .before .before .before .before .before .before .before .before .before .before .before .before .before .before .before .before .before .args in
+    let shape = (shapeFor (c .before .before .before .before .before .before .before .before .before .before .before .before .before .before .before .before .before .before .before .before .args .s)) in
     λ leaves loaded.
-    framed-two (c .before .before .before .before .before .before .before .before .hash-bytes .result) (c .before .before .before .before .before .before .hash-into .last .0) (drop (c .before .before .before .before .before .before .before .before .hash-bytes .result) (now (a .out))) (c .before .before .batch-into .last .0) (ũSection bits256 shape leaves (now (a .matrix)) ∷ ṼSection bits256 shape leaves (now (a .matrix)) ∷ [])
+    framed-two (c .before .before .before .before .before .before .before .before .before .before .before .before .hash-bytes .result) (c .before .before .before .before .before .before .before .before .before .hash-into .last .0) (drop (c .before .before .before .before .before .before .before .before .before .before .before .before .hash-bytes .result) (now (a .out))) (c .before .before .before .before .batch-into .last .0) (ũSection bits256 shape leaves (now (a .matrix)) ∷ ṼSection bits256 shape leaves (now (a .matrix)) ∷ [])
     (qs0Section bits256 shape leaves (now (a .key)) (now (a .batching)) ∷ qs1Section bits256 shape leaves (now (a .key)) (now (a .witness)) (now (a .batching)) ∷ [])
-    (c .before .before .before .before .before .before .hash-into .kept .0 ∙ take-length (c .before .before .before .before .before .before .before .before .hash-bytes .result) (now (c .before .before .before .before .before .before .before .before .before .before .before .before .before .before .before .before .args .out)) (omega (arith, c .before .before .before .before .before .before .before .before .hash-bytes .ensures ∙ hash-length (shapeFor (c .before .before .before .before .before .before .before .before .before .before .before .before .before .before .before .before .args .s)), c .before .before .before .before .before .before .before .before .before .before .before .before .before .before .before .before .pre .out-length))) (c .before .before .before .before .before .before .hash-into .ensures leaves loaded) (c .before .before .batch-into .ensures leaves loaded)
+    (c .before .before .before .before .before .before .before .before .before .hash-into .kept .0 ∙ take-length (c .before .before .before .before .before .before .before .before .before .before .before .before .hash-bytes .result) (now (c .before .before .before .before .before .before .before .before .before .before .before .before .before .before .before .before .before .before .before .before .args .out)) (omega (arith, c .before .before .before .before .before .before .before .before .before .before .before .before .hash-bytes .ensures ∙ hash-length (shapeFor (c .before .before .before .before .before .before .before .before .before .before .before .before .before .before .before .before .before .before .before .before .args .s)), c .before .before .before .before .before .before .before .before .before .before .before .before .before .before .before .before .before .before .before .before .pre .out-length))) (c .before .before .before .before .before .before .before .before .before .hash-into .ensures leaves loaded) (c .before .before .before .before .batch-into .ensures leaves loaded)
 
 pub rest-into-spec : {M : Type 1} → statement M
 rest-into-spec =
@@ -86,4 +90,5 @@ rest-into-spec =
     part-batch-into-end
     batch-into-requires
     same-length
+    same-length-2
     returns)

@@ -1,22 +1,18 @@
 -- `prover::steps::add_forms` meets its contract: the sections A and b of the key are its parts.
 -- Assumes nothing.
-use mathlib.Core.Path.{_≡_, sym, ap, ap₂, _∙_}
+use mathlib.Core.Path.{_≡_, ap, ap₂, _∙_}
 use mathlib.Core.List.{List}
-use Prim.Native.Nat.{ℕ, _+_, _*_, _≤_, _<_}
+use Prim.Native.Nat.{ℕ, _*_, _≤_, _<_}
 use native.Mathlib.Nat.{mul-assoc}
-use native.Mathlib.Omega.{arith}
 use denote.Ref.{now}
-use lib.ListN.{length, take}
-use lib.Seq.{getD-take}
 use lib.Bits.{bitXor}
 use Rattle.protocol.specs.Strings.{bytesFor, bit}
 use Rattle.protocol.specs.Binary.{bits256}
 use Rattle.protocol.specs.Key.{sectionA, sectionB}
 use Rattle.strings.specs.Sums.{byteAt}
-use Rattle.lanes.specs.Lanes.{lanes, laneAt}
 use Rattle.format.specs.Sizes.{shapeFor}
 use Rattle.format.proofs.SizeLaws.{in-limits}
-use Rattle.sections.proofs.Writes.{take-length}
+use Rattle.forms_columns.specs.Stacks.{coordinateOf}
 use Rattle.forms.specs.Batch.{formsByte, middlesByte}
 use Rattle.prover.proofs.LoadedLaws.{key-form}
 use borrow.Author.Needs.{needs}
@@ -24,31 +20,27 @@ use Rattle.prover.proofs.steps.add_forms.Statement.{statement}
 use Rattle.prover.proofs.steps.add_forms.Tie as tie
 
 section-a-requires : tie.Need-section-a-requires
-section-a-requires c κs = key-form (shapeFor (c .before .before .before .before .before .before .before .before .args .s)) (now (c .before .before .before .before .before .before .before .before .args .key)) (c .before .before .before .before .before .before .before .before .pre .key-facts)
+section-a-requires c κs = key-form (shapeFor (c .before .before .before .before .before .before .before .before .before .before .args .s)) (now (c .before .before .before .before .before .before .before .before .before .before .args .key)) (c .before .before .before .before .before .before .before .before .before .before .pre .key-facts)
 
 section-b-requires : tie.Need-section-b-requires
-section-b-requires c κs = key-form (shapeFor (c .before .before .before .before .before .before .before .before .before .args .s)) (now (c .before .before .before .before .before .before .before .before .before .args .key)) (c .before .before .before .before .before .before .before .before .before .pre .key-facts)
-
-mul-batch-lanes : tie.Need-mul-batch-lanes
-mul-batch-lanes c = omega (arith, c .before .before .before .before .before .before .before .before .before .before .pre .table-room, in-limits (shapeFor (c .before .before .before .before .before .before .before .before .before .before .args .s)) (c .before .before .before .before .before .before .before .before .before .before .pre .key-facts .in-range) .n-most)
-
-slice-aggregate-batch-lanes : tie.Need-slice-aggregate-batch-lanes
-slice-aggregate-batch-lanes c = sym (take-length (c .before .before .before .before .before .before .before .before .before .before .before .args .s .n * lanes) (now (c .before .before .before .before .before .before .before .before .before .before .before .args .table)) (c .before .before .before .before .before .before .before .before .before .before .before .pre .table-room))
+section-b-requires c κs = key-form (shapeFor (c .before .before .before .before .before .before .before .before .before .before .before .args .s)) (now (c .before .before .before .before .before .before .before .before .before .before .before .args .key)) (c .before .before .before .before .before .before .before .before .before .before .before .pre .key-facts)
 
 batch-lanes-requires : tie.Need-batch-lanes-requires
 batch-lanes-requires c κs =
-    let s = shapeFor (c .before .before .before .before .before .before .before .before .before .before .before .args .s) in
-    let within = in-limits s (c .before .before .before .before .before .before .before .before .before .before .before .pre .key-facts .in-range) in (
-      c .before .before .before .before .before .before .before .before .before .before .before .pre .qs0-lanes,
-      c .before .before .before .before .before .before .before .before .before .before .before .pre .qs1-lanes,
+    let s = shapeFor (c .before .before .before .before .before .before .before .before .before .before .before .before .args .s) in
+    let within = in-limits (shapeFor (c .before .before .before .before .before .before .before .before .before .before .before .before .args .s)) (c .before .before .before .before .before .before .before .before .before .before .before .before .pre .key-facts .in-range) in (
+      c .before .before .before .before .before .before .before .before .before .before .before .before .pre .qs0-lanes,
+      c .before .before .before .before .before .before .before .before .before .before .before .before .pre .qs1-lanes,
       within .n-most,
       within .τ-most,
       within .τ-least,
-      c .before .before .section-a .ensures .1 ∙ mul-assoc (s .m) (s .n) (bytesFor (s .n)),
-      c .before .section-b .ensures .1,
-      c .before .before .before .before .before .before .before .before .before .before .before .pre .batching-length,
-      take-length (s .n * lanes) (now (c .before .before .before .before .before .before .before .before .before .before .before .args .table)) (c .before .before .before .before .before .before .before .before .before .before .before .pre .table-room),
-      c .before .before .before .before .before .before .before .before .before .before .before .pre .witness-form .witness-length,
+      c .before .section-a .ensures .1 ∙ mul-assoc (s .m) (s .n) (bytesFor (s .n)),
+      c .section-b .ensures .1,
+      c .before .before .before .before .before .before .before .before .before .before .before .before .pre .batching-length,
+      c .before .before .before .before .before .before .before .before .before .before .before .before .pre .vectors-room,
+      c .before .before .before .before .before .before .before .before .before .before .before .before .pre .vectors-end,
+      c .before .before .before .before .before .before .before .before .before .before .before .before .pre .cells-room,
+      c .before .before .before .before .before .before .before .before .before .before .before .before .pre .witness-form .witness-length,
       within .m-most,
     )
 
@@ -58,13 +50,18 @@ same-length c = search needs
 same-length-2 : tie.Need-same-length-2
 same-length-2 c = search needs
 
+same-length-3 : tie.Need-same-length-3
+same-length-3 c = search needs
+
 returns : tie.Need-returns
 returns c =
-    let a = c .before .before .before .before .before .before .before .before .before .before .before .before .before .before .before .before .args in
-    let done = c .before .before .before .before .batch-lanes in
-    let forms : now (c .before .before .before .before .before .before .before .section-a .result) ≡ sectionA bits256 (shapeFor (c .before .before .before .before .before .before .before .before .before .before .before .before .before .before .before .before .args .s)) (now (c .before .before .before .before .before .before .before .before .before .before .before .before .before .before .before .before .args .key)) = c .before .before .before .before .before .before .before .section-a .ensures .0 in
-    let linear : now (c .before .before .before .before .before .before .section-b .result) ≡ sectionB bits256 (shapeFor (c .before .before .before .before .before .before .before .before .before .before .before .before .before .before .before .before .args .s)) (now (c .before .before .before .before .before .before .before .before .before .before .before .before .before .before .before .before .args .key)) = c .before .before .before .before .before .before .section-b .ensures .0 in
-    ?
+    let a = c .before .before .before .before .before .before .before .before .before .before .before .before .before .before .before .before .before .before .before .args in
+    let done = c .before .before .before .before .before .before .batch-lanes in
+    let forms : now (c .before .before .before .before .before .before .before .before .section-a .result) ≡ sectionA bits256 (shapeFor (c .before .before .before .before .before .before .before .before .before .before .before .before .before .before .before .before .before .before .before .args .s)) (now (c .before .before .before .before .before .before .before .before .before .before .before .before .before .before .before .before .before .before .before .args .key)) = c .before .before .before .before .before .before .before .before .section-a .ensures .0 in
+    let linear : now (c .before .before .before .before .before .before .before .section-b .result) ≡ sectionB bits256 (shapeFor (c .before .before .before .before .before .before .before .before .before .before .before .before .before .before .before .before .before .before .before .args .s)) (now (c .before .before .before .before .before .before .before .before .before .before .before .before .before .before .before .before .before .before .before .args .key)) = c .before .before .before .before .before .before .before .section-b .ensures .0 in (
+      (λ e h. done .ensures .0 e h ∙ ap (λ (A : List ℕ). bitXor (byteAt (now (a .qs0)) e) (formsByte (a .s .n) (a .s .m) A (now (a .batching)) e (coordinateOf (now (a .vectors)) e))) forms),
+      (λ e h. done .ensures .1 e h ∙ ap₂ (λ (A b : List ℕ). bitXor (byteAt (now (a .qs1)) e) (middlesByte (a .s .n) (a .s .m) A b (bit (now (a .witness))) (now (a .batching)) e (coordinateOf (now (a .vectors)) e))) forms linear),
+    )
 
 pub add-forms-spec : {M : Type 1} → statement M
 add-forms-spec =
@@ -72,9 +69,8 @@ add-forms-spec =
     (tie.spec
     section-a-requires
     section-b-requires
-    mul-batch-lanes
-    slice-aggregate-batch-lanes
     batch-lanes-requires
     same-length
     same-length-2
+    same-length-3
     returns)

@@ -26,7 +26,7 @@ leaf-bytes-requires c κs = c .before .before .before .before .pre .in-range
 add-masks-requires : tie.Need-add-masks-requires
 add-masks-requires c κs =
     let s = shapeFor (c .before .before .before .before .before .before .args .s) in
-    (c .before .before .before .before .before .before .pre .qs0-lanes, in-limits s (c .before .before .before .before .before .before .pre .in-range) .τ-most, (λ e h. omega (arith, c .before .before .before .before .before .before .pre .buffers .table-room, mask-below s e h, l-fits s)))
+    (c .before .before .before .before .before .before .pre .qs0-lanes, (in-limits s (c .before .before .before .before .before .before .pre .in-range) .τ-most, (λ e h. omega (arith, c .before .before .before .before .before .before .pre .buffers .table-room, mask-below s e h, l-fits s))))
 
 row-at-requires : tie.Need-row-at-requires
 row-at-requires c κs =
@@ -37,7 +37,7 @@ add-mask-bits-requires : tie.Need-add-mask-bits-requires
 add-mask-bits-requires c κs =
     let s = shapeFor (c .before .before .before .before .before .before .before .before .before .before .before .args .s) in
     let long : length (now (c .row-at .result)) ≡ wOf bits256 s = c .row-at .ensures .1 ∙ c .before .before .before .before .before .before .leaf-bytes .ensures in
-    (c .before .before .before .before .before .before .before .before .before .before .before .pre .qs1-lanes, in-limits s (c .before .before .before .before .before .before .before .before .before .before .before .pre .in-range) .τ-most, (λ e h. (omega (arith, long, mask-below s e h, l-fits s), omega (arith, mask-below s e h, k-most s (c .before .before .before .before .before .before .before .before .before .before .before .pre .in-range)))))
+    (c .before .before .before .before .before .before .before .before .before .before .before .pre .qs1-lanes, (in-limits s (c .before .before .before .before .before .before .before .before .before .before .before .pre .in-range) .τ-most, (λ e h. (omega (arith, long, mask-below s e h, l-fits s), omega (arith, mask-below s e h, k-most s (c .before .before .before .before .before .before .before .before .before .before .before .pre .in-range))))))
 
 same-length : tie.Need-same-length
 same-length c = search needs
