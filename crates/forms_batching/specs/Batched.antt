@@ -12,6 +12,8 @@
 --   WeighedAll S χ m sums W G τ == Weighed for each of τ repetitions
 --   VectorsFit τ vs == vs has τ vectors (forms_columns' Stacks);  VectorsAre n τ T vs == their first n coordinates are
 --     those of the table T, and the others 0
+--   SixteenTurned τ c T vs == the coordinates of the c-th sixteen are those of T;  BesideSixteen c old new == the others
+--     are as they were
 --   CellsRoom cells == as long as the longest piece of a set of panels
 --   SumsRoom sums == as long as the longest table of sums
 --   rowTimes vs e first S χ m h f z == weighedBit at byte f of half h, times coordinate first + f of vector e of vs
@@ -29,7 +31,7 @@
 use mathlib.Core.Path.{_≡_}
 use mathlib.Core.Bool.{Bool, false}
 use mathlib.Core.List.{List}
-use Prim.Native.Nat.{ℕ, _+_, _*_, _≤_, _<_}
+use Prim.Native.Nat.{ℕ, _+_, _*_, _/_, _≤_, _<_}
 use lib.Bits.{bitXor}
 use lib.ListN.{length}
 use Rattle.protocol.specs.Lists.{blockAt}
@@ -71,6 +73,12 @@ VectorsFit τ vs = τ * mostVariables ≤ length vs
 
 abbrev pub VectorsAre : ℕ → ℕ → List ℕ → List ℕ → Type 0
 VectorsAre n τ T vs = (e c : ℕ) → e < τ → c < mostVariables → coordinateOf vs e c ≡ upTo n (λ k. laneAt T k e) c
+
+abbrev pub SixteenTurned : ℕ → ℕ → List ℕ → List ℕ → Type 0
+SixteenTurned τ c T vs = (e j : ℕ) → e < τ → j < 16 → coordinateOf vs e (c * 16 + j) ≡ laneAt T (c * 16 + j) e
+
+abbrev pub BesideSixteen : ℕ → List ℕ → List ℕ → Type 0
+BesideSixteen c old new = (e k : ℕ) → k < mostVariables → (k / 16 ≡ c → ⊥) → coordinateOf new e k ≡ coordinateOf old e k
 
 abbrev pub CellsRoom : List ℕ → Type 0
 CellsRoom cells = cellSixteens * (mostBlock * chunk) ≤ length cells

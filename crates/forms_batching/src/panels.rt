@@ -1,6 +1,5 @@
 // Forms of the batched matrix: set after set of four panels, piece after piece of its rows, panel after panel.
 ghost use mathlib.Core.Path.{_≡_};
-ghost use mathlib.Core.List.{List};
 ghost use Prim.Native.Nat.{ℕ, _+_, _*_, _-_, _<_, _≤_};
 ghost use lib.ListN.{length};
 ghost use lib.Bits.{bitXor};
