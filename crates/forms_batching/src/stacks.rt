@@ -205,8 +205,8 @@ fn absorb_lanes(
     }
 }
 
-// Adds to the stacks `rows` sixteens of rows of a panel of the batched matrix, from the sixteen `top` on, each row times
-// its coordinate of the vectors. The cells hold these rows. The batching bytes are public, and so are the tables that
+// Adds to the stacks `rows` sixteens of rows of a panel of the batched matrix, from the sixteen `top` on, each row
+// times its coordinate of the vectors. The cells hold these rows. The batching bytes are public, and so are the tables that
 // they index; `sums` is space for these.
 pub fn collect(
     stacks: &mut [u8],

@@ -1,5 +1,5 @@
--- `forms_batching::stacks::turn_sixteens` meets its contract. The invariant: the coordinates of the first c sixteens are
--- there.
+-- `forms_batching::stacks::turn_sixteens` meets its contract. The invariant: the coordinates of the first c sixteens
+-- are there.
 -- Assumes nothing.
 use borrow.Author.Needs.{needs}
 use Prim.Native.Nat.{ℕ, _*_, _-_, _≤_, _<_}
