@@ -1,6 +1,5 @@
 -- Laws of the fields by their degree: what holds of both.
 -- Assumes nothing.
-use mathlib.Core.Path.{_≡_, refl}
 use mathlib.Core.Bool.{Bool, true, false, cond}
 use Prim.Native.Nat.{ℕ, _≤_}
 use lib.Dec.{eqb, lit≤}
@@ -17,14 +16,6 @@ each-field P small large d = go (eqb d (gf16 .degree))
     go : (b : Bool) → P (cond b gf16 gf256)
     go true = small
     go false = large
-
-pub field-is : fieldOf degree ≡ gf256
-unfolding fieldOf
-field-is = refl
-
-pub degree-is : degreeOf degree ≡ degree
-unfolding degreeOf fieldOf
-degree-is = refl
 
 -- at least two bits, and at most those of a byte
 pub degree-least : (d : ℕ) → 2 ≤ degreeOf d

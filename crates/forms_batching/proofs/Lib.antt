@@ -5,3 +5,4 @@ pub mod PanelLaws
 pub mod LineLaws
 pub mod LeftLaws
 pub mod PieceLaws
+pub mod VectorLaws

@@ -2,17 +2,15 @@
 -- Assumes nothing.
 use mathlib.Core.Path.{_≡_, sym, ap, _∙_}
 use mathlib.Core.List.{List}
-use Prim.Native.Nat.{ℕ, zero, suc, _+_, _*_, _≤_, _<_}
+use Prim.Native.Nat.{ℕ, zero, suc, _+_, _*_, _<_}
 use native.Mathlib.Nat.{zero-mul, one-mul, mul-comm, mul-assoc}
 use native.Mathlib.Omega.{arith}
 use lib.Dec.{lit<}
-use lib.ListN.{length, List·getD-eq-default}
 use Rattle.field.specs.Degrees.{fieldOf, degreeOf, degree}
 use Rattle.strings.specs.Sums.{byteAt, bitOf, xorSum}
 use Rattle.strings.proofs.SumLaws.{sum-same, sum-none}
 use Rattle.strings.proofs.Meaning.{bitOf-lt, bitOf-zero}
 use Rattle.strings.proofs.ProductLaws.{bit-times-lt}
-use Rattle.lanes.specs.Lanes.{lanes, laneAt}
 use Rattle.chunks.specs.Chunks.{chunk}
 use Rattle.chunks.proofs.BitSumLaws.{sum-swap, times-sum, bit-sum}
 use Rattle.forms_columns.specs.Stacks.{alpha, byteProduct, planes, stackAt, stackOf}
@@ -51,9 +49,3 @@ stack-same T T′ e f z h same = sum-same planes _ _ (λ s l. ap (λ x. bitOf x 
 pub stack-none : (T : List ℕ) (e f z : ℕ) → f < chunk → ((b : ℕ) → b < planes * chunk → byteAt T (e * (planes * chunk) + b) ≡ 0) → stackOf degree T e f z ≡ 0
 stack-none T e f z h none =
     sum-same planes _ (λ s. 0) (λ s l. ap (λ x. x * alpha degree s) (ap (λ x. bitOf x z) (none (s * chunk + f) (omega arith)) ∙ bitOf-zero z) ∙ zero-mul (alpha degree s)) ∙ sum-none planes
-
--- a table has no coordinates from n on
-pub lane-past : (T : List ℕ) (n c e : ℕ) → length T ≡ n * lanes → n ≤ c → laneAt T c e ≡ 0
-lane-past T n c e long h =
-    let past : length T ≤ c * lanes + e = omega arith in
-    List·getD-eq-default T 0 past

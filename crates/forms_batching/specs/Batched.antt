@@ -12,13 +12,15 @@
 --   WeighedAll S χ m sums W G τ == Weighed for each of τ repetitions
 --   VectorsFit τ vs == vs has τ vectors (forms_columns' Stacks);  VectorsAre n τ T vs == their first n coordinates are
 --     those of the table T, and the others 0
+--   SixteenTurned τ c T vs == the coordinates of the c-th sixteen are those of T;  BesideSixteen c old new == the
+--     others are as they were
 --   CellsRoom cells == as long as the longest piece of a set of panels
 --   SumsRoom sums == as long as the longest table of sums
 --   rowTimes vs e first S χ m h f z == weighedBit at byte f of half h, times coordinate first + f of vector e of vs
 --   CollectFits m τ G top rows stacks sums cells W vs == these have the lengths of so many sixteens of rows, from the
 --     sixteen `top` on, of m matrices, and of τ repetitions
---   Collected τ top rows m W cells vs old new == to the values of each stack the cells of these rows are added, batched,
---     each row times its coordinate
+--   Collected τ top rows m W cells vs old new == to the values of each stack the cells of these rows are added,
+--     batched, each row times its coordinate
 --   PartStacked τ top rows m W cells vs stacks == the stacks have the columns of a panel of the batched matrix, folded,
 --     times these coordinates of the vectors from the left, whichever panel the cells hold
 --   polarSum n w m A χ e x y == formSum at x and y, and at y and x
@@ -29,7 +31,7 @@
 use mathlib.Core.Path.{_≡_}
 use mathlib.Core.Bool.{Bool, false}
 use mathlib.Core.List.{List}
-use Prim.Native.Nat.{ℕ, _+_, _*_, _≤_, _<_}
+use Prim.Native.Nat.{ℕ, _+_, _*_, _/_, _≤_, _<_}
 use lib.Bits.{bitXor}
 use lib.ListN.{length}
 use Rattle.protocol.specs.Lists.{blockAt}
@@ -72,6 +74,12 @@ VectorsFit τ vs = τ * mostVariables ≤ length vs
 abbrev pub VectorsAre : ℕ → ℕ → List ℕ → List ℕ → Type 0
 VectorsAre n τ T vs = (e c : ℕ) → e < τ → c < mostVariables → coordinateOf vs e c ≡ upTo n (λ k. laneAt T k e) c
 
+abbrev pub SixteenTurned : ℕ → ℕ → List ℕ → List ℕ → Type 0
+SixteenTurned τ c T vs = (e j : ℕ) → e < τ → j < 16 → coordinateOf vs e (c * 16 + j) ≡ laneAt T (c * 16 + j) e
+
+abbrev pub BesideSixteen : ℕ → List ℕ → List ℕ → Type 0
+BesideSixteen c old new = (e k : ℕ) → k < mostVariables → (k / 16 ≡ c → ⊥) → coordinateOf new e k ≡ coordinateOf old e k
+
 abbrev pub CellsRoom : List ℕ → Type 0
 CellsRoom cells = cellSixteens * (mostBlock * chunk) ≤ length cells
 
@@ -94,8 +102,8 @@ Collected τ top rows m W cells vs old new =
 
 abbrev pub PartStacked : ℕ → ℕ → ℕ → ℕ → List ℕ → List ℕ → List ℕ → List ℕ → Type 0
 PartStacked τ top rows m W cells vs stacks =
-    (A : List ℕ) (χ : ℕ → ℕ → ℕ) (n w J count e s : ℕ) → Folded n w m A top J count cells → rows ≤ count → rows ≤ J + 1 → IsBytes χ → ChosenAll χ m τ W → VectorsEnd n τ vs
-    → e < τ → s < 16 → (top + J) * 16 + s < n → columnOf degree stacks e s ≡ rowsSum w (n * w) m A χ e (coordinateOf vs e) top rows ((top + J) * 16 + s)
+    (A : List ℕ) (χ : ℕ → ℕ → ℕ) (n w J count e s : ℕ) → Folded n w m A top J count cells → rows ≤ count → rows ≤ J + 1
+    → IsBytes χ → ChosenAll χ m τ W → VectorsEnd n τ vs → e < τ → s < 16 → (top + J) * 16 + s < n → columnOf degree stacks e s ≡ rowsSum w (n * w) m A χ e (coordinateOf vs e) top rows ((top + J) * 16 + s)
 
 abbrev pub polarSum : ℕ → ℕ → ℕ → List ℕ → (ℕ → ℕ → ℕ) → ℕ → (ℕ → ℕ) → (ℕ → ℕ) → ℕ
 polarSum n w m A χ e x y = bitXor (formSum n w m A χ e y x) (formSum n w m A χ e x y)

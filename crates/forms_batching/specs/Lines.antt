@@ -7,7 +7,7 @@
 --   lineByte L m i k == byte k of line i of m: it stands in chunk i of table ⌊k/chunk⌋
 --   lineBit L m i c == coefficient c of line i: bit c mod 8 of its byte ⌊c/8⌋
 --   PartCells m rows cells == the cells have so many sixteens of rows, of m matrices
---   maskByte == the mask of a bit that is set;  MasksOf x bits == the bytes of bits are the masks of the bits x
+--   MasksOf x bits == the bytes of bits are the masks of the bits x
 --   leftByte cells m bits i top rows k == byte k of the sum of chunk i of each of so many sixteens of rows, each row
 --     under its mask, a byte of bits: the first row's is byte 16·top
 --   leftBit cells m x i top rows h z == Σ_ρ x(16·top + ρ)·b_ρ over these rows ρ, b_ρ bit z of row ρ of byte column h of
@@ -36,7 +36,7 @@ use Rattle.field.specs.Degrees.{degree}
 use Rattle.strings.specs.Sums.{byteAt, bitOf, xorSum}
 use Rattle.chunks.specs.Chunks.{chunk, cellAt}
 use Rattle.forms_folds.specs.Folds.{foldedBit}
-use Rattle.forms_columns.specs.Stacks.{byteProduct}
+use Rattle.forms_columns.specs.Stacks.{byteProduct, maskByte}
 
 abbrev pub chunkBits : ℕ
 chunkBits = 8 * chunk
@@ -55,9 +55,6 @@ lineBit L m i c = bitOf (lineByte L m i (c / 8)) (c % 8)
 
 abbrev pub PartCells : ℕ → ℕ → List ℕ → Type 0
 PartCells m rows cells = rows * (m * chunk) ≤ length cells
-
-abbrev pub maskByte : ℕ
-maskByte = 255
 
 abbrev pub MasksOf : (ℕ → ℕ) → List ℕ → Type 0
 MasksOf x bits = (c : ℕ) → c < mostVariables → byteAt bits c ≡ x c * maskByte

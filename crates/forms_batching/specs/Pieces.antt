@@ -12,7 +12,7 @@
 -- Assumes nothing.
 use mathlib.Core.Path.{_≡_}
 use mathlib.Core.Bool.{cond}
-use Prim.Native.Nat.{ℕ, _+_, _*_, _-_, _/_, _%_, _≤_, _<_}
+use Prim.Native.Nat.{ℕ, _+_, _-_, _/_, _%_, _≤_, _<_}
 use lib.Dec.{ltb, leb, eqb}
 use Rattle.forms_folds.specs.Folds.{pieceSixteens}
 use Rattle.forms_folds.specs.declared.Piece.{Piece}

@@ -1,6 +1,5 @@
 // Forms of the batched matrix: set after set of four panels, piece after piece of its rows, panel after panel.
 ghost use mathlib.Core.Path.{_≡_};
-ghost use mathlib.Core.List.{List};
 ghost use Prim.Native.Nat.{ℕ, _+_, _*_, _-_, _<_, _≤_};
 ghost use lib.ListN.{length};
 ghost use lib.Bits.{bitXor};
@@ -8,17 +7,18 @@ ghost use Rattle.protocol.specs.Shape.{mostVariables};
 ghost use Rattle.strings.specs.Sums.{byteAt};
 ghost use Rattle.chunks.specs.Chunks.{mostBlock};
 ghost use Rattle.forms_choices.specs.Entries.{IsBytes, ChosenAll};
-ghost use Rattle.forms_columns.specs.Stacks.{coordinateOf};
+ghost use Rattle.forms_columns.specs.Stacks.{coordinateOf, maskByte};
 ghost use Rattle.forms_folds.specs.Folds.{FoldedSet};
 ghost use Rattle.forms_folds.specs.Sets.{CellsFit, PieceOf, RoomFits};
 ghost use Rattle.forms_batching.specs.Batched.{formSum, CollectFits, PartStacked, polarSum, BatchFits};
-ghost use Rattle.forms_batching.specs.Lines.{maskByte, lineForm, LinesAdded};
+ghost use Rattle.forms_batching.specs.Lines.{lineForm, LinesAdded};
 ghost use Rattle.forms_batching.specs.Pieces.{rowsOf, PieceAt, NextPlace};
 use super::lines::Part;
 use chunks::CHUNK;
 use chunks::MOST_BLOCK;
 use format::sizes::MOST_VARIABLES;
 use forms_choices::sums::ENTRIES;
+use forms_columns::MASK_BYTE;
 use forms_columns::STACK;
 use forms_folds::CELL_SIXTEENS;
 use forms_folds::PANELS;
@@ -38,9 +38,6 @@ const SUMS: usize = MOST_BLOCK / 5 * ENTRIES * CHUNK;
 // So many sixteens of rows do the cells hold of each of four panels that lie below them.
 const SHORT_PIECE: usize = 6;
 
-// The mask of a bit that is set.
-const MASK: u8 = 255;
-
 // The bits of a witness, each as a mask.
 fn widen(bits: &mut [u8], xs: &[u8])
     requires { ⌜ (length (now bits) ≤ length (now xs)) × ((c : ℕ) → byteAt (now xs) c < 2) ⌝ }
@@ -48,7 +45,7 @@ fn widen(bits: &mut [u8], xs: &[u8])
 {
     let mut c = 0;
     while c < bits.len() {
-        bits[c] = xs[c] * MASK;
+        bits[c] = xs[c] * MASK_BYTE;
         c += 1;
     }
 }
@@ -172,9 +169,9 @@ fn stack_part(
     super::stacks::collect(stacks, sums, cells, words, vectors, top, rows, s);
 }
 
-// Adds to quad the form of the batched matrix at the vectors; and to mid its polar form at them and the bits xs, and the
-// batched lines at the vectors. Half of the polar form, that which has the vectors on the right, is a linear form of
-// each equation, and is added to its line. Where `polar` is not asked for the bits are 0, and so is the polar form.
+// Adds to quad the form of the batched matrix at the vectors; and to mid its polar form at them and the bits xs, and
+// the batched lines at the vectors. Half of the polar form, that which has the vectors on the right, is a linear form
+// of each equation, and is added to its line. Where `polar` is not asked for the bits are 0, and so is the polar form.
 // `cells` is space.
 pub fn add_forms(
     quad: &mut [u8],

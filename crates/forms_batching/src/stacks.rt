@@ -12,8 +12,8 @@ ghost use Rattle.strings.specs.Rows.{RowsKept};
 ghost use Rattle.lanes.specs.Lanes.{lanes, laneAt};
 ghost use Rattle.chunks.specs.Chunks.{chunk, Masks};
 ghost use Rattle.forms_choices.specs.Entries.{byteValues, mostSums, upTo, InWords, WordsFit, Weighed};
-ghost use Rattle.forms_columns.specs.Stacks.{byteProduct, planes, stackAt, stackOf, coordinateOf, StacksFit};
-ghost use Rattle.forms_batching.specs.Batched.{weighedBit, WeighedAll, VectorsFit, VectorsAre, rowTimes, CollectFits, Collected};
+ghost use Rattle.forms_columns.specs.Stacks.{byteProduct, planes, stackAt, stackOf, coordinateOf, VectorsRoom, StacksFit};
+ghost use Rattle.forms_batching.specs.Batched.{weighedBit, WeighedAll, VectorsFit, VectorsAre, SixteenTurned, BesideSixteen, rowTimes, CollectFits, Collected};
 ghost use Rattle.forms_batching.specs.Lines.{VectorsEnd};
 use super::panels::Batch;
 use chunks::CHUNK;
@@ -22,11 +22,49 @@ use chunks::cells::copy_part;
 use field::Gf256;
 use format::sizes::MOST_VARIABLES;
 use forms_columns::STACK;
+use forms_columns::fronts::turn_block;
 use lanes::LANES;
+use strings::BITS;
 use strings::SIXTEEN;
 
 // A mask for each bit of an element, each a chunk.
 const MASKS: usize = Gf256::DEGREE * CHUNK;
+
+// The sixteens of coordinates of a vector.
+const VECTOR_SIXTEENS: usize = MOST_VARIABLES / SIXTEEN;
+
+// Sixteen coordinates, from 16·c on, of the first tau repetitions: eight repetitions at a time, turned.
+fn turn_sixteen(vectors: &mut [u8], tau: usize, table: &[u8], c: usize)
+    requires { ⌜ VectorsRoom (now vectors) × (tau ≤ lanes) × ((c * 16 + 16) * lanes ≤ length (now table)) × (c * 16 + 16 ≤ mostVariables) ⌝ }
+    ensures { λ _. ⌜ SixteenTurned tau c (now (table .entry)) (now (vectors .exit)) ⌝ }
+    ensures { λ _. ⌜ BesideSixteen c (now (vectors .entry)) (now (vectors .exit)) ⌝ }
+{
+    let mut b = 0;
+    while b * BITS < tau {
+        let from = c * SIXTEEN * LANES + b * BITS;
+        turn_block(
+            vectors,
+            b * BITS * VECTOR_SIXTEENS + c,
+            VECTOR_SIXTEENS,
+            table,
+            from,
+            LANES,
+        );
+        b += 1;
+    }
+}
+
+// The same for the first `count` sixteens of coordinates.
+fn turn_sixteens(vectors: &mut [u8], tau: usize, table: &[u8], count: usize)
+    requires { ⌜ VectorsRoom (now vectors) × (tau ≤ lanes) × (count * 16 * lanes ≤ length (now table)) × (count * 16 ≤ mostVariables) ⌝ }
+    ensures { λ _. ⌜ ((e k : ℕ) → e < tau → k < count * 16 → coordinateOf (now (vectors .exit)) e k ≡ laneAt (now (table .entry)) k e) ⌝ }
+{
+    let mut c = 0;
+    while c < count {
+        turn_sixteen(vectors, tau, table, c);
+        c += 1;
+    }
+}
 
 // Coordinate c of the vector of repetition e, 0 from n on.
 fn lane_byte(table: &[u8], c: usize, n: usize, e: usize) -> u8
@@ -36,37 +74,56 @@ fn lane_byte(table: &[u8], c: usize, n: usize, e: usize) -> u8
     if c < n { table[c * LANES + e] } else { 0 }
 }
 
-fn fill_vector(v: &mut [u8], table: &[u8], n: usize, e: usize)
-    requires { ⌜ (n * lanes ≤ length (now table)) × (e < lanes) ⌝ }
-    ensures { λ _. ⌜ ((c : ℕ) → c < length (now (v .entry)) → byteAt (now (v .exit)) c ≡ upTo n (λ k. laneAt (now (table .entry)) k e) c) ⌝ }
+// The coordinates from `from` on.
+fn fill_vector(v: &mut [u8], from: usize, table: &[u8], n: usize, e: usize)
+    requires { ⌜ (n * lanes ≤ length (now table)) × (e < lanes) × (from ≤ mostVariables) ⌝ }
+    ensures { λ _. ⌜ ((c : ℕ) → c < length (now (v .entry)) → byteAt (now (v .exit)) c ≡ upTo n (λ k. laneAt (now (table .entry)) k e) (from + c)) ⌝ }
 {
     let mut c = 0;
     while c < v.len() {
-        v[c] = lane_byte(table, c, n, e);
+        v[c] = lane_byte(table, from + c, n, e);
         c += 1;
     }
 }
 
-fn put_vector(vectors: &mut [u8], e: usize, table: &[u8], n: usize)
-    requires { ⌜ (n * lanes ≤ length (now table)) × (e < lanes) × (e * mostVariables + mostVariables ≤ length (now vectors)) ⌝ }
-    ensures { λ _. ⌜ ((c : ℕ) → c < mostVariables → coordinateOf (now (vectors .exit)) e c ≡ upTo n (λ k. laneAt (now (table .entry)) k e) c) ⌝ }
-    ensures { λ _. ⌜ RowsKept mostVariables e (now (vectors .entry)) (now (vectors .exit)) ⌝ }
+fn put_vector(vectors: &mut [u8], e: usize, from: usize, table: &[u8], n: usize)
+    requires { ⌜ (n * lanes ≤ length (now table)) × (e < lanes) × (from ≤ mostVariables) × VectorsRoom (now vectors) ⌝ }
+    ensures { λ _. ⌜ ((c : ℕ) → from ≤ c → c < mostVariables → coordinateOf (now (vectors .exit)) e c ≡ upTo n (λ k. laneAt (now (table .entry)) k e) c) ⌝ }
+    ensures { λ _. ⌜ ((f c : ℕ) → c < mostVariables → (f ≡ e → from ≤ c → ⊥) → coordinateOf (now (vectors .exit)) f c ≡ coordinateOf (now (vectors .entry)) f c) ⌝ }
 {
     let at = e * MOST_VARIABLES;
-    fill_vector(&mut vectors[at..at + MOST_VARIABLES], table, n, e);
+    fill_vector(
+        &mut vectors[at + from..at + MOST_VARIABLES],
+        from,
+        table,
+        n,
+        e,
+    );
 }
 
-// The vectors one after the other: the coordinates of a repetition stand together, 0 from n on.
-pub fn fill_vectors(vectors: &mut [u8], tau: usize, table: &[u8], n: usize)
-    requires { ⌜ (n * lanes ≤ length (now table)) × (n ≤ mostVariables) × (tau ≤ lanes) × VectorsFit tau (now vectors) ⌝ }
-    ensures { λ _. ⌜ VectorsAre n tau (now (table .entry)) (now (vectors .exit)) ⌝ }
-    ensures { λ _. ⌜ VectorsEnd n tau (now (vectors .exit)) ⌝ }
+// The coordinates from `from` on, of the first tau repetitions.
+fn fill_rest(vectors: &mut [u8], tau: usize, from: usize, table: &[u8], n: usize)
+    requires { ⌜ (n * lanes ≤ length (now table)) × (tau ≤ lanes) × (from ≤ mostVariables) × VectorsRoom (now vectors) ⌝ }
+    ensures { λ _. ⌜ ((e c : ℕ) → e < tau → from ≤ c → c < mostVariables → coordinateOf (now (vectors .exit)) e c ≡ upTo n (λ k. laneAt (now (table .entry)) k e) c) ⌝ }
+    ensures { λ _. ⌜ ((e c : ℕ) → c < from → coordinateOf (now (vectors .exit)) e c ≡ coordinateOf (now (vectors .entry)) e c) ⌝ }
 {
     let mut e = 0;
     while e < tau {
-        put_vector(vectors, e, table, n);
+        put_vector(vectors, e, from, table, n);
         e += 1;
     }
+}
+
+// The vectors one after the other: the coordinates of a repetition stand together, 0 from n on. Whole sixteens of
+// coordinates are turned; the others are taken one by one.
+pub fn fill_vectors(vectors: &mut [u8], tau: usize, table: &[u8], n: usize)
+    requires { ⌜ (n * lanes ≤ length (now table)) × (n ≤ mostVariables) × (tau ≤ lanes) × VectorsRoom (now vectors) ⌝ }
+    ensures { λ _. ⌜ VectorsAre n tau (now (table .entry)) (now (vectors .exit)) ⌝ }
+    ensures { λ _. ⌜ VectorsEnd n tau (now (vectors .exit)) ⌝ }
+{
+    let count = n / SIXTEEN;
+    turn_sixteens(vectors, tau, table, count);
+    fill_rest(vectors, tau, count * SIXTEEN, table, n);
 }
 
 // Both halves of a chunk become sixteen bytes of src, from `from` on.
@@ -148,8 +205,8 @@ fn absorb_lanes(
     }
 }
 
-// Adds to the stacks `rows` sixteens of rows of a panel of the batched matrix, from the sixteen `top` on, each row times
-// its coordinate of the vectors. The cells hold these rows. The batching bytes are public, and so are the tables that
+// Adds to the stacks `rows` sixteens of rows of a panel of the batched matrix, from the sixteen `top` on, each row
+// times its coordinate of the vectors. The cells hold these rows. The batching bytes are public, and so are the tables that
 // they index; `sums` is space for these.
 pub fn collect(
     stacks: &mut [u8],

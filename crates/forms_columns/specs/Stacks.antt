@@ -23,6 +23,7 @@
 --   StacksFit tau T == T has a stack for each repetition below tau
 --   ColumnsFit, PanelFits == these have the lengths of lanes, of sixteen coordinates and of bits, and the
 --     columns are among the bits
+--   maskByte == the mask of a bit that is set
 --   MasksAt v f masks == the masks have at byte f those of the bits of v
 -- Assumes nothing.
 use mathlib.Core.Path.{_≡_}
@@ -101,5 +102,8 @@ PanelFits quad mid stacks panel tau vectors xs =
     (length quad ≡ lanes) × (length mid ≡ lanes) × (tau ≤ lanes) × StacksFit tau stacks × VectorsRoom vectors
     × (panel * 16 + 16 ≤ mostVariables) × (mostVariables ≤ length xs) × IsBits xs
 
+abbrev pub maskByte : ℕ
+maskByte = 255
+
 abbrev pub MasksAt : ℕ → ℕ → List ℕ → Type 0
-MasksAt v f masks = (b : ℕ) → b < 8 → byteAt masks (b * chunk + f) ≡ bitOf v b * 255
+MasksAt v f masks = (b : ℕ) → b < 8 → byteAt masks (b * chunk + f) ≡ bitOf v b * maskByte

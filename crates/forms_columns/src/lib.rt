@@ -25,6 +25,12 @@ pub const PLANES: usize = 2 * Gf256::DEGREE - 1;
 // The bytes of a stack.
 pub const STACK: usize = PLANES * CHUNK;
 
+// The values of a byte.
+const BYTE_VALUES: u64 = 256;
+
+// The mask of a bit that is set.
+pub const MASK_BYTE: u8 = 255;
+
 // A byte of each plane of a stack, for all repetitions.
 const GATHERED: usize = PLANES * LANES;
 
@@ -39,7 +45,7 @@ pub fn sum_at(s: &[u8], at: usize) -> u8
     let all = word_at(s, at) ^ word_at(s, at + 8);
     let half = all ^ (all >> 32);
     let quarter = half ^ (half >> 16);
-    ((quarter ^ (quarter >> 8)) % 256) as u8
+    ((quarter ^ (quarter >> 8)) % BYTE_VALUES) as u8
 }
 
 // out[e] = the sum of sixteen bytes from `at` on in stack e.
@@ -82,7 +88,7 @@ fn add_weighted(u: &mut [u8], row: &[u8], z: usize, weight: u8)
 {
     let mut e = 0;
     while e < LANES {
-        u[e] ^= weight & ((row[e] >> z) % 2 * 255);
+        u[e] ^= weight & ((row[e] >> z) % 2 * MASK_BYTE);
         e += 1;
     }
 }

@@ -11,20 +11,19 @@ use native.Mathlib.Omega.{arith}
 use denote.Ref.{now}
 use lib.ListN.{length}
 use lib.Bits.{bitXor, xor-zero-r}
-use Rattle.protocol.specs.Shape.{mostVariables}
 use Rattle.field.specs.Degrees.{degree}
 use Rattle.strings.specs.Sums.{byteAt, xorSum}
 use Rattle.lanes.specs.Lanes.{lanes}
 use Rattle.chunks.specs.Chunks.{chunk}
 use Rattle.forms_choices.specs.Entries.{IsBytes, ChosenAll}
-use Rattle.forms_folds.specs.Folds.{height, Folded, FoldedSet}
+use Rattle.forms_folds.specs.Folds.{Folded, FoldedSet}
 use Rattle.forms_columns.specs.Stacks.{byteProduct, planes, columnOf, coordinateOf}
 use Rattle.forms_batching.specs.Batched.{SumsRoom, rowsSum, leftSum}
-use Rattle.forms_batching.specs.Lines.{MasksOf, lineBit, lineSum}
-use Rattle.forms_batching.specs.Pieces.{panelsOf, endOf, rowsOf, pieceEnd, PieceAt, Walk, Walked}
+use Rattle.forms_batching.specs.Lines.{lineBit, lineSum}
+use Rattle.forms_batching.specs.Pieces.{panelsOf, endOf, rowsOf, pieceEnd, Walk, Walked}
 use Rattle.forms_batching.proofs.FoldLaws.{form-is, polar-is}
 use Rattle.forms_batching.proofs.PanelLaws.{partTerm, quad-is, mid-is, term-parts, terms-none, terms-all}
-use Rattle.forms_batching.proofs.LeftLaws.{Added, AddedUpTo, PartFolded, left-none, added-start, added-end, lines-added, both-halves}
+use Rattle.forms_batching.proofs.LeftLaws.{Added, AddedUpTo, left-none, added-start, added-end, lines-added, both-halves}
 use Rattle.forms_batching.proofs.PieceLaws.{piece-of, rows-height, walkMeasure, end-bounds, end-under, walk-start, walk-end, back-walked, walked-here, sum-walked, next-walked, next-walk, next-inside, next-less, next-held, part-folded, lines-walked}
 use Rattle.forms_batching.proofs.panels.add_forms.Statement.{statement}
 use Rattle.forms_batching.proofs.panels.add_forms.Tie as tie

@@ -1,13 +1,10 @@
 -- `forms_batching::stacks::lane_byte` meets its contract.
 -- Assumes nothing.
 use borrow.Author.Needs.{needs}
-use Prim.Native.Nat.{_+_, _*_, _≤_}
 use mathlib.Core.Path.{sym}
 use denote.Ref.{now}
-use lib.ListN.{length, List·getD-eq-default}
 use native.Mathlib.Omega.{arith}
-use Rattle.lanes.specs.Lanes.{lanes, laneAt}
-use Rattle.forms_choices.specs.Entries.{upTo}
+use Rattle.lanes.specs.Lanes.{laneAt}
 use Rattle.forms_choices.proofs.ChoiceLaws.{up-to-first, up-to-past}
 use Rattle.forms_batching.proofs.stacks.lane_byte.Statement.{statement}
 use Rattle.forms_batching.proofs.stacks.lane_byte.Tie as tie
