@@ -46,6 +46,7 @@ esac
 step "why each edit was refused" sh tests/edits.sh
 step "line counts of the audit guide" sh tests/counts.sh
 step "the forms that 01 names" sh tests/forms.sh
+step "literals of the kernels" sh tests/literals.sh
 step "what the scripts share" sh tests/scripts.sh
 # What needs no library, so that it can run while that is built. rt has built the check program.
 aside "$besides" sh -c '

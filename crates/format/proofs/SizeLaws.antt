@@ -3,10 +3,13 @@
 use mathlib.Core.Path.{_≡_}
 use mathlib.Core.Bool.{Bool, true}
 use mathlib.Core.List.{List, [], _∷_}
-use Prim.Native.Nat.{ℕ, _+_, _*_, _-_, _≤_, _<_}
+use Prim.Native.Nat.{ℕ, _+_, _*_, _-_, _/_, _≤_}
 use native.Mathlib.Nat.{mul-le-mul}
 use native.Mathlib.Omega.{arith}
 use lib.Dec.{leb}
+use Rattle.algebra.specs.Field.{Field}
+use Rattle.algebra.specs.Coded.{Coded}
+use Rattle.field.specs.Gf256.{gf256}
 use Rattle.algebra.proofs.CountLaws.{and-left, and-right}
 use Rattle.protocol.specs.Strings.{bytesFor}
 use Rattle.protocol.specs.Binary.{bits256}
@@ -14,6 +17,7 @@ use Rattle.protocol.specs.Frames.{framedLength}
 use Rattle.protocol.specs.Key.{keyLengths}
 use Rattle.protocol.specs.Sections.{lengths, commitLengths, hashLengths, batchLengths}
 use Rattle.protocol.specs.Shape.{Shape, within, mostVariables, mostEquations, mostRepetitions, mostHashRows, limits, kOf, lOf, wOf}
+use Rattle.format.specs.Limits.{mostHashed, mostLeaf, mostRow}
 use Rattle.protocol.proofs.TestLaws.{leb-le, all-true}
 use Rattle.protocol.proofs.LimitLaws.{within-le}
 
@@ -46,28 +50,32 @@ in-limits s h =
       t-most = within-le mostHashRows (s .t) (a .1 .1 .1 .0);
     }
 
-pub bytes-most : (bits : ℕ) → bits ≤ 168 → bytesFor bits ≤ 21
+-- the bytes of at most so many bits
+pub bytes-up-to : (most bits : ℕ) → bits ≤ most → bytesFor bits ≤ (most + 7) / 8
 unfolding bytesFor
-bytes-most bits h = omega arith
+bytes-up-to most bits h = omega arith
+
+pub bytes-most : (bits : ℕ) → bits ≤ mostHashed → bytesFor bits ≤ mostRow
+bytes-most = bytes-up-to mostHashed
 
 module _ (s : Shape) (h : limits s ≡ true) where
-  pub k-most : kOf bits256 s ≤ 168
+  pub k-most : kOf bits256 s ≤ mostHashed
   unfolding kOf
   k-most = let b = in-limits s h in omega arith
 
-  pub l-most : lOf bits256 s ≤ 328
+  pub l-most : lOf bits256 s ≤ mostHashed + mostHashRows
   unfolding lOf
   l-most = let b = in-limits s h in omega (arith, k-most)
 
-  pub w-most : wOf bits256 s ≤ 41
-  unfolding wOf bytesFor
-  w-most = omega (arith, l-most)
+  pub w-most : wOf bits256 s ≤ mostLeaf
+  unfolding wOf
+  w-most = bytes-up-to (mostHashed + mostHashRows) (lOf bits256 s) l-most
 
   -- products of sizes
-  pub corrections-most : (s .τ - 1) * wOf bits256 s ≤ 47 * 41
-  corrections-most = let b = in-limits s h in let e : s .τ - 1 ≤ 47 = omega arith in mul-le-mul e w-most
+  pub corrections-most : (s .τ - 1) * wOf bits256 s ≤ (mostRepetitions - 1) * mostLeaf
+  corrections-most = let b = in-limits s h in let e : s .τ - 1 ≤ mostRepetitions - 1 = omega arith in mul-le-mul e w-most
 
-  pub hash-matrix-most : s .t * bytesFor (kOf bits256 s) ≤ mostHashRows * 21
+  pub hash-matrix-most : s .t * bytesFor (kOf bits256 s) ≤ mostHashRows * mostRow
   hash-matrix-most = mul-le-mul (in-limits s h .t-most) (bytes-most (kOf bits256 s) k-most)
 
   pub batching-most : s .τ * s .m ≤ mostRepetitions * mostEquations
@@ -76,41 +84,44 @@ module _ (s : Shape) (h : limits s ≡ true) where
   pub hashed-most : s .τ * s .t ≤ mostRepetitions * mostHashRows
   hashed-most = mul-le-mul (in-limits s h .τ-most) (in-limits s h .t-most)
 
-  pub row-most : bytesFor (s .n) ≤ 21
+  pub row-most : bytesFor (s .n) ≤ mostRow
   row-most = let b = in-limits s h in bytes-most (s .n) (omega arith)
 
   pub matrix-rows-most : s .m * s .n ≤ mostEquations * mostVariables
   matrix-rows-most = mul-le-mul (in-limits s h .m-most) (in-limits s h .n-most)
 
-  pub matrices-most : s .m * s .n * bytesFor (s .n) ≤ mostEquations * mostVariables * 21
+  pub matrices-most : s .m * s .n * bytesFor (s .n) ≤ mostEquations * mostVariables * mostRow
   matrices-most = mul-le-mul matrix-rows-most row-most
 
-  pub linear-most : s .m * bytesFor (s .n) ≤ mostEquations * 21
+  pub linear-most : s .m * bytesFor (s .n) ≤ mostEquations * mostRow
   linear-most = mul-le-mul (in-limits s h .m-most) row-most
 
-  pub trees-most : (per : ℕ) → per ≤ 256 → s .τ * per ≤ mostRepetitions * 256
+  -- a tree has at most as many leaves as the field has elements
+  pub trees-most : (per : ℕ) → per ≤ gf256 .base .size → s .τ * per ≤ mostRepetitions * gf256 .base .size
   trees-most per l = mul-le-mul (in-limits s h .τ-most) l
 
-  pub leaves-most : (per : ℕ) → per ≤ 256 → s .τ * per * wOf bits256 s ≤ mostRepetitions * 256 * 41
+  pub leaves-most : (per : ℕ) → per ≤ gf256 .base .size → s .τ * per * wOf bits256 s ≤ mostRepetitions * gf256 .base .size * mostLeaf
   leaves-most per l = mul-le-mul (trees-most per l) w-most
 
-  -- strings of sections
-  pub commit-most : framedLength (commitLengths bits256 s) < 65536
+  -- strings of sections, each after its count of four bytes
+  pub commit-most : framedLength (commitLengths bits256 s) ≤ 2 * 4 + (mostRepetitions - 1) * mostLeaf + mostRow
   unfolding framedLength commitLengths
   commit-most = omega (arith, corrections-most, row-most)
 
-  pub hash-most : framedLength (hashLengths bits256 s) < 65536
+  pub hash-most : framedLength (hashLengths bits256 s) ≤ 2 * 4 + (mostHashRows + 7) / 8 + mostRepetitions * mostHashRows
   unfolding framedLength hashLengths
-  hash-most = let b = in-limits s h in omega (arith, bytes-most (s .t) (omega arith), hashed-most)
+  hash-most = let b = in-limits s h in omega (arith, bytes-up-to mostHashRows (s .t) (b .t-most), hashed-most)
 
-  pub batch-most : framedLength (batchLengths bits256 s) < 65536
+  pub batch-most : framedLength (batchLengths bits256 s) ≤ 2 * 4 + 2 * mostRepetitions
   unfolding framedLength batchLengths
   batch-most = let b = in-limits s h in omega arith
 
-  pub proof-most : framedLength (lengths bits256 s) < 65536
+  pub proof-most
+      : framedLength (lengths bits256 s)
+      ≤ 6 * 4 + (mostRepetitions - 1) * mostLeaf + mostRow + (mostHashRows + 7) / 8 + mostRepetitions * mostHashRows + 2 * mostRepetitions
   unfolding framedLength lengths
-  proof-most = let b = in-limits s h in omega (arith, corrections-most, row-most, bytes-most (s .t) (omega arith), hashed-most)
+  proof-most = let b = in-limits s h in omega (arith, corrections-most, row-most, bytes-up-to mostHashRows (s .t) (b .t-most), hashed-most)
 
-  pub key-most : framedLength (keyLengths bits256 s) < 1048576
+  pub key-most : framedLength (keyLengths bits256 s) ≤ 3 * 4 + mostEquations * mostVariables * mostRow + mostEquations * mostRow + (mostEquations + 7) / 8
   unfolding framedLength keyLengths
-  key-most = let b = in-limits s h in omega (arith, matrices-most, linear-most, bytes-most (s .m) (omega arith))
+  key-most = let b = in-limits s h in omega (arith, matrices-most, linear-most, bytes-up-to mostEquations (s .m) (b .m-most))

@@ -18,7 +18,7 @@ use Rattle.algebra.proofs.FieldLaws.{eqb-true}
 use Rattle.protocol.specs.Lists.{table, blockAt}
 use Rattle.protocol.specs.Frames.{frame, framed, sectionNo}
 use Rattle.protocol.specs.Alphabet.{Alphabet, sym as symbol, elemAt, Lawful}
-use Rattle.protocol.specs.Shape.{Shape, kOf, lOf, wOf}
+use Rattle.protocol.specs.Shape.{Shape, mostVariables, mostRepetitions, mostHashRows, kOf, lOf, wOf}
 use Rattle.protocol.specs.Key.{rowsSpare}
 use Rattle.protocol.specs.Sections.{Sections, bytesOf, lengths, sectionsIn}
 use Rattle.protocol.specs.Forms.{quad, lin, yOf, middle, error, hash, maskOf, batch}
@@ -196,14 +196,15 @@ module _ (A : Alphabet) (laws : Lawful A) where
       lengths-are = λ i. C-length i ∷ d-length i ∷ ũ-length i ∷ Ṽ-length H′ i ∷ QS0-length i ∷ QS1-length i ∷ []
 
       module _ (b : Bounds s) where
-        w≤ : wOf A s ≤ 328
+        -- an alphabet has at most eight mask coordinates, and at most a byte to a symbol
+        w≤ : wOf A s ≤ mostVariables + 8 + mostHashRows
         unfolding wOf lOf kOf
         w≤ = omega (arith, laws .width-le (s .n + A .masks + s .t), laws .masks-le, b .n≤, b .t≤)
 
         short : Short six
         short = (omega (arith, C-length, mul-le-mul τ′ w≤), (omega (arith, d-length, laws .width-le (s .n), b .n≤), (omega (arith, ũ-length, laws .width-le (s .t), b .t≤), (omega (arith, Ṽ-length H′, mul-le-mul (b .τ≤) (b .t≤)), (omega (arith, QS0-length, b .τ≤), (omega (arith, QS1-length, b .τ≤), tt))))))
           where
-            τ′ : s .τ - 1 ≤ 47
+            τ′ : s .τ - 1 ≤ mostRepetitions - 1
             τ′ = omega (arith, b .τ≤)
 
         pub exact : framed (lengths A s) (bytesOf P) ≡ true

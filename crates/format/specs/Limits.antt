@@ -1,0 +1,20 @@
+-- The most that a key within the limits has of what follows from its sizes. The limits themselves are 01's: n, m, τ, t
+-- are at most mostVariables, mostEquations, mostRepetitions, mostHashRows (protocol/specs/Shape). In the code the same
+-- names stand in src/sizes.rt.
+--   mostHashed == the most k, the coordinates that a row of H′ covers: the most n, and the field's degree
+--   mostLeaf == the most w, the bytes of a leaf: those of mostHashed and mostHashRows bits
+--   mostRow == the most bytes of a row of H′: those of mostHashed bits
+-- Each is ⌈bits/8⌉ written out, not bytesFor, so that it computes in every proof that cites it.
+-- Assumes nothing.
+use Prim.Native.Nat.{ℕ, _+_, _/_}
+use Rattle.field.specs.Gf256.{gf256}
+use Rattle.protocol.specs.Shape.{mostVariables, mostHashRows}
+
+abbrev pub mostHashed : ℕ
+mostHashed = mostVariables + gf256 .degree
+
+abbrev pub mostLeaf : ℕ
+mostLeaf = (mostHashed + mostHashRows + 7) / 8
+
+abbrev pub mostRow : ℕ
+mostRow = (mostHashed + 7) / 8
