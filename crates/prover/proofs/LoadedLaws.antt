@@ -15,10 +15,11 @@ use Rattle.protocol.specs.Sections.{commitLengths, hashLengths}
 use Rattle.protocol.proofs.CountingLaws.{leaves-length}
 use Rattle.protocol.proofs.ListLaws.{row-end}
 use Rattle.format.proofs.FitLaws.{room}
+use Rattle.format.specs.Limits.{mostLeaf}
 use Rattle.lanes.specs.Lanes.{lanes}
 use Rattle.chunks.specs.Chunks.{mostBlock, chunk}
 use Rattle.forms_folds.specs.Folds.{cellSixteens}
-use Rattle.tables.specs.Sums.{mostWidth, SumsAre, TableIs}
+use Rattle.tables.specs.Sums.{SumsAre, TableIs}
 use Rattle.tables.proofs.SumsMeaning.{per-tree}
 use Rattle.questions.specs.Asking.{SizedKey}
 use Rattle.questions.specs.Facts.{KeyFacts, LeavesForm}
@@ -43,17 +44,17 @@ pub key-form : (s : Shape) (key : List ℕ) → KeyFacts bits256 s key → Sized
 key-form s key f = record { header = f .header; sizes = f .in-range; exact = f .key-exact }
 
 -- the buffers of a call, made for the largest key, have room for this one
-pub buffers-of : (s : Shape) → limits s ≡ true → Buffers bits256 s (replicate (8 * mostWidth * lanes) 0) (replicate (lanes * mostWidth) 0)
+pub buffers-of : (s : Shape) → limits s ≡ true → Buffers bits256 s (replicate (8 * mostLeaf * lanes) 0) (replicate (lanes * mostLeaf) 0)
 buffers-of s h = record {
-  table-room = rw (length-replicate {A = ℕ} (8 * mostWidth * lanes) 0) (room s h .table-room);
-  sums-room = rw (length-replicate {A = ℕ} (lanes * mostWidth) 0) (room s h .sums-room);
+  table-room = rw (length-replicate {A = ℕ} (8 * mostLeaf * lanes) 0) (room s h .table-room);
+  sums-room = rw (length-replicate {A = ℕ} (lanes * mostLeaf) 0) (room s h .sums-room);
 }
 
 -- and so has the space of the cells
-pub space-of : (s : Shape) → limits s ≡ true → Buffers bits256 s (replicate (cellSixteens * (mostBlock * chunk)) 0) (replicate (lanes * mostWidth) 0)
+pub space-of : (s : Shape) → limits s ≡ true → Buffers bits256 s (replicate (cellSixteens * (mostBlock * chunk)) 0) (replicate (lanes * mostLeaf) 0)
 space-of s h = record {
   table-room = rw (length-replicate {A = ℕ} (cellSixteens * (mostBlock * chunk)) 0) (omega (arith, room s h .table-room));
-  sums-room = rw (length-replicate {A = ℕ} (lanes * mostWidth) 0) (room s h .sums-room);
+  sums-room = rw (length-replicate {A = ℕ} (lanes * mostLeaf) 0) (room s h .sums-room);
 }
 
 -- the lengths of what the steps write

@@ -22,8 +22,8 @@ use Rattle.protocol.specs.Lists.{blockAt}
 use Rattle.protocol.specs.Strings.{bit}
 use Rattle.protocol.specs.Leaves.{openedLeaf}
 use Rattle.strings.specs.Sums.{byteAt, xorSum}
+use Rattle.format.specs.Limits.{mostLeaf}
 use Rattle.lanes.specs.Lanes.{lanes}
-use Rattle.tables.specs.Sums.{mostWidth}
 
 abbrev pub correctionBit : List ℕ → ℕ → ℕ → ℕ → ℕ
 correctionBit C w zero c = 0
@@ -45,7 +45,7 @@ OpenedFits table planes tree C w e δ r =
 
 abbrev pub OpenedInputs : List ℕ → List ℕ → List ℕ → List ℕ → ℕ → ℕ → ℕ → Type 0
 OpenedInputs table opened Δ C τ w r =
-    (length table ≡ 8 * w * lanes) × (length opened ≡ τ * (2 ^ r - 1) * w) × (length Δ ≡ τ) × (length C ≡ (τ - 1) * w) × (τ ≤ lanes) × (w ≤ mostWidth)
+    (length table ≡ 8 * w * lanes) × (length opened ≡ τ * (2 ^ r - 1) * w) × (length Δ ≡ τ) × (length C ≡ (τ - 1) * w) × (τ ≤ lanes) × (w ≤ mostLeaf)
     × (r ≤ 8) × ((e : ℕ) → e < τ → byteAt Δ e < 2 ^ r)
 
 abbrev pub OpenedTableIs : List ℕ → List ℕ → List ℕ → List ℕ → ℕ → ℕ → ℕ → Type 0

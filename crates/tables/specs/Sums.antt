@@ -1,5 +1,4 @@
 -- Sums of leaves on bytes, and the table that holds v of every repetition, coordinate by coordinate.
---   mostWidth == the widest leaf that is served, in bytes
 --   eightRows == the coordinates of sixteen bytes, which are turned together
 --   planesByte planes w c == the byte whose bit p is coordinate c of plane p, planes being eight rows of w bytes, one
 --     for each bit of a byte
@@ -18,15 +17,11 @@ use mathlib.Core.List.{List}
 use Prim.Native.Nat.{ℕ, _+_, _*_, _/_, _^_, _<_, _≤_}
 use lib.Bits.{bitXor}
 use lib.ListN.{length}
-use Rattle.field.specs.Gf256.{gf256}
 use Rattle.protocol.specs.Lists.{blockAt}
 use Rattle.protocol.specs.Strings.{bit, fromBits}
-use Rattle.protocol.specs.Shape.{mostVariables, mostHashRows}
 use Rattle.strings.specs.Sums.{byteAt, xorSum}
+use Rattle.format.specs.Limits.{mostLeaf}
 use Rattle.lanes.specs.Lanes.{lanes}
-
-abbrev pub mostWidth : ℕ
-mostWidth = (mostVariables + gf256 .degree + mostHashRows + 7) / 8
 
 abbrev pub eightRows : ℕ
 eightRows = 8 * 16
@@ -52,7 +47,7 @@ RowReady table planes sums leaves w e r =
 
 abbrev pub TreesReady : List ℕ → List ℕ → List ℕ → ℕ → ℕ → ℕ → Type 0
 TreesReady table sums leaves τ w r =
-    (length table ≡ 8 * w * lanes) × (length sums ≡ τ * w) × (length leaves ≡ τ * 2 ^ r * w) × (τ ≤ lanes) × (w ≤ mostWidth) × (r ≤ 8)
+    (length table ≡ 8 * w * lanes) × (length sums ≡ τ * w) × (length leaves ≡ τ * 2 ^ r * w) × (τ ≤ lanes) × (w ≤ mostLeaf) × (r ≤ 8)
 
 abbrev pub SumsAre : List ℕ → List ℕ → ℕ → ℕ → ℕ → Type 0
 SumsAre sums leaves τ w count = (e b : ℕ) → e < τ → b < w → byteAt sums (e * w + b) ≡ uByte (blockAt leaves (count * w) e) count w b

@@ -10,14 +10,15 @@ use denote.Ref.{now}
 use lib.ListN.{length, length-take, length-drop, length-append}
 use Rattle.protocol.specs.Lists.{blockAt}
 use Rattle.strings.proofs.Rows.{row-end, rows-more}
-use Rattle.tables.specs.Sums.{mostWidth, uByte, vByte, SumsAre, TableIs}
+use Rattle.format.specs.Limits.{mostLeaf}
+use Rattle.tables.specs.Sums.{uByte, vByte, SumsAre, TableIs}
 use Rattle.tables.proofs.TreeLaws.{lanes-more}
 use Rattle.tables.proofs.load_trees.Statement.{statement}
 use Rattle.tables.proofs.load_trees.Tie as tie
 
 abbrev Inv-loop : tie.InvT-loop
 Inv-loop table₀ sums₀ leaves tau w r planes₀ e₀ table sums planes e =
-    (e ≤ tau) × (length table ≡ length table₀) × (length sums ≡ length sums₀) × (length planes ≡ 8 * mostWidth) × SumsAre sums leaves e w (2 ^ r) × TableIs table leaves e w (2 ^ r)
+    (e ≤ tau) × (length table ≡ length table₀) × (length sums ≡ length sums₀) × (length planes ≡ 8 * mostLeaf) × SumsAre sums leaves e w (2 ^ r) × TableIs table leaves e w (2 ^ r)
 
 abbrev μ-loop : tie.MeasureT-loop
 μ-loop table₀ sums₀ leaves tau w r planes₀ e₀ table sums planes e = tau - e

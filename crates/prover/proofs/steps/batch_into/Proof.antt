@@ -38,7 +38,7 @@ fill-vectors-requires : tie.Need-fill-vectors-requires
 fill-vectors-requires c κs =
     let s = shapeFor (c .before .before .before .before .before .before .before .before .args .s) in
     let within = in-limits (shapeFor (c .before .before .before .before .before .before .before .before .args .s)) (c .before .before .before .before .before .before .before .before .pre .key-facts .in-range) in
-    (omega (arith, c .before .before .before .before .before .before .before .before .pre .buffers .table-room, mask-fits s), within .n-most, within .τ-most, omega (arith, within .τ-most))
+    (omega (arith, c .before .before .before .before .before .before .before .before .pre .buffers .table-room, mask-fits s), within .n-most, within .τ-most, refl)
 
 slice-aggregate-add-masks : tie.Need-slice-aggregate-add-masks
 slice-aggregate-add-masks c = search needs

@@ -12,7 +12,7 @@ use lib.Pow.{pow-pos}
 use Rattle.protocol.specs.Lists.{blockAt}
 use Rattle.strings.specs.Sums.{byteAt}
 use Rattle.strings.proofs.Rows.{row-end}
-use Rattle.tables.specs.Sums.{mostWidth}
+use Rattle.format.specs.Limits.{mostLeaf}
 use Rattle.tables.specs.Opened.{wByte, OpenedTableIs}
 use Rattle.tables.proofs.TreeLaws.{leaves-most, lanes-more}
 use Rattle.tables.proofs.opened.load_opened.Statement.{statement}
@@ -20,7 +20,7 @@ use Rattle.tables.proofs.opened.load_opened.Tie as tie
 
 abbrev Inv-loop : tie.InvT-loop
 Inv-loop table₀ opened delta corrections tau w r len u₀ planes₀ e₀ table u planes e =
-    (e ≤ tau) × (length table ≡ length table₀) × (length u ≡ mostWidth) × (length planes ≡ 8 * mostWidth) × OpenedTableIs table opened delta corrections e w (2 ^ r)
+    (e ≤ tau) × (length table ≡ length table₀) × (length u ≡ mostLeaf) × (length planes ≡ 8 * mostLeaf) × OpenedTableIs table opened delta corrections e w (2 ^ r)
 
 abbrev μ-loop : tie.MeasureT-loop
 μ-loop table₀ opened delta corrections tau w r len u₀ planes₀ e₀ table u planes e = tau - e
