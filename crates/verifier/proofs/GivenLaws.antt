@@ -2,9 +2,10 @@
 -- Assumes nothing.
 use mathlib.Core.Path.{_≡_, ap, _∙_}
 use mathlib.Core.Bool.{true}
-use mathlib.Core.List.{List, [], _∷_}
-use Prim.Native.Nat.{ℕ, _*_, _-_, _^_}
-use lib.ListN.{length}
+use mathlib.Core.List.{List, [], _∷_, _++_}
+use Prim.Native.Nat.{ℕ, _+_, _*_, _-_, _^_, _≤_}
+use native.Mathlib.Omega.{arith}
+use lib.ListN.{length, length-append, List·getD-append}
 use Rattle.protocol.specs.Binary.{bits256}
 use Rattle.protocol.specs.Shape.{Shape, shapeOf, perOpened, perTree, wOf}
 use Rattle.protocol.specs.Sections.{sectionsIn}
@@ -61,9 +62,17 @@ all-asked s key Δ H′ χ opened proof e {a} {b} {c} {d} of-key of-inputs of-pr
 
 -- over a width that is w, corrections that are C, and a degree that is the field's
 pub opened-is : (s : Shape) (Δ opened proof T C : List ℕ) (w r : ℕ) → w ≡ wOf bits256 s → C ≡ sectionsIn bits256 s proof .C → r ≡ bits256 .K .degree
-    → length T ≡ 8 * wOf bits256 s * lanes → OpenedTableIs T opened Δ C (s .τ) w (2 ^ r) → Opened bits256 s Δ opened proof T
+    → 8 * wOf bits256 s * lanes ≤ length T → OpenedTableIs T opened Δ C (s .τ) w (2 ^ r) → Opened bits256 s Δ opened proof T
 unfolding perTree
 opened-is s Δ opened proof T C w r e f d long is = record { table-length = long; table-is = rw (e, f, d) at is }
+
+-- what a space begins with is read in the space
+pub opened-begins : (s : Shape) (Δ opened proof T rest : List ℕ) → s .τ ≤ lanes → Opened bits256 s Δ opened proof T → Opened bits256 s Δ opened proof (T ++ rest)
+opened-begins s Δ opened proof T rest few is =
+    record {
+      table-length = rw (length-append T rest) (omega (arith, is .table-length));
+      table-is = λ e c l h. List·getD-append T rest 0 (c * lanes + e) (omega (arith, few, l, h, is .table-length)) ∙ is .table-is e c l h;
+    }
 
 -- the opened leaves of a tree, by the field's degree
 pub opened-long : (s : Shape) (opened : List ℕ) → length opened ≡ s .τ * perOpened bits256 * wOf bits256 s → length opened ≡ s .τ * (2 ^ bits256 .K .degree - 1) * wOf bits256 s

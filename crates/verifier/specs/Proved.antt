@@ -1,13 +1,14 @@
 -- What the two checks are given.
---   Opened s Δ opened proof table == the lanes of the table are W_e of every repetition
+--   SpaceRoom s space == the space is no shorter than the table of the W_e, nor than the cells of the forms: it is
+--     first the one, and then the other
+--   Opened s Δ opened proof table == the lanes of the table, with which a space may begin, are W_e of every repetition
 --   FirstInconsistent s Δ H′ proof table r == r is the first repetition that is not consistent, or their number,
---     whatever leaves were opened into
---     the table
+--     whatever leaves were opened into the table
 --   FirstDiffers s key Δ χ proof table r == the same of the product check
 -- Assumes nothing.
 use mathlib.Core.Path.{_≡_}
 use mathlib.Core.List.{List}
-use Prim.Native.Nat.{ℕ, _*_}
+use Prim.Native.Nat.{ℕ, _*_, _≤_}
 use lib.ListN.{length}
 use Rattle.protocol.specs.Lists.{firstNot}
 use Rattle.protocol.specs.Alphabet.{Alphabet}
@@ -15,10 +16,14 @@ use Rattle.protocol.specs.Shape.{Shape, perTree, wOf}
 use Rattle.protocol.specs.Sections.{sectionsIn}
 use Rattle.protocol.specs.Questions.{consistentIn, productIn}
 use Rattle.lanes.specs.Lanes.{lanes}
+use Rattle.forms_batching.specs.Batched.{CellsRoom}
 use Rattle.tables.specs.Opened.{OpenedTableIs}
 
+abbrev pub SpaceRoom : Alphabet → Shape → List ℕ → Type 0
+SpaceRoom A s space = (8 * wOf A s * lanes ≤ length space) × CellsRoom space
+
 pub record Opened (A : Alphabet) (s : Shape) (Δ opened proof table : List ℕ) : Type 0 where
-  pub table-length : length table ≡ 8 * wOf A s * lanes
+  pub table-length : 8 * wOf A s * lanes ≤ length table
   pub table-is : OpenedTableIs table opened Δ (sectionsIn A s proof .C) (s .τ) (wOf A s) (perTree A)
 
 abbrev pub FirstInconsistent : Alphabet → Shape → List ℕ → List ℕ → List ℕ → List ℕ → ℕ → Type 0

@@ -4,26 +4,23 @@ mod consistency;
 mod product;
 
 ghost use mathlib.Core.Path.{_≡_};
-ghost use Prim.Native.Nat.{_*_};
-ghost use lib.ListN.{length};
 ghost use Rattle.protocol.specs.Binary.{bits256};
-ghost use Rattle.protocol.specs.Shape.{wOf};
 ghost use Rattle.protocol.specs.Answers.{ask};
 ghost use Rattle.protocol.specs.Calls.{verifyAnswer};
-ghost use Rattle.lanes.specs.Lanes.{lanes};
 ghost use Rattle.format.specs.Sizes.{alphabetFor, shapeFor};
 ghost use Rattle.format.specs.Verdict.{answerOf};
 ghost use Rattle.sections.specs.Moved.{PlacesIn};
 ghost use Rattle.verifier.specs.Given.{VerifyFacts, checkQuestions};
+ghost use Rattle.verifier.specs.Proved.{SpaceRoom};
 use consistency::check_consistency;
 use format::Reason;
 use format::Verdict;
-use format::sizes::MOST_LEAF;
 use format::sizes::Sizes;
 use format::sizes::degree_of;
 use format::sizes::leaf_bytes;
 use format::sizes::sizes_of;
 use format::verdicts::answer;
+use forms_batching::panels::CELLS;
 use lanes::LANES;
 use product::check_product;
 use questions::calls::verify_inputs;
@@ -34,9 +31,13 @@ use questions::proof::proof_section;
 use sections::reader::Places;
 use strings::BITS;
 
-// Questions 14 and 15, with a table of exact length.
+// The space of a call: it is first the table of the W_e, and then the cells of the forms. These are longer than the
+// longest table.
+const SPACE: usize = CELLS;
+
+// Questions 14 and 15, in that space.
 fn ask_checks(
-    table: &mut [u8],
+    space: &mut [u8],
     key: &[u8],
     delta: &[u8],
     matrix: &[u8],
@@ -47,13 +48,15 @@ fn ask_checks(
     s: Sizes,
 ) -> Verdict
     requires { ⌜ VerifyFacts (alphabetFor s) (shapeFor s) (now key) (now delta) (now matrix) (now batching) (now opened) (now proof) × PlacesIn (now proof) places ⌝ }
-    requires { ⌜ length (now table) ≡ 8 * wOf (alphabetFor s) (shapeFor s) * lanes ⌝ }
-    ensures { λ r. ⌜ answerOf r ≡ ask (checkQuestions (alphabetFor s) (shapeFor s) (now (key .entry)) (now (delta .entry)) (now (matrix .entry)) (now (batching .entry)) (now (opened .entry)) (now (proof .entry))) ⌝ }
+    requires { ⌜ SpaceRoom (alphabetFor s) (shapeFor s) (now space) ⌝ }
+    ensures { λ r. ⌜ answerOf r ≡ ask (checkQuestions (alphabetFor s) (shapeFor s)
+        (now (key .entry)) (now (delta .entry)) (now (matrix .entry)) (now (batching .entry)) (now (opened .entry)) (now (proof .entry))) ⌝ }
 {
     let tau = s.tau;
     let w = leaf_bytes(s);
+    let len = BITS * w * LANES;
     tables::opened::load_opened(
-        table,
+        &mut space[..len],
         opened,
         delta,
         proof_section(proof, places, C),
@@ -61,12 +64,12 @@ fn ask_checks(
         w,
         degree_of(s),
     );
-    let inconsistent = check_consistency(table, matrix, delta, proof, places, s);
+    let inconsistent = check_consistency(&space[..len], matrix, delta, proof, places, s);
     let consistent = answer(Reason::Inconsistent, inconsistent, tau);
     let Verdict::Accepted = consistent else {
         return consistent;
     };
-    let differing = check_product(table, key, delta, batching, proof, places, s);
+    let differing = check_product(space, key, delta, batching, proof, places, s);
     answer(Reason::ProductDiffers, differing, tau)
 }
 
@@ -82,12 +85,12 @@ fn both_checks(
     s: Sizes,
 ) -> Verdict
     requires { ⌜ VerifyFacts (alphabetFor s) (shapeFor s) (now key) (now delta) (now matrix) (now batching) (now opened) (now proof) × PlacesIn (now proof) places ⌝ }
-    ensures { λ r. ⌜ answerOf r ≡ ask (checkQuestions (alphabetFor s) (shapeFor s) (now (key .entry)) (now (delta .entry)) (now (matrix .entry)) (now (batching .entry)) (now (opened .entry)) (now (proof .entry))) ⌝ }
+    ensures { λ r. ⌜ answerOf r ≡ ask (checkQuestions (alphabetFor s) (shapeFor s)
+        (now (key .entry)) (now (delta .entry)) (now (matrix .entry)) (now (batching .entry)) (now (opened .entry)) (now (proof .entry))) ⌝ }
 {
-    let w = leaf_bytes(s);
-    let mut table = [0u8; BITS * MOST_LEAF * LANES];
+    let mut space = [0u8; SPACE];
     ask_checks(
-        &mut table[..BITS * w * LANES],
+        &mut space,
         key,
         delta,
         matrix,

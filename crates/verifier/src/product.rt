@@ -5,25 +5,31 @@ ghost use Prim.Native.Nat.{ℕ, _+_, _*_, _<_, _≤_};
 ghost use lib.ListN.{length};
 ghost use lib.Bits.{bitXor};
 ghost use Rattle.protocol.specs.Strings.{bit};
-ghost use Rattle.protocol.specs.Shape.{wOf};
 ghost use Rattle.strings.specs.Sums.{byteAt, xorSum};
 ghost use Rattle.lanes.specs.Lanes.{lanes, laneAt};
 ghost use Rattle.format.specs.Sizes.{alphabetFor, shapeFor};
+ghost use Rattle.forms_columns.specs.Stacks.{coordinateOf, VectorsRoom};
+ghost use Rattle.forms_batching.specs.Batched.{CellsRoom};
+ghost use Rattle.forms_batching.specs.Lines.{VectorsEnd};
 ghost use Rattle.questions.specs.Facts.{KeyFacts, PlacesOf};
 ghost use Rattle.verifier.specs.Product.{KeyLanes, EquationsOf, valueByte, LeftSides};
 ghost use Rattle.verifier.specs.Repetitions.{firstDiffering};
-ghost use Rattle.verifier.specs.Proved.{FirstDiffers};
+ghost use Rattle.verifier.specs.Proved.{SpaceRoom, FirstDiffers};
 use field::Gf256;
 use format::sizes::MOST_VARIABLES;
 use format::sizes::Sizes;
 use forms::batch::Forms;
 use forms::batch::batch_forms;
+use forms_batching::stacks::fill_vectors;
 use lanes::LANES;
 use questions::proof::D;
 use questions::proof::QS0;
 use questions::proof::QS1;
 use questions::proof::proof_section;
 use sections::reader::Places;
+
+// The vectors of as many repetitions as a key may have, one after the other.
+const VECTORS: usize = LANES * MOST_VARIABLES;
 
 // Adds δ_e to coordinate c of each lane, where the bit is set.
 fn add_bit(table: &mut [u8], c: usize, bit: u8, delta: &[u8])
@@ -75,20 +81,21 @@ fn batch_values(out: &mut [u8], y: &[u8], chi: &[u8], m: usize, tau: usize)
 }
 
 // Adds the left side of each repetition, but for its mask: the batched equations of the sections a, b, y of a key at
-// the vector of the repetition.
+// the vector of the repetition. `cells` is space.
 fn product_lanes(
     left: &mut [u8],
+    cells: &mut [u8],
     a: &[u8],
     b: &[u8],
     y: &[u8],
     chi: &[u8],
     delta: &[u8],
+    vectors: &[u8],
     s: Sizes,
-    table: &[u8],
 )
     requires { ⌜ EquationsOf (shapeFor s) (now a) (now b) (now y) (now chi) ⌝ }
-    requires { ⌜ (length (now left) ≡ lanes) × (length (now delta) ≡ lanes) × (length (now table) ≡ s .n * lanes) ⌝ }
-    ensures { λ _. ⌜ LeftSides (shapeFor s) (now (a .entry)) (now (b .entry)) (now (y .entry)) (now (chi .entry)) (now (delta .entry)) (λ e c. laneAt (now (table .entry)) c e)
+    requires { ⌜ (length (now left) ≡ lanes) × (length (now delta) ≡ lanes) × VectorsRoom (now vectors) × VectorsEnd (s .n) (s .tau) (now vectors) × CellsRoom (now cells) ⌝ }
+    ensures { λ _. ⌜ LeftSides (shapeFor s) (now (a .entry)) (now (b .entry)) (now (y .entry)) (now (chi .entry)) (now (delta .entry)) (coordinateOf (now (vectors .entry)))
         (now (left .entry)) (now (left .exit)) ⌝ }
 {
     let n = s.n;
@@ -104,7 +111,7 @@ fn product_lanes(
         tau,
         polar: false,
     };
-    batch_forms(left, &mut linear, a, b, &zeros, chi, table, f);
+    batch_forms(left, &mut linear, cells, a, b, &zeros, chi, vectors, f);
     batch_values(&mut values, y, chi, m, tau);
     lanes::accumulate(left, delta, &linear);
     lanes::accumulate(&mut square, delta, delta);
@@ -138,10 +145,10 @@ fn load_challenge(out: &mut [u8], delta: &[u8])
     }
 }
 
-// Question 15: the first repetition whose product differs, or their number where none does. In the table W_e becomes
-// K_e.
+// Question 15: the first repetition whose product differs, or their number where none does. The space begins with the
+// table of the W_e, which become K_e. Once the masks and the vectors are taken from it, it is space for the forms.
 pub fn check_product(
-    table: &mut [u8],
+    space: &mut [u8],
     key: &[u8],
     delta: &[u8],
     batching: &[u8],
@@ -150,25 +157,28 @@ pub fn check_product(
     s: Sizes,
 ) -> usize
     requires { ⌜ KeyFacts (alphabetFor s) (shapeFor s) (now key) × PlacesOf (alphabetFor s) (shapeFor s) (now proof) places × (length (now delta) ≡ s .tau) ⌝ }
-    requires { ⌜ (length (now batching) ≡ s .tau * s .m) × (length (now table) ≡ 8 * wOf (alphabetFor s) (shapeFor s) * lanes) ⌝ }
-    ensures { λ r. ⌜ FirstDiffers (alphabetFor s) (shapeFor s) (now (key .entry)) (now (delta .entry)) (now (batching .entry)) (now (proof .entry)) (now (table .entry)) r ⌝ }
+    requires { ⌜ (length (now batching) ≡ s .tau * s .m) × SpaceRoom (alphabetFor s) (shapeFor s) (now space) ⌝ }
+    ensures { λ r. ⌜ FirstDiffers (alphabetFor s) (shapeFor s) (now (key .entry)) (now (delta .entry)) (now (batching .entry)) (now (proof .entry)) (now (space .entry)) r ⌝ }
 {
     let n = s.n;
+    let tau = s.tau;
     let mut challenge = [0u8; LANES];
     let mut left = [0u8; LANES];
+    let mut vectors = [0u8; VECTORS];
     load_challenge(&mut challenge, delta);
-    add_difference(table, proof_section(proof, places, D), n, &challenge);
-    lanes::add_masks(&mut left, table, s);
-    let front = &table[..n * LANES];
+    add_difference(space, proof_section(proof, places, D), n, &challenge);
+    lanes::add_masks(&mut left, space, s);
+    fill_vectors(&mut vectors, tau, space, n);
     product_lanes(
         &mut left,
+        space,
         questions::key::section_a(key, s),
         questions::key::section_b(key, s),
         questions::key::section_y(key, s),
         batching,
         &challenge,
+        &vectors,
         s,
-        front,
     );
     first_differing(
         &left,

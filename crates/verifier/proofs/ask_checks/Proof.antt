@@ -1,28 +1,54 @@
--- `verifier::ask_checks` meets its contract: the answer to 14, and where that is accepted, the answer to 15.
+-- `verifier::ask_checks` meets its contract: the space begins with the table of the W_e. The answer to 14, and where
+-- that is accepted, the answer to 15.
 -- Assumes nothing.
 use borrow.Author.Needs.{needs}
-use Prim.Native.Nat.{ℕ}
-use mathlib.Core.Path.{_≡_, _∙_}
+use Prim.Native.Nat.{ℕ, _*_, _≤_}
+use mathlib.Core.Path.{_≡_, sym, ap, _∙_}
 use mathlib.Core.Bool.{Bool}
-use mathlib.Core.List.{[], _∷_}
+use mathlib.Core.List.{List, [], _∷_, _++_}
 use native.Mathlib.Omega.{arith}
 use denote.Ref.{now}
+use lib.ListN.{length, take, drop, length-append, length-drop}
+use lib.Seq.{take-at}
 use Rattle.protocol.specs.Binary.{bits256}
+use Rattle.protocol.specs.Shape.{wOf}
 use Rattle.protocol.specs.Answers.{ask}
 use Rattle.protocol.specs.Questions.{consistentIn, productIn, q14}
+use Rattle.lanes.specs.Lanes.{lanes}
 use Rattle.format.specs.Sizes.{shapeFor}
 use Rattle.format.specs.Verdict.{answerOf}
 use Rattle.format.proofs.AskLaws.{then-ask, go-on, stop-at}
 use Rattle.format.proofs.SizeLaws.{in-limits, w-most}
+use Rattle.sections.proofs.Writes.{take-length}
 use Rattle.verifier.specs.Proved.{Opened}
 use Rattle.verifier.proofs.ProvedLaws.{section-lengths}
 use Rattle.verifier.proofs.AnswerLaws.{asked-of-each}
-use Rattle.verifier.proofs.GivenLaws.{opened-is, opened-long}
+use Rattle.verifier.proofs.GivenLaws.{opened-is, opened-begins, opened-long}
 use Rattle.verifier.proofs.ask_checks.Statement.{statement}
 use Rattle.verifier.proofs.ask_checks.Tie as tie
 
+-- a list that gets another front is as long
+whole : (n : ℕ) (T l : List ℕ) → n ≤ length l → length T ≡ n → length (T ++ drop n l) ≡ length l
+whole n T l h e = rw (length-append T (drop n l), length-drop n l) (omega (arith, h, e))
+
 leaf-bytes-requires : tie.Need-leaf-bytes-requires
 leaf-bytes-requires c κs = search needs
+
+mul-len : tie.Need-mul-len
+mul-len c = search needs
+
+mul-len-2 : tie.Need-mul-len-2
+mul-len-2 c = search needs
+
+-- the space is as long as the table
+begins : (c : tie.After-leaf-bytes) → let a = c .before .before .before .before .before .before .before .before .args in 8 * c .leaf-bytes .result * lanes ≤ length (now (a .space))
+begins c = rw (c .leaf-bytes .ensures) (c .before .before .before .before .before .before .before .before .pre .1 .0)
+
+slice-relend-prefix-load-opened : tie.Need-slice-relend-prefix-load-opened
+slice-relend-prefix-load-opened c = search needs
+
+slice-aggregate-load-opened : tie.Need-slice-aggregate-load-opened
+slice-aggregate-load-opened c = sym (take-length (8 * c .before .leaf-bytes .result * lanes) (now (c .before .before .before .before .before .before .before .before .before .args .space)) (begins (c .before)))
 
 proof-section-requires : tie.Need-proof-section-requires
 proof-section-requires c κs = search needs
@@ -36,7 +62,7 @@ load-opened-requires c κs =
     let shape = shapeFor (s .args .s) in
     let facts = s .pre .0 .0 in
     rw (c .before .before .before .leaf-bytes .ensures, c .degree-of .ensures) (
-      s .pre .1,
+      take-length (8 * wOf bits256 shape * lanes) (now (s .args .space)) (s .pre .1 .0),
       opened-long shape (now (s .args .opened)) (facts .of-opened),
       facts .of-challenge,
       c .before .proof-section .ensures (s .args .s) (facts .of-proof) .1 ∙ section-lengths shape .c-length,
@@ -46,23 +72,37 @@ load-opened-requires c κs =
       (λ e h. c .before .before .before .before .before .before .before .before .shared-slice-known2 .given e .fits),
     )
 
--- the table is then W_e of every repetition
+-- what was lent as the table is as long, and is W_e of every repetition
+table-long : (c : tie.After-load-opened) → length (c .load-opened .last .0) ≡ 8 * c .before .before .before .before .leaf-bytes .result * lanes
+table-long c = c .load-opened .kept .0 ∙ take-length (8 * c .before .before .before .before .leaf-bytes .result * lanes) (now (c .before .before .before .before .before .before .before .before .before .before .before .before .args .space)) (begins (c .before .before .before .before))
+
 loaded : (c : tie.After-load-opened) → let a = c .before .before .before .before .before .before .before .before .before .before .before .before .args in Opened bits256 (shapeFor (a .s)) (now (a .delta)) (now (a .opened)) (now (a .proof)) (c .load-opened .last .0)
 loaded c =
     let s = c .before .before .before .before .before .before .before .before .before .before .before .before in
     let a = s .args in
-    let shape = shapeFor (a .s) in
     let degree = c .before .degree-of in
     let section = c .before .before .proof-section in
     let width = c .before .before .before .before .leaf-bytes in
-    opened-is shape (now (a .delta)) (now (a .opened)) (now (a .proof)) (c .load-opened .last .0) (now (section .result)) (width .result) (degree .result) (width .ensures)
-    (section .ensures (a .s) (s .pre .0 .0 .of-proof) .0) (degree .ensures) (c .load-opened .kept .0 ∙ s .pre .1) (c .load-opened .ensures)
+    opened-is (shapeFor (a .s)) (now (a .delta)) (now (a .opened)) (now (a .proof)) (c .load-opened .last .0) (now (section .result)) (width .result) (degree .result) (width .ensures)
+    (section .ensures (a .s) (s .pre .0 .0 .of-proof) .0) (degree .ensures) (omega (arith, table-long c, width .ensures)) (c .load-opened .ensures)
+
+-- and is the front of the space
+front : (c : tie.After-load-opened) → let n = 8 * c .before .before .before .before .leaf-bytes .result * lanes in take n (c .load-opened .last .0 ++ drop n (now (c .before .before .before .before .before .before .before .before .before .before .before .before .args .space))) ≡ c .load-opened .last .0
+front c =
+    let n = 8 * c .before .before .before .before .leaf-bytes .result * lanes in
+    take-at (c .load-opened .last .0) (drop n (now (c .before .before .before .before .before .before .before .before .before .before .before .before .args .space))) n (table-long c)
+
+slice-reshare-prefix-check-consistency : tie.Need-slice-reshare-prefix-check-consistency
+slice-reshare-prefix-check-consistency c = search needs
+
+slice-aggregate-check-consistency : tie.Need-slice-aggregate-check-consistency
+slice-aggregate-check-consistency c = sym (ap length (front (c .before .before .before)) ∙ table-long (c .before .before .before))
 
 check-consistency-requires : tie.Need-check-consistency-requires
 check-consistency-requires c κs =
     let s = c .before .before .before .before .before .before .before .before .before .before .before .before .before .before .before in
     let facts = s .pre .0 .0 in
-    ((facts .of-key .in-range, facts .of-hash, (facts .of-proof, s .pre .0 .1), facts .of-challenge), c .before .before .before .load-opened .kept .0 ∙ s .pre .1)
+    ((facts .of-key .in-range, facts .of-hash, (facts .of-proof, s .pre .0 .1), facts .of-challenge), ap length (front (c .before .before .before)) ∙ table-long (c .before .before .before) ∙ ap (λ (w : ℕ). 8 * w * lanes) (c .before .before .before .before .before .before .before .leaf-bytes .ensures))
 
 answer-requires : tie.Need-answer-requires
 answer-requires c κs =
@@ -74,7 +114,8 @@ consistent : (c : tie.After-answer) → let a = c .before .before .before .befor
 consistent c =
     let a = c .before .before .before .before .before .before .before .before .before .before .before .before .before .before .before .before .before .args in
     let p : ℕ → Bool = consistentIn bits256 (shapeFor (a .s)) (now (a .delta)) (now (a .matrix)) (now (a .opened)) (now (a .proof)) in
-    asked-of-each (a .s .tau) p 14 (c .before .check-consistency .result) (c .before .check-consistency .ensures (now (a .opened)) (loaded (c .before .before .before .before .before))) (c .answer .ensures)
+    let l = c .before .before .before .before .before in
+    asked-of-each (a .s .tau) p 14 (c .before .check-consistency .result) (c .before .check-consistency .ensures (now (a .opened)) (rw (front l) (loaded l))) (c .answer .ensures)
 
 enum-told : tie.Need-enum-told
 enum-told c = search needs
@@ -92,7 +133,8 @@ check-product-requires : tie.Need-check-product-requires
 check-product-requires c κs =
     let s = c .before .before .before .before .before .before .before .before .before .before .before .before .before .before .before .before .before .before .before .before in
     let facts = s .pre .0 .0 in
-    ((facts .of-key, (facts .of-proof, s .pre .0 .1), facts .of-challenge), (facts .of-batching, c .before .before .before .before .before .before .before .before .load-opened .kept .0 ∙ s .pre .1))
+    let long = whole (8 * c .before .before .before .before .before .before .before .before .before .before .before .before .leaf-bytes .result * lanes) (c .before .before .before .before .before .before .before .before .load-opened .last .0) (now (s .args .space)) (begins (c .before .before .before .before .before .before .before .before .before .before .before .before)) (table-long (c .before .before .before .before .before .before .before .before)) in
+    ((facts .of-key, (facts .of-proof, s .pre .0 .1), facts .of-challenge), (facts .of-batching, (omega (arith, long, s .pre .1 .0), omega (arith, long, s .pre .1 .1))))
 
 answer-requires-2 : tie.Need-answer-requires-2
 answer-requires-2 c κs =
@@ -105,18 +147,29 @@ same-length-2 c = search needs
 returns-2 : tie.Need-returns-2
 returns-2 c =
     let a = c .before .before .before .before .before .before .before .before .before .before .before .before .before .before .before .before .before .before .before .before .before .before .before .before .args in
-    let r : ℕ → Bool = productIn bits256 (shapeFor (a .s)) (now (a .key)) (now (a .delta)) (now (a .batching)) (now (a .opened)) (now (a .proof)) in
+    let shape = shapeFor (a .s) in
+    let r : ℕ → Bool = productIn bits256 shape (now (a .key)) (now (a .delta)) (now (a .batching)) (now (a .opened)) (now (a .proof)) in
     let p = c .before .before .before .check-product in
-    then-ask _ _ (consistent (c .before .before .before .before .before .before .before)) (go-on (c .before .before .before .before .before .enum-told .given .1) (asked-of-each (a .s .tau) r 15 (p .result) (p .ensures (now (a .opened)) (loaded (c .before .before .before .before .before .before .before .before .before .before .before .before))) (c .answer2 .ensures)))
+    let l = c .before .before .before .before .before .before .before .before .before .before .before .before in
+    let rest = drop (8 * c .before .before .before .before .before .before .before .before .before .before .before .before .before .before .before .before .leaf-bytes .result * lanes) (now (a .space)) in
+    let few = in-limits shape (c .before .before .before .before .before .before .before .before .before .before .before .before .before .before .before .before .before .before .before .before .before .before .before .before .pre .0 .0 .of-key .in-range) .τ-most in
+    let is = opened-begins shape (now (a .delta)) (now (a .opened)) (now (a .proof)) (l .load-opened .last .0) rest few (loaded l) in
+    then-ask _ _ (consistent (c .before .before .before .before .before .before .before)) (go-on (c .before .before .before .before .before .enum-told .given .1) (asked-of-each (a .s .tau) r 15 (p .result) (p .ensures (now (a .opened)) is) (c .answer2 .ensures)))
 
 pub ask-checks-spec : {M : Type 1} → statement M
 ask-checks-spec =
     tie.close
     (tie.spec
     leaf-bytes-requires
+    mul-len
+    mul-len-2
+    slice-relend-prefix-load-opened
+    slice-aggregate-load-opened
     proof-section-requires
     degree-of-requires
     load-opened-requires
+    slice-reshare-prefix-check-consistency
+    slice-aggregate-check-consistency
     check-consistency-requires
     answer-requires
     enum-told

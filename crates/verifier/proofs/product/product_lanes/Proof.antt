@@ -13,7 +13,8 @@ use Rattle.algebra.specs.Coded.{mulByte}
 use Rattle.field.specs.Gf256.{gf256}
 use Rattle.protocol.specs.Shape.{mostVariables}
 use Rattle.strings.specs.Sums.{byteAt}
-use Rattle.lanes.specs.Lanes.{lanes, laneAt}
+use Rattle.lanes.specs.Lanes.{lanes}
+use Rattle.forms_columns.specs.Stacks.{coordinateOf}
 use Rattle.equations.specs.Equations.{rowOf, matrixOf}
 use Rattle.equations.proofs.RowLaws.{zeros}
 use Rattle.forms.specs.Forms.{rowBit}
@@ -36,7 +37,7 @@ slice-aggregate-batch-forms-2 c = search needs
 
 batch-forms-requires : tie.Need-batch-forms-requires
 batch-forms-requires c κs =
-    let s = c .before .before .before .before .before .before .before .before .before .before in
+    let s = c .before .before .before .before .before .before .before .before .before .before .before .before in
     let b = in-limits (shapeFor (s .args .s)) (s .pre .0 .0) in (
       s .pre .1 .0,
       refl,
@@ -47,6 +48,8 @@ batch-forms-requires c κs =
       s .pre .0 .2,
       s .pre .0 .4,
       s .pre .1 .2,
+      s .pre .1 .3,
+      s .pre .1 .4,
       refl,
       zeros-small mostVariables,
       (λ k h. zeros mostVariables k),
@@ -59,7 +62,7 @@ slice-aggregate-batch-values c = search needs
 
 batch-values-requires : tie.Need-batch-values-requires
 batch-values-requires c κs =
-    let s = c .before .before .before .before .before .before .before .before .before .before .before .before .before .before .before in
+    let s = c .before .before .before .before .before .before .before .before .before .before .before .before .before .before .before .before .before .before .before in
     (in-limits (shapeFor (s .args .s)) (s .pre .0 .0) .τ-most, s .pre .0 .4, s .pre .0 .3)
 
 slice-aggregate-accumulate : tie.Need-slice-aggregate-accumulate
@@ -82,23 +85,26 @@ slice-aggregate-accumulate-4 c = search needs
 
 accumulate-requires-3 : tie.Need-accumulate-requires-3
 accumulate-requires-3 c κs =
-    let s = c .before .before .before .before .before .before .before .before .before .before .before .before .before .before .before .before .before .before .before .before .before .before .before .before .before .before .before .before in
-    (c .before .before .before .before .before .before .before .before .accumulate .kept .0 ∙ c .before .before .before .before .before .before .before .before .before .before .before .before .before .before .before .before .before .batch-forms .kept .0 ∙ s .pre .1 .0, c .before .before .before .before .accumulate2 .kept .0, c .before .before .before .before .before .before .before .before .before .before .before .before .batch-values .kept .0)
+    let s = c .before .before .before .before .before .before .before .before .before .before .before .before .before .before .before .before .before .before .before .before .before .before .before .before .before .before .before .before .before .before .before .before in
+    (c .before .before .before .before .before .before .before .before .accumulate .kept .0 ∙ c .before .before .before .before .before .before .before .before .before .before .before .before .before .before .before .before .before .before .before .batch-forms .kept .0 ∙ s .pre .1 .0, c .before .before .before .before .accumulate2 .kept .0, c .before .before .before .before .before .before .before .before .before .before .before .before .batch-values .kept .0)
 
 same-length : tie.Need-same-length
 same-length c = search needs
 
+same-length-2 : tie.Need-same-length-2
+same-length-2 c = search needs
+
 returns : tie.Need-returns
 returns c e h =
-    let s = c .before .before .before .before .before .before .before .before .before .before .before .before .before .before .before .before .before .before .before .before .before .before .before .before .before .before .before .before .before .before .before in
+    let s = c .before .before .before .before .before .before .before .before .before .before .before .before .before .before .before .before .before .before .before .before .before .before .before .before .before .before .before .before .before .before .before .before .before .before .before in
     let a = s .args in
     let n = a .s .n in
     let m = a .s .m in
     let χ = now (a .chi) in
     let δ = byteAt (now (a .delta)) e in
-    let f : ℕ → ℕ = λ k. laneAt (now (a .table)) k e in
+    let f : ℕ → ℕ = coordinateOf (now (a .vectors)) e in
     let lane : e < lanes = omega (arith, in-limits (shapeFor (a .s)) (s .pre .0 .0) .τ-most) in
-    let formed = c .before .before .before .before .before .before .before .before .before .before .before .before .before .before .before .before .before .before .before .before .batch-forms in
+    let formed = c .before .before .before .before .before .before .before .before .before .before .before .before .before .before .before .before .before .before .before .before .before .before .batch-forms in
     let squared = c .before .before .before .before .before .before .before .accumulate2 in
     let linear : byteAt (formed .last .1 .0) e ≡ batchByte m χ e (λ i. rowBit n (rowOf n (now (a .b)) i) f) =
     formed .ensures .1 e h
@@ -124,4 +130,5 @@ product-lanes-spec =
     slice-aggregate-accumulate-4
     accumulate-requires-3
     same-length
+    same-length-2
     returns)
