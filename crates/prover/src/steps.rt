@@ -74,7 +74,7 @@ fn add_forms(
         (now (qs0 .entry)) (now (qs0 .exit)) ⌝ }
     ensures { λ _. ⌜ LanesAdded (s .tau)
         (λ e. middlesByte (s .n) (s .m) (sectionA (alphabetFor s) (shapeFor s) (now (key .entry))) (sectionB (alphabetFor s) (shapeFor s) (now (key .entry)))
-            (bit (now (witness .entry))) (now (batching .entry)) e (coordinateOf (now (vectors .entry)) e))
+        (bit (now (witness .entry))) (now (batching .entry)) e (coordinateOf (now (vectors .entry)) e))
         (now (qs1 .entry)) (now (qs1 .exit)) ⌝ }
 {
     let n = s.n;

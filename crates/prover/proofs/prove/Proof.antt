@@ -78,7 +78,8 @@ rest-into-requires c κs =
       hash-form = c .before .before .before .before .before .before .before .before .before .before .before .before .before .before .before .before .before .before .before .before .pre .of-hash;
       witness-form = c .before .before .before .before .before .before .before .before .before .before .before .before .before .before .before .before .before .before .before .before .pre .of-witness;
       batching-length = c .before .before .before .before .before .before .before .before .before .before .before .before .before .before .before .before .before .before .before .before .pre .of-batching;
-      buffers = c .before .before .before .before .before .before .before .before .before .before .before .load .ensures .buffers; cells-room = omega (arith, c .before .before .before .before .before .before .before .before .before .before .before .load .kept .0);
+      buffers = c .before .before .before .before .before .before .before .before .before .before .before .load .ensures .buffers;
+      cells-room = omega (arith, c .before .before .before .before .before .before .before .before .before .before .before .load .kept .0);
       out-length = rest-length (c .before .before .before .before .before .before .before .before .commit-bytes .result) (16 + bytesFor (c .before .before .before .before .before .before .before .before .before .before .before .before .before .before .before .before .before .before .before .before .args .s .t) + c .before .before .before .before .before .before .before .before .before .before .before .before .before .before .before .before .before .before .before .before .args .s .tau * c .before .before .before .before .before .before .before .before .before .before .before .before .before .before .before .before .before .before .before .before .args .s .t + c .before .before .before .before .before .before .before .before .before .before .before .before .before .before .before .before .before .before .before .before .args .s .tau + c .before .before .before .before .before .before .before .before .before .before .before .before .before .before .before .before .before .before .before .before .args .s .tau) (c .before .before .before .before .before .commit-into .last .0) (now (c .before .before .before .before .before .before .before .before .before .before .before .before .before .before .before .before .before .before .before .before .args .out)) (c .before .before .before .before .before .commit-into .kept .0 ∙ take-length (c .before .before .before .before .before .before .before .before .commit-bytes .result) (now (c .before .before .before .before .before .before .before .before .before .before .before .before .before .before .before .before .before .before .before .before .args .out)) (omega (arith, c .before .before .before .before .before .before .before .before .commit-bytes .ensures ∙ commit-length (shapeFor (c .before .before .before .before .before .before .before .before .before .before .before .before .before .before .before .before .before .before .before .before .args .s)), c .before .before .before .before .before .before .before .before .before .before .before .before .before .before .before .before .before .before .before .before .pre .of-out))) (omega (arith, c .before .before .before .before .before .before .before .before .commit-bytes .ensures ∙ commit-length (shapeFor (c .before .before .before .before .before .before .before .before .before .before .before .before .before .before .before .before .before .before .before .before .args .s)), c .before .before .before .before .before .before .before .before .before .before .before .before .before .before .before .before .before .before .before .before .pre .of-out));
     }
 
