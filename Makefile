@@ -17,8 +17,8 @@ test: ## every proof and every test, from nothing each time (about 25 minutes on
 compare: ## the library against the Rust rendering; words for the comparison in ARGS
 	@. tests/need.sh; lib=$$(library) && sh tests/compare.sh "$$lib" $(ARGS)
 
-bench: ## times beside the same job in C and Rust, and stack; repetitions in ARGS; KEEP=1 adds to bench/history.tsv
-	@sh bench/run.sh $(if $(KEEP),--keep) $(ARGS)
+bench: ## times beside the same job in C and Rust, and stack; repetitions in ARGS; KEEP=1 adds to bench/history.tsv, BEFORE=ARCHIVE times that too
+	@BEFORE="$(BEFORE)" sh bench/run.sh $(if $(KEEP),--keep) $(ARGS)
 
 server: ## the example server: 100,000 mixed calls by two threads, its answers held against the rendering's
 	@sh tests/server.sh $(ARGS)

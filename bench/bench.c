@@ -48,13 +48,22 @@ DECLARE(plain_gcc_)
 DECLARE(plain_clang_)
 DECLARE(rendering_)
 
+/* With BEFORE another archive of the library stands beside this one. */
+#ifdef BEFORE
+DECLARE(before_)
+enum { LIBRARY, BASELINE_GCC, BASELINE_CLANG, PLAIN_GCC, PLAIN_CLANG, EARLIER, RENDERING, PROGRAMS };
+#else
 enum { LIBRARY, BASELINE_GCC, BASELINE_CLANG, PLAIN_GCC, PLAIN_CLANG, RENDERING, PROGRAMS };
+#endif
 static const struct program programs[PROGRAMS] = {
     PROGRAM("library", mq_),
     PROGRAM("C, gcc", baseline_gcc_),
     PROGRAM("C, clang", baseline_clang_),
     PROGRAM("plain, gcc", plain_gcc_),
     PROGRAM("plain, clang", plain_clang_),
+#ifdef BEFORE
+    PROGRAM("before", before_),
+#endif
     PROGRAM("rendering", rendering_),
 };
 
@@ -213,15 +222,23 @@ static void print_times(const char *what, double (*of)(const struct times *), st
     printf("%-10s", what);
     for (int p = 0; p < PROGRAMS; p++)
         printf("%13s", programs[p].name);
-    printf("   library/C  library/plain  rendering/library\n");
+    printf("   library/C  library/plain  rendering/library");
+#ifdef BEFORE
+    printf("  library/before");
+#endif
+    printf("\n");
     for (int call = 0; call < CALLS; call++) {
         printf("%-10s", call_names[call]);
         for (int p = 0; p < PROGRAMS; p++) {
             m[p] = of(&times[p][call]);
             printf("%13.4f", m[p]);
         }
-        printf("%12.2f%15.2f%19.1f\n", m[LIBRARY] / lesser(m[BASELINE_GCC], m[BASELINE_CLANG]),
+        printf("%12.2f%15.2f%19.1f", m[LIBRARY] / lesser(m[BASELINE_GCC], m[BASELINE_CLANG]),
                m[LIBRARY] / lesser(m[PLAIN_GCC], m[PLAIN_CLANG]), m[RENDERING] / m[LIBRARY]);
+#ifdef BEFORE
+        printf("%16.3f", m[LIBRARY] / m[EARLIER]);
+#endif
+        printf("\n");
     }
 }
 

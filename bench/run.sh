@@ -6,6 +6,7 @@
 #
 #   run.sh [--keep] [REPETITIONS]   --keep adds the ratios to bench/history.tsv, where they are kept (those up to
 #                                   981c830 are to an earlier and slower baseline.c)
+#   BEFORE=ARCHIVE run.sh ..        another libsolfadrus.a, of the same interface, is timed beside this one
 #   run.sh --once                   the gate's run: each program is built and makes each call once. The timing program
 #                                   holds the bytes against the library's, and the comparison is left out
 set -eu
@@ -51,8 +52,22 @@ for compiler in gcc clang; do
     done
 done
 
+# The other archive, its six calls under a prefix of their own and nothing else of it to be seen.
+before=
+if [ -n "${BEFORE-}" ]; then
+    before=$work/before.o
+    ld -r --whole-archive "$BEFORE" -o "$before"
+    set_names=
+    for call in test commit hash batch prove verify; do
+        set_names="$set_names --redefine-sym mq_$call=before_$call --keep-global-symbol=before_$call"
+    done
+    # shellcheck disable=SC2086 # the names are words
+    objcopy $set_names "$before"
+fi
+
 cargo build --quiet --release --offline -j1 --manifest-path bench/rendering/Cargo.toml --target-dir "$work/rendering"
-gcc -std=c11 -O2 -Wall -Wextra -Werror -Iinclude -Itests bench/bench.c "$work"/baseline_gcc.o "$work"/baseline_clang.o \
+# shellcheck disable=SC2086 # empty, or one word
+gcc -std=c11 -O2 -Wall -Wextra -Werror -Iinclude -Itests ${before:+-DBEFORE $before} bench/bench.c "$work"/baseline_gcc.o "$work"/baseline_clang.o \
     "$work"/plain_gcc.o "$work"/plain_clang.o "$lib/libsolfadrus.a" "$work/rendering/release/librendering.a" \
     -lpthread -ldl -lm -o "$work/bench"
 echo

@@ -35,12 +35,10 @@ pub const MOST_REPETITIONS: usize = 48;
 
 pub const MOST_HASH_ROWS: usize = 160;
 
-// What the largest key has: the coordinates that a row of H′ covers, the bytes of a leaf, and of a row of H′.
+// What the largest key has: the coordinates that a row of H′ covers, and the bytes of a leaf.
 pub const MOST_HASHED: usize = MOST_VARIABLES + Gf256::DEGREE;
 
 pub const MOST_LEAF: usize = (MOST_HASHED + MOST_HASH_ROWS + 7) / BITS;
-
-pub const MOST_ROW: usize = (MOST_HASHED + 7) / BITS;
 
 // The bytes of n, m, τ, t at the start of a key.
 pub const HEADER: usize = 8;

@@ -33,10 +33,10 @@ use lib.ListN.{length}
 use Rattle.protocol.specs.Lists.{blockAt}
 use Rattle.protocol.specs.Shape.{mostVariables}
 use Rattle.field.specs.Degrees.{degree}
-use Rattle.strings.specs.Sums.{byteAt, bitOf, xorSum}
+use Rattle.strings.specs.Sums.{byteAt, bitOf, xorSum, maskByte}
 use Rattle.chunks.specs.Chunks.{chunk, cellAt}
 use Rattle.forms_folds.specs.Folds.{foldedBit}
-use Rattle.forms_columns.specs.Stacks.{byteProduct, maskByte}
+use Rattle.forms_columns.specs.Stacks.{byteProduct}
 
 abbrev pub chunkBits : ℕ
 chunkBits = 8 * chunk

@@ -10,11 +10,11 @@ ghost use lib.ListN.{length};
 ghost use lib.Bits.{bitXor, bitAnd};
 ghost use Rattle.protocol.specs.Shape.{mostVariables};
 ghost use Rattle.field.specs.Degrees.{degree};
-ghost use Rattle.strings.specs.Sums.{byteAt, bitOf, xorSum};
+ghost use Rattle.strings.specs.Sums.{byteAt, bitOf, xorSum, byteValues};
 ghost use Rattle.strings.specs.Rows.{RowsKept};
 ghost use Rattle.lanes.specs.Lanes.{lanes};
 ghost use Rattle.chunks.specs.Chunks.{mostBlock, chunk, cellAt};
-ghost use Rattle.forms_choices.specs.Entries.{mostSums, lookedUp, byteValues, InWords, IsBytes, ChosenAll, WordsFit, GroupsFor, Weighed};
+ghost use Rattle.forms_choices.specs.Entries.{mostSums, lookedUp, InWords, IsBytes, ChosenAll, WordsFit, GroupsFor, Weighed};
 ghost use Rattle.forms_columns.specs.Stacks.{byteProduct};
 ghost use Rattle.forms_batching.specs.Batched.{WeighedAll, VectorsFit, SumsRoom};
 ghost use Rattle.forms_batching.specs.Lines.{chunkBits, LinesFit, lineByte, PartCells, leftByte, LeftAdded, LinesBeside, weighedLine, lineProduct, VectorsEnd, lineForm};
@@ -63,7 +63,8 @@ fn add_masked(acc: &mut [u8; CHUNK], cells: &[u8], at: usize, bits: &[u8], from:
 // Chunk i of the sums becomes the sum of the chunks of matrix i, in the rows whose bits are set: those of `rows`
 // sixteens, the first of which is the sixteen `top` of the matrix.
 fn sum_left(sums: &mut [u8], i: usize, cells: &[u8], bits: &[u8], m: usize, top: usize, rows: usize)
-    requires { ⌜ (i < m) × (m * chunk ≤ length (now sums)) × PartCells m rows (now cells) × (length (now bits) ≡ mostVariables) × (m ≤ mostBlock) × ((top + rows) * 16 ≤ mostVariables) ⌝ }
+    requires { ⌜ (i < m) × (m * chunk ≤ length (now sums)) × PartCells m rows (now cells) × (length (now bits) ≡ mostVariables)
+        × (m ≤ mostBlock) × ((top + rows) * 16 ≤ mostVariables) ⌝ }
     ensures { λ _. ⌜ ((k : ℕ) → k < chunk → cellAt (now (sums .exit)) i k ≡ leftByte (now (cells .entry)) m (now (bits .entry)) i top rows k) ⌝ }
     ensures { λ _. ⌜ RowsKept chunk i (now (sums .entry)) (now (sums .exit)) ⌝ }
 {
@@ -84,7 +85,8 @@ fn sum_left(sums: &mut [u8], i: usize, cells: &[u8], bits: &[u8], m: usize, top:
 
 // The same for each of the m matrices.
 fn sum_each(sums: &mut [u8], cells: &[u8], bits: &[u8], m: usize, top: usize, rows: usize)
-    requires { ⌜ (m * chunk ≤ length (now sums)) × PartCells m rows (now cells) × (length (now bits) ≡ mostVariables) × (m ≤ mostBlock) × ((top + rows) * 16 ≤ mostVariables) ⌝ }
+    requires { ⌜ (m * chunk ≤ length (now sums)) × PartCells m rows (now cells) × (length (now bits) ≡ mostVariables)
+        × (m ≤ mostBlock) × ((top + rows) * 16 ≤ mostVariables) ⌝ }
     ensures { λ _. ⌜ ((i k : ℕ) → i < m → k < chunk → cellAt (now (sums .exit)) i k ≡ leftByte (now (cells .entry)) m (now (bits .entry)) i top rows k) ⌝ }
 {
     let mut i = 0;

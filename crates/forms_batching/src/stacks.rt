@@ -7,11 +7,11 @@ ghost use lib.ListN.{length};
 ghost use lib.Bits.{bitXor};
 ghost use Rattle.protocol.specs.Shape.{mostVariables};
 ghost use Rattle.field.specs.Degrees.{degree};
-ghost use Rattle.strings.specs.Sums.{byteAt};
+ghost use Rattle.strings.specs.Sums.{byteAt, byteValues};
 ghost use Rattle.strings.specs.Rows.{RowsKept};
 ghost use Rattle.lanes.specs.Lanes.{lanes, laneAt};
 ghost use Rattle.chunks.specs.Chunks.{chunk, Masks};
-ghost use Rattle.forms_choices.specs.Entries.{byteValues, mostSums, upTo, InWords, WordsFit, Weighed};
+ghost use Rattle.forms_choices.specs.Entries.{mostSums, upTo, InWords, WordsFit, Weighed};
 ghost use Rattle.forms_columns.specs.Stacks.{byteProduct, planes, stackAt, stackOf, coordinateOf, VectorsRoom, StacksFit};
 ghost use Rattle.forms_batching.specs.Batched.{weighedBit, WeighedAll, VectorsFit, VectorsAre, SixteenTurned, BesideSixteen, rowTimes, CollectFits, Collected};
 ghost use Rattle.forms_batching.specs.Lines.{VectorsEnd};
@@ -29,6 +29,9 @@ use strings::SIXTEEN;
 
 // A mask for each bit of an element, each a chunk.
 const MASKS: usize = Gf256::DEGREE * CHUNK;
+
+// The vectors of as many repetitions as there are lanes, one after the other.
+pub const VECTORS: usize = LANES * MOST_VARIABLES;
 
 // The sixteens of coordinates of a vector.
 const VECTOR_SIXTEENS: usize = MOST_VARIABLES / SIXTEEN;
@@ -206,8 +209,8 @@ fn absorb_lanes(
 }
 
 // Adds to the stacks `rows` sixteens of rows of a panel of the batched matrix, from the sixteen `top` on, each row
-// times its coordinate of the vectors. The cells hold these rows. The batching bytes are public, and so are the tables that
-// they index; `sums` is space for these.
+// times its coordinate of the vectors. The cells hold these rows. The batching bytes are public, and so are the tables
+// that they index; `sums` is space for these.
 pub fn collect(
     stacks: &mut [u8],
     sums: &mut [u8],

@@ -1,5 +1,5 @@
 -- The table of the sums of each five rows of a table of chunks, and the entries of it that the bits of bytes choose.
---   byteValues == the values of a byte;  fives == the fives of the most equations of a block;  mostSums == the bytes of
+--   fives == the fives of the most equations of a block;  mostSums == the bytes of
 --     the longest table of sums: of 32 entries for each of these fives
 --   twoSixteens == the bytes of two sixteens of fives, eight rows each;  picksBytes == the bytes of the numbers of all
 --     fives, for each bit of a byte, with room for ten where the last two begin
@@ -34,11 +34,8 @@ use mathlib.Core.List.{List}
 use Prim.Native.Nat.{ℕ, _+_, _*_, _/_, _%_, _^_, _≤_, _<_}
 use lib.Dec.{ltb}
 use lib.ListN.{length}
-use Rattle.strings.specs.Sums.{byteAt, bitOf, xorSum}
+use Rattle.strings.specs.Sums.{byteAt, bitOf, xorSum, byteValues}
 use Rattle.chunks.specs.Chunks.{mostBlock, chunk, cellAt}
-
-abbrev pub byteValues : ℕ
-byteValues = 256
 
 abbrev pub fives : ℕ
 fives = mostBlock / 5

@@ -93,7 +93,8 @@ fn put_rows(words: &mut [u64], e: usize, picks: &[u8])
 // The rows of repetition e, whose m bytes stand in chi from `at` on.
 fn fill_repetition(words: &mut [u64], e: usize, chi: &[u8], at: usize, m: usize)
     requires { ⌜ (m ≤ mostBlock) × ((e * 8 + 8) * 4 ≤ length (now words)) × (at + m ≤ length (now chi)) ⌝ }
-    ensures { λ _. ⌜ ((χ : ℕ → ℕ → ℕ) (p : ℕ) → p < 8 → ((i : ℕ) → i < m → χ e i ≡ byteAt (now (chi .entry)) (at + i)) → Chosen χ m (now (words .exit)) (e * 8 + p)) ⌝ }
+    ensures { λ _. ⌜ ((χ : ℕ → ℕ → ℕ) (p : ℕ) → p < 8 → ((i : ℕ) → i < m → χ e i ≡ byteAt (now (chi .entry)) (at + i))
+        → Chosen χ m (now (words .exit)) (e * 8 + p)) ⌝ }
     ensures { λ _. ⌜ ((q k : ℕ) → q < e * 8 → k < 4 → byteAt (now (words .exit)) (q * 4 + k) ≡ byteAt (now (words .entry)) (q * 4 + k)) ⌝ }
 {
     let mut bytes = [0u8; BYTES];

@@ -23,7 +23,6 @@
 --   StacksFit tau T == T has a stack for each repetition below tau
 --   ColumnsFit, PanelFits == these have the lengths of lanes, of sixteen coordinates and of bits, and the
 --     columns are among the bits
---   maskByte == the mask of a bit that is set
 --   MasksAt v f masks == the masks have at byte f those of the bits of v
 -- Assumes nothing.
 use mathlib.Core.Path.{_≡_}
@@ -34,7 +33,7 @@ use lib.ListN.{length}
 use Rattle.algebra.specs.Coded.{mulByte, powByte}
 use Rattle.field.specs.Degrees.{fieldOf, degree}
 use Rattle.protocol.specs.Shape.{mostVariables}
-use Rattle.strings.specs.Sums.{byteAt, bitOf, xorSum}
+use Rattle.strings.specs.Sums.{byteAt, bitOf, xorSum, maskByte}
 use Rattle.lanes.specs.Lanes.{lanes, laneAt}
 use Rattle.chunks.specs.Chunks.{chunk}
 
@@ -101,9 +100,6 @@ abbrev pub PanelFits : List ℕ → List ℕ → List ℕ → ℕ → ℕ → Li
 PanelFits quad mid stacks panel tau vectors xs =
     (length quad ≡ lanes) × (length mid ≡ lanes) × (tau ≤ lanes) × StacksFit tau stacks × VectorsRoom vectors
     × (panel * 16 + 16 ≤ mostVariables) × (mostVariables ≤ length xs) × IsBits xs
-
-abbrev pub maskByte : ℕ
-maskByte = 255
 
 abbrev pub MasksAt : ℕ → ℕ → List ℕ → Type 0
 MasksAt v f masks = (b : ℕ) → b < 8 → byteAt masks (b * chunk + f) ≡ bitOf v b * maskByte

@@ -14,6 +14,8 @@ use chunks::CHUNK;
 use field::Gf256;
 use lanes::LANES;
 use strings::BITS;
+use strings::BYTE_VALUES;
+use strings::MASK_BYTE;
 use strings::SIXTEEN;
 use strings::word_at;
 
@@ -24,12 +26,6 @@ pub const PLANES: usize = 2 * Gf256::DEGREE - 1;
 
 // The bytes of a stack.
 pub const STACK: usize = PLANES * CHUNK;
-
-// The values of a byte.
-const BYTE_VALUES: u64 = 256;
-
-// The mask of a bit that is set.
-pub const MASK_BYTE: u8 = 255;
 
 // A byte of each plane of a stack, for all repetitions.
 const GATHERED: usize = PLANES * LANES;

@@ -115,7 +115,8 @@ fn fill_entries(entries: &mut [u8], table: &[u8], from: usize, len: usize)
 // Byte e·t + ρ is row ρ of H·v_e, for the vectors v_e of the table (the verifier's are W_e). The table of sums is
 // needed here only, and so is off the stack when the batch step, the deepest, begins.
 pub fn hash_all(out: &mut [u8], matrix: &[u8], table: &[u8], s: Sizes)
-    requires { ⌜ (limits (shapeFor s) ≡ true) × HashForm (alphabetFor s) (shapeFor s) (now matrix) × (length (now table) ≡ 8 * wOf (alphabetFor s) (shapeFor s) * lanes) × (length (now out) ≡ s .tau * s .t) ⌝ }
+    requires { ⌜ (limits (shapeFor s) ≡ true) × HashForm (alphabetFor s) (shapeFor s) (now matrix)
+        × (length (now table) ≡ 8 * wOf (alphabetFor s) (shapeFor s) * lanes) × (length (now out) ≡ s .tau * s .t) ⌝ }
     ensures { λ _. ⌜ Hashed (now (matrix .entry)) (bytesFor (kOf (alphabetFor s) (shapeFor s))) (kOf (alphabetFor s) (shapeFor s)) (s .t) (s .tau) (now (table .entry)) (now (out .exit)) ⌝ }
 {
     let k = format::sizes::hashed_bits(s);

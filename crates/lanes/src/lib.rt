@@ -12,6 +12,7 @@ use field::Gf256;
 use format::Sizes;
 use format::sizes::MOST_REPETITIONS;
 use format::sizes::mask_at;
+use strings::MASK_BYTE;
 
 // As many as a key may have repetitions (01: 1..48). Lanes from a key's own number on hold anything. The stride is
 // fixed, so that loops over it have a constant length.
@@ -43,7 +44,7 @@ pub fn add_masked(acc: &mut [u8], bit: u8, src: &[u8])
     requires { ⌜ (length (now acc) ≡ lanes) × (length (now src) ≡ lanes) × (bit < 2) ⌝ }
     ensures { λ _. ⌜ ((e : ℕ) → e < lanes → byteAt (now (acc .exit)) e ≡ bitXor (byteAt (now (acc .entry)) e) (bit * byteAt (now (src .entry)) e)) ⌝ }
 {
-    let mask = bit * 255;
+    let mask = bit * MASK_BYTE;
     let mut e = 0;
     while e < LANES {
         acc[e] ^= src[e] & mask;
@@ -94,7 +95,8 @@ fn mask_byte(u: &[u8], at: usize) -> u8
     sum
 }
 
-// acc[e] ^= Σ α^i·u[at + i], where `at` is the first mask coordinate of repetition e: its mask A*₁ (01, prover's rules).
+// acc[e] ^= Σ α^i·u[at + i], where `at` is the first mask coordinate of repetition e: its mask A*₁ (01, prover's
+// rules).
 pub fn add_mask_bits(acc: &mut [u8], u: &[u8], s: Sizes)
     requires { ⌜ (length (now acc) ≡ lanes) × MaskBitsIn s (now u) ⌝ }
     ensures { λ _. ⌜ LanesAdded (s .tau) (λ e. maskBits (now (u .entry)) (firstMask s e)) (now (acc .entry)) (now (acc .exit)) ⌝ }

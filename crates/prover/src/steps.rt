@@ -13,17 +13,14 @@ use super::framed::write_d;
 use super::framed::write_u;
 use super::framed::write_v;
 use format::Sizes;
-use format::sizes::MOST_VARIABLES;
 use format::sizes::bytes_for;
 use format::sizes::leaf_bytes;
+use forms_batching::stacks::VECTORS;
 use forms_batching::stacks::fill_vectors;
 use lanes::Dimensions;
 use lanes::LANES;
 use sections::COUNT;
 use sections::frames::put_two;
-
-// The vectors of as many repetitions as there are lanes.
-const VECTORS: usize = LANES * MOST_VARIABLES;
 
 // C and d.
 pub fn commit_into(out: &mut [u8], witness: &[u8], sums: &[u8], s: Sizes)

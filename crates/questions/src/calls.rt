@@ -63,7 +63,8 @@ fn prove_inputs(
     s: Sizes,
 ) -> Verdict
     requires { ⌜ limits (shapeFor s) ≡ true ⌝ }
-    ensures { λ r. ⌜ answerOf r ≡ ask (proveInputs (alphabetFor s) (shapeFor s) (now (leaves .entry)) (now (witness .entry)) (now («hash_matrix» .entry)) (now (batching .entry)) «out_len») ⌝ }
+    ensures { λ r. ⌜ answerOf r ≡ ask (proveInputs (alphabetFor s) (shapeFor s)
+        (now (leaves .entry)) (now (witness .entry)) (now («hash_matrix» .entry)) (now (batching .entry)) «out_len») ⌝ }
 {
     let exact = hash_matrix_exact(hash_matrix, s) & batching_exact(batching, s);
     let asked = hash_matrix_form(exact, hash_matrix, s);

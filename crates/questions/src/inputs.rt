@@ -64,7 +64,8 @@ pub fn hash_matrix_form(exact: bool, hash_matrix: &[u8], s: Sizes) -> Verdict
 // Questions 7 and 8, of so many leaves for each repetition.
 pub fn leaves_form(so_far: Verdict, leaves: &[u8], s: Sizes, per: usize) -> Verdict
     requires { ⌜ (limits (shapeFor s) ≡ true) × (per ≤ 256) ⌝ }
-    ensures { λ r. ⌜ answerOf r ≡ andThen (answerOf «so_far») (ask (q7 (alphabetFor s) (shapeFor s) per (now (leaves .entry)) ∷ q8 (alphabetFor s) (shapeFor s) per (now (leaves .entry)) ∷ [])) ⌝ }
+    ensures { λ r. ⌜ answerOf r ≡ andThen (answerOf «so_far»)
+        (ask (q7 (alphabetFor s) (shapeFor s) per (now (leaves .entry)) ∷ q8 (alphabetFor s) (shapeFor s) per (now (leaves .entry)) ∷ [])) ⌝ }
 {
     let Verdict::Accepted = so_far else {
         return so_far;

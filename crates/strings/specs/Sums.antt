@@ -3,12 +3,19 @@
 --   xorSum n f == f 0 + … + f (n - 1), the sum being exclusive or
 --   selected n row table width b == byte b of the sum of those of the n rows of a table whose bit is set in the bit
 --     string `row`
+--   byteValues == the values of a byte;  maskByte == the mask of a bit that is set: all bits of a byte
 -- Assumes nothing.
 use mathlib.Core.List.{List}
 use Prim.Native.Nat.{ℕ, zero, suc, _+_, _*_, _/_, _%_, _^_}
 use lib.ListN.{getD}
 use lib.Bits.{bitXor}
 use Rattle.protocol.specs.Strings.{bit}
+
+abbrev pub byteValues : ℕ
+byteValues = 256
+
+abbrev pub maskByte : ℕ
+maskByte = 255
 
 abbrev pub byteAt : List ℕ → ℕ → ℕ
 byteAt s i = getD s i 0

@@ -12,6 +12,11 @@ ghost use Rattle.strings.specs.Sums.{byteAt};
 ghost use Rattle.strings.specs.Rows.{RowAdded, RowsKept};
 ghost use Rattle.strings.specs.Words.{wordOf};
 
+// The values of a byte, and the mask of a bit that is set: all bits of a byte.
+pub const BYTE_VALUES: u64 = 256;
+
+pub const MASK_BYTE: u8 = 255;
+
 // The bits of a byte.
 pub const BITS: usize = 8;
 

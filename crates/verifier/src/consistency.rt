@@ -103,7 +103,8 @@ fn check_hashed(
     places: Places,
     s: Sizes,
 ) -> usize
-    requires { ⌜ (limits (shapeFor s) ≡ true) × HashForm (alphabetFor s) (shapeFor s) (now matrix) × PlacesOf (alphabetFor s) (shapeFor s) (now proof) places × (length (now delta) ≡ s .tau) ⌝ }
+    requires { ⌜ (limits (shapeFor s) ≡ true) × HashForm (alphabetFor s) (shapeFor s) (now matrix)
+        × PlacesOf (alphabetFor s) (shapeFor s) (now proof) places × (length (now delta) ≡ s .tau) ⌝ }
     requires { ⌜ (length (now table) ≡ 8 * wOf (alphabetFor s) (shapeFor s) * lanes) × (length (now hashed) ≡ s .tau * s .t) ⌝ }
     ensures { λ r. ⌜ FirstInconsistent (alphabetFor s) (shapeFor s) (now (delta .entry)) (now (matrix .entry)) (now (proof .entry)) (now (table .entry)) r ⌝ }
 {
@@ -127,7 +128,8 @@ pub fn check_consistency(
     places: Places,
     s: Sizes,
 ) -> usize
-    requires { ⌜ (limits (shapeFor s) ≡ true) × HashForm (alphabetFor s) (shapeFor s) (now matrix) × PlacesOf (alphabetFor s) (shapeFor s) (now proof) places × (length (now delta) ≡ s .tau) ⌝ }
+    requires { ⌜ (limits (shapeFor s) ≡ true) × HashForm (alphabetFor s) (shapeFor s) (now matrix)
+        × PlacesOf (alphabetFor s) (shapeFor s) (now proof) places × (length (now delta) ≡ s .tau) ⌝ }
     requires { ⌜ length (now table) ≡ 8 * wOf (alphabetFor s) (shapeFor s) * lanes ⌝ }
     ensures { λ r. ⌜ FirstInconsistent (alphabetFor s) (shapeFor s) (now (delta .entry)) (now (matrix .entry)) (now (proof .entry)) (now (table .entry)) r ⌝ }
 {

@@ -20,6 +20,7 @@ use format::sizes::MOST_VARIABLES;
 use format::sizes::Sizes;
 use forms::batch::Forms;
 use forms::batch::batch_forms;
+use forms_batching::stacks::VECTORS;
 use forms_batching::stacks::fill_vectors;
 use lanes::LANES;
 use questions::proof::D;
@@ -27,9 +28,6 @@ use questions::proof::QS0;
 use questions::proof::QS1;
 use questions::proof::proof_section;
 use sections::reader::Places;
-
-// The vectors of as many repetitions as a key may have, one after the other.
-const VECTORS: usize = LANES * MOST_VARIABLES;
 
 // Adds δ_e to coordinate c of each lane, where the bit is set.
 fn add_bit(table: &mut [u8], c: usize, bit: u8, delta: &[u8])

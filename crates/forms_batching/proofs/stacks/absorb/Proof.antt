@@ -10,12 +10,12 @@ use denote.Ref.{now}
 use lib.ListN.{length}
 use lib.Bits.{bitXor, xor-zero-r}
 use Rattle.field.specs.Degrees.{fieldOf, degreeOf, degree}
-use Rattle.strings.specs.Sums.{byteAt, bitOf, xorSum}
+use Rattle.strings.specs.Sums.{byteAt, bitOf, xorSum, byteValues}
 use Rattle.strings.proofs.XorLaws.{xor-assoc}
 use Rattle.strings.proofs.SumLaws.{sum-same, sum-step}
 use Rattle.strings.proofs.Meaning.{bitOf-lt, bitOf-sum, bit-times}
 use Rattle.chunks.specs.Chunks.{chunk, cellAt, Masks}
-use Rattle.forms_choices.specs.Entries.{byteValues, lookedUp, Weighed}
+use Rattle.forms_choices.specs.Entries.{lookedUp, Weighed}
 use Rattle.forms_choices.proofs.ChoiceLaws.{chosen-sum}
 use Rattle.forms_columns.specs.Stacks.{alpha, byteProduct, planes, stackAt}
 use Rattle.forms_batching.proofs.StackLaws.{planes-added}
