@@ -59,7 +59,7 @@ fn add_chosen(dst: &mut [u8; LANES], b: usize, x: u8, sums: &[u8])
     add_lanes(dst, sums, first + PER_GROUP + wide(x / 16));
 }
 
-// out[e] += Σ row(c)·T[c][e] over the n coordinates of the table T that was summed: two additions for eight coordinates.
+// out[e] += Σ row(c)·T[c][e] over the n coordinates of the table T that was summed: two additions for each eight.
 pub fn look_up_row(out: &mut [u8], row: &[u8], sums: &[u8])
     requires { ⌜ (length (now out) ≡ lanes) × (length (now row) * 32 * lanes ≤ length (now sums)) ⌝ }
     ensures { λ _. ⌜ RowSelected (now (row .entry)) (now (sums .entry)) (now (out .entry)) (now (out .exit)) ⌝ }

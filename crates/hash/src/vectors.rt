@@ -3,6 +3,7 @@ ghost use mathlib.Core.Path.{_≡_};
 ghost use mathlib.Core.Bool.{true};
 ghost use Prim.Native.Nat.{ℕ, _+_, _*_, _<_, _≤_};
 ghost use lib.ListN.{length};
+ghost use Rattle.protocol.specs.Lists.{part};
 ghost use Rattle.protocol.specs.Strings.{bytesFor};
 ghost use Rattle.protocol.specs.Binary.{bits256};
 ghost use Rattle.protocol.specs.Shape.{limits, kOf, wOf};
@@ -28,6 +29,14 @@ struct Block {
     k: usize,
     t: usize,
     tau: usize,
+}
+
+// `len` bytes of s from `at` on, as that part of it.
+fn part_of(s: &[u8], at: usize, len: usize) -> &[u8]
+    requires { ⌜ at + len ≤ length (now s) ⌝ }
+    ensures { λ r. ⌜ (now r ≡ part (now (s .entry)) at len) × (length (now r) ≡ len) ⌝ }
+{
+    &s[at..at + len]
 }
 
 // Takes the lanes below tau from column rho of a table of rows of t bytes, one row for each repetition.
@@ -81,10 +90,10 @@ fn hash_row(out: &mut [u8], matrix: &[u8], table: &[u8], sums: &[u8], rho: usize
     let t = b.t;
     let tau = b.tau;
     let at = rho * b.width + b.from;
-    let end = at + b.len;
+    let len = b.len;
     let mut column = [0u8; LANES];
     start_column(&mut column, out, table, rho, b);
-    super::lookups::look_up_row(&mut column, &matrix[at..end], sums);
+    super::lookups::look_up_row(&mut column, part_of(matrix, at, len), sums);
     put_column(out, rho, t, tau, &column);
 }
 
@@ -109,8 +118,8 @@ fn fill_entries(entries: &mut [u8], table: &[u8], from: usize, len: usize)
 {
     let rows = len * BITS;
     let at = from * BITS * LANES;
-    let end = at + rows * LANES;
-    super::lookups::fill_sums(entries, len * PER_BYTE, rows, &table[at..end]);
+    let front = part_of(table, at, rows * LANES);
+    super::lookups::fill_sums(entries, len * PER_BYTE, rows, front);
 }
 
 // Byte e·t + ρ is row ρ of H·v_e, for the vectors v_e of the table (the verifier's are W_e). The table of sums is

@@ -1,9 +1,8 @@
 -- `hash::vectors::hash_row` meets its contract: what the block's bytes of the row select is added (`FrontLaws`).
 -- Assumes nothing.
-use mathlib.Core.Path.{_≡_, ap, _∙_}
+use mathlib.Core.Path.{_≡_, ap₂, _∙_}
 use mathlib.Core.List.{List}
-use Prim.Native.Nat.{ℕ, _+_, _*_, _-_, _≤_, _<_}
-use native.Mathlib.Nat.{add-sub-cancel-left}
+use Prim.Native.Nat.{ℕ, _+_, _*_, _<_}
 use native.Mathlib.Omega.{arith}
 use denote.Ref.{now}
 use lib.Bits.{bitXor}
@@ -28,11 +27,6 @@ add-at c =
     let a = c .before .before .before .before .before .before .args in
     omega (arith, row-end (a .rho) (a .b .t) (a .b .width) (c .before .before .before .before .before .before .pre .0 .1), c .before .before .before .before .before .before .pre .0 .0 .1, c .before .before .before .before .before .before .pre .0 .0 .6)
 
-add-end : tie.Need-add-end
-add-end c =
-    let a = c .before .before .before .before .before .before .before .args in
-    omega (arith, row-end (a .rho) (a .b .t) (a .b .width) (c .before .before .before .before .before .before .before .pre .0 .1), c .before .before .before .before .before .before .before .pre .0 .0 .1, c .before .before .before .before .before .before .before .pre .0 .0 .6)
-
 slice-aggregate-start-column : tie.Need-slice-aggregate-start-column
 slice-aggregate-start-column c = search needs
 
@@ -42,16 +36,10 @@ start-column-requires c κs = search needs
 slice-aggregate-look-up-row : tie.Need-slice-aggregate-look-up-row
 slice-aggregate-look-up-row c = search needs
 
-sub-look-up-row : tie.Need-sub-look-up-row
-sub-look-up-row c = search needs
-
-part-look-up-row-start : tie.Need-part-look-up-row-start
-part-look-up-row-start c = search needs
-
-part-look-up-row-end : tie.Need-part-look-up-row-end
-part-look-up-row-end c =
-    let a = c .before .before .before .before .before .before .before .before .before .before .before .before .args in
-    omega (arith, row-end (a .rho) (a .b .t) (a .b .width) (c .before .before .before .before .before .before .before .before .before .before .before .before .pre .0 .1), c .before .before .before .before .before .before .before .before .before .before .before .before .pre .0 .0 .1, c .before .before .before .before .before .before .before .before .before .before .before .before .pre .0 .0 .6)
+part-of-requires : tie.Need-part-of-requires
+part-of-requires c κs =
+    let a = c .before .before .before .before .before .before .before .before .before .before .before .args in
+    omega (arith, row-end (a .rho) (a .b .t) (a .b .width) (c .before .before .before .before .before .before .before .before .before .before .before .pre .0 .1), c .before .before .before .before .before .before .before .before .before .before .before .pre .0 .0 .1, c .before .before .before .before .before .before .before .before .before .before .before .pre .0 .0 .6)
 
 look-up-row-requires : tie.Need-look-up-row-requires
 look-up-row-requires c κs = search needs
@@ -68,27 +56,23 @@ same-length c = search needs
 returns : tie.Need-returns
 unfolding part
 returns c =
-    let a = c .before .before .before .before .before .before .before .before .before .before .before .before .before .before .before .before .before .before .before .before .args in
+    let a = c .before .before .before .before .before .before .before .before .before .before .before .before .before .before .before .before .before .before .before .args in
     let b = a .b in
     let H = now (a .matrix) in
     let T = now (a .table) in
     let at = a .rho * b .width + b .from in
-    let fits : at + b .len ≤ length H = omega (arith, row-end (a .rho) (b .t) (b .width) (c .before .before .before .before .before .before .before .before .before .before .before .before .before .before .before .before .before .before .before .before .pre .0 .1), c .before .before .before .before .before .before .before .before .before .before .before .before .before .before .before .before .before .before .before .before .pre .0 .0 .1, c .before .before .before .before .before .before .before .before .before .before .before .before .before .before .before .before .before .before .before .before .pre .0 .0 .6) in
-    let cut : at + b .len - at ≡ b .len = add-sub-cancel-left at (b .len) in
-    let row : List ℕ = part H at (b .len) in
     let table : List ℕ = part T (b .from * 8 * lanes) (b .len * 8 * lanes) in
-    let long-row : length row ≡ b .len = simp (length-take, length-drop) (omega (arith, fits)) in
-    let long : length table ≡ b .len * 8 * lanes = simp (length-take, length-drop) (omega (arith, c .before .before .before .before .before .before .before .before .before .before .before .before .before .before .before .before .before .before .before .before .pre .0 .0 .5, c .before .before .before .before .before .before .before .before .before .before .before .before .before .before .before .before .before .before .before .before .pre .0 .0 .6)) in
-    let looked = rw (cut, long-row) at (c .before .before .before .before .before .before .look-up-row .ensures) in
+    let long : length table ≡ b .len * 8 * lanes = simp (length-take, length-drop) (omega (arith, c .before .before .before .before .before .before .before .before .before .before .before .before .before .before .before .before .before .before .before .pre .0 .0 .5, c .before .before .before .before .before .before .before .before .before .before .before .before .before .before .before .before .before .before .before .pre .0 .0 .6)) in
+    let looked = rw (c .before .before .before .before .before .before .before .part-of .ensures .1) at (c .before .before .before .before .before .before .look-up-row .ensures) in
     let start : (e : ℕ) → e < b .tau → e < lanes → byteAt (c .before .before .before .before .before .before .before .before .before .before .start-column .last .0) e ≡ frontLane H (b .width) (b .k) T (b .from) (a .rho) e =
     λ e h l.
     front-start H T (b .width) (b .k) (b .from) (a .rho) e (byteAt (c .before .before .before .before .before .before .before .before .before .before .start-column .last .0) e) (λ z. c .before .before .before .before .before .before .before .before .before .before .start-column .ensures .0 z e l)
-    (λ pos. c .before .before .before .before .before .before .before .before .before .before .start-column .ensures .1 pos e h ∙ c .before .before .before .before .before .before .before .before .before .before .before .before .before .before .before .before .before .before .before .before .pre .1 .1 pos e h) in (
+    (λ pos. c .before .before .before .before .before .before .before .before .before .before .start-column .ensures .1 pos e h ∙ c .before .before .before .before .before .before .before .before .before .before .before .before .before .before .before .before .before .before .before .pre .1 .1 pos e h) in (
       (λ e h.
-          let l : e < lanes = omega (arith, h, c .before .before .before .before .before .before .before .before .before .before .before .before .before .before .before .before .before .before .before .before .pre .0 .0 .2) in
-          c .before .before .put-column .ensures .0 e h ∙ looked table (b .len * 8) e (c .before .before .before .before .before .before .before .before .before .before .before .before .before .before .before .before .before .before .before .before .pre .1 .0) long (omega arith) l
-          ∙ ap (λ x. bitXor x (selected (b .len * 8) row table lanes e)) (start e h l)
-          ∙ front-more H T (b .width) (b .k) (b .from) (b .len) (a .rho) e (c .before .before .before .before .before .before .before .before .before .before .before .before .before .before .before .before .before .before .before .before .pre .0 .0 .6) l),
+          let l : e < lanes = omega (arith, h, c .before .before .before .before .before .before .before .before .before .before .before .before .before .before .before .before .before .before .before .pre .0 .0 .2) in
+          c .before .before .put-column .ensures .0 e h ∙ looked table (b .len * 8) e (c .before .before .before .before .before .before .before .before .before .before .before .before .before .before .before .before .before .before .before .pre .1 .0) long (omega arith) l
+          ∙ ap₂ (λ (x : ℕ) (r : List ℕ). bitXor x (selected (b .len * 8) r table lanes e)) (start e h l) (c .before .before .before .before .before .before .before .part-of .ensures .0)
+          ∙ front-more H T (b .width) (b .k) (b .from) (b .len) (a .rho) e (c .before .before .before .before .before .before .before .before .before .before .before .before .before .before .before .before .before .before .before .pre .0 .0 .6) l),
       c .before .before .put-column .ensures .1,
     )
 
@@ -98,13 +82,10 @@ hash-row-spec =
     (tie.spec
     mul-at
     add-at
-    add-end
     slice-aggregate-start-column
     start-column-requires
     slice-aggregate-look-up-row
-    sub-look-up-row
-    part-look-up-row-start
-    part-look-up-row-end
+    part-of-requires
     look-up-row-requires
     slice-aggregate-put-column
     put-column-requires
