@@ -1,10 +1,10 @@
 -- The most that a key within the limits has of what follows from its sizes. The limits themselves are 01's: n, m, τ, t
--- are at most mostVariables, mostEquations, mostRepetitions, mostHashRows (protocol/specs/Shape). In the code the same
--- names stand in src/sizes.rt.
+-- are at most mostVariables, mostEquations, mostRepetitions, mostHashRows (protocol/specs/Shape). In the code
+-- mostHashed and mostLeaf stand in src/sizes.rt too.
 --   mostHashed == the most k, the coordinates that a row of H′ covers: the most n, and the field's degree
 --   mostLeaf == the most w, the bytes of a leaf: those of mostHashed and mostHashRows bits
 --   mostRow == the most bytes of a row of H′: those of mostHashed bits
--- Each is ⌈bits/8⌉ written out, not bytesFor, so that it computes in every proof that cites it.
+-- The last two are ⌈bits/8⌉ written out, not bytesFor, so that they compute in every proof that cites them.
 -- Assumes nothing.
 use Prim.Native.Nat.{ℕ, _+_, _/_}
 use Rattle.field.specs.Gf256.{gf256}

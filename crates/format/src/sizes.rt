@@ -109,7 +109,7 @@ pub fn mask_at(s: Sizes, e: usize) -> usize
     s.n
 }
 
-// k = n + 8: the coordinates that a row of H′ covers.
+// k = n + the degree: the coordinates that a row of H′ covers.
 pub fn hashed_bits(s: Sizes) -> usize
     requires { ⌜ limits (shapeFor s) ≡ true ⌝ }
     ensures { λ r. ⌜ r ≡ kOf (alphabetFor s) (shapeFor s) ⌝ }

@@ -13,7 +13,6 @@ ghost use Rattle.forms_batching.specs.Lines.{linesTables, LinesFit};
 ghost use Rattle.forms.specs.Batch.{LinesAre, formsByte, middlesByte, blockForms, blockMiddles, FormsInputs, BlockInputs, BatchInputs};
 use chunks::CHUNK;
 use chunks::MOST_BLOCK;
-use field::Gf256;
 use format::sizes::MOST_VARIABLES;
 use forms_batching::lines::LINES;
 use forms_batching::panels::Batch;
@@ -24,8 +23,8 @@ use lanes::LANES;
 use strings::BITS;
 use strings::least;
 
-// The words of the choices: a row for each bit of an element, for each of as many repetitions as a key may have.
-const WORDS: usize = Gf256::DEGREE * LANES * ROW_WORDS;
+// The words of the choices: a row for each bit of a byte, for each of as many repetitions as a key may have.
+const WORDS: usize = BITS * LANES * ROW_WORDS;
 
 // Chunk r of the lines begins with so many bytes of b, from `from` on.
 fn put_chunk(lines: &mut [u8], r: usize, b: &[u8], from: usize, len: usize)

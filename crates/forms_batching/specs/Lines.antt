@@ -19,7 +19,6 @@
 --   LeftAdded m J top rows bits cells old new == where the bits are masks of x, leftBit is added to each line at the
 --     columns of panel J
 --   LinesBeside m J old new == the lines are as they were at the other columns
---   LinesAdded n w m A x old new == leftOf is added to each of m lines, at its first n coordinates
 --   weighedLine S χ m c == Σ_i χ(i)·(bit c of chunk i of the table S)
 --   lineProduct vs e from count f == Σ_c f(c)·(coordinate from + c of vector e of vs), over so many coordinates
 --   VectorsEnd n τ vs == the vectors of τ repetitions have no coordinates from n on
@@ -36,7 +35,7 @@ use Rattle.field.specs.Degrees.{degree}
 use Rattle.strings.specs.Sums.{byteAt, bitOf, xorSum, maskByte}
 use Rattle.chunks.specs.Chunks.{chunk, cellAt}
 use Rattle.forms_folds.specs.Folds.{foldedBit}
-use Rattle.forms_columns.specs.Stacks.{byteProduct}
+use Rattle.forms_columns.specs.Stacks.{byteProduct, coordinateOf}
 
 abbrev pub chunkBits : ℕ
 chunkBits = 8 * chunk
@@ -82,9 +81,6 @@ LeftAdded m J top rows bits cells old new =
 abbrev pub LinesBeside : ℕ → ℕ → List ℕ → List ℕ → Type 0
 LinesBeside m J old new = (i k : ℕ) → i < m → (k / 2 ≡ J → ⊥) → lineByte new m i k ≡ lineByte old m i k
 
-abbrev pub LinesAdded : ℕ → ℕ → ℕ → List ℕ → (ℕ → ℕ) → List ℕ → List ℕ → Type 0
-LinesAdded n w m A x old new = (i c : ℕ) → i < m → c < n → lineBit new m i c ≡ bitXor (lineBit old m i c) (leftOf w (n * w) A x i c)
-
 abbrev pub weighedLine : List ℕ → (ℕ → ℕ) → ℕ → ℕ → ℕ
 weighedLine S χ m c = xorSum m (λ i. bitOf (cellAt S i (c / 8)) (c % 8) * χ i)
 
@@ -92,7 +88,7 @@ abbrev pub lineProduct : List ℕ → ℕ → ℕ → ℕ → (ℕ → ℕ) → 
 lineProduct vs e from count f = xorSum count (λ c. byteProduct degree (byteAt vs (e * mostVariables + (from + c))) (f c))
 
 abbrev pub VectorsEnd : ℕ → ℕ → List ℕ → Type 0
-VectorsEnd n τ vs = (e c : ℕ) → e < τ → n ≤ c → c < mostVariables → byteAt vs (e * mostVariables + c) ≡ 0
+VectorsEnd n τ vs = (e c : ℕ) → e < τ → n ≤ c → c < mostVariables → coordinateOf vs e c ≡ 0
 
 abbrev pub lineForm : ℕ → List ℕ → ℕ → (ℕ → ℕ → ℕ) → ℕ → (ℕ → ℕ) → ℕ
 lineForm n L m χ e y = xorSum n (λ c. byteProduct degree (y c) (lineSum L m χ e c))

@@ -2,7 +2,7 @@
 -- after piece from the top; in a piece, panel after panel.
 --   panelsOf n == the panels of n columns;  endOf n first == the end of the set of the panels from `first` on
 --   rowsOf first end == the sixteens of rows of the first piece of a trailing matrix whose set is first, .., end - 1:
---     all of them where the cells hold so many, and otherwise shortPiece
+--     all of them where first ≤ 4, and where first is 8 and there are at most pieceSixteens; otherwise shortPiece
 --   shortPiece == so many sixteens of rows do the cells hold of each of four panels that lie below them
 --   pieceEnd n first top == the end of the piece from the sixteen `top` on
 --   PieceAt n first top piece == `piece` is the piece of this set from the sixteen `top` on

@@ -15,7 +15,7 @@ ghost use Rattle.strings.specs.Rows.{RowsKept};
 ghost use Rattle.lanes.specs.Lanes.{lanes};
 ghost use Rattle.chunks.specs.Chunks.{mostBlock, chunk, cellAt};
 ghost use Rattle.forms_choices.specs.Entries.{mostSums, lookedUp, InWords, IsBytes, ChosenAll, WordsFit, GroupsFor, Weighed};
-ghost use Rattle.forms_columns.specs.Stacks.{byteProduct};
+ghost use Rattle.forms_columns.specs.Stacks.{byteProduct, coordinateOf};
 ghost use Rattle.forms_batching.specs.Batched.{WeighedAll, VectorsFit, SumsRoom};
 ghost use Rattle.forms_batching.specs.Lines.{chunkBits, LinesFit, lineByte, PartCells, leftByte, LeftAdded, LinesBeside, weighedLine, lineProduct, VectorsEnd, lineForm};
 use super::panels::Batch;
@@ -37,7 +37,7 @@ const ELEMENT_PLANES: usize = BITS * CHUNK;
 const ELEMENTS: usize = 2 * EIGHT_ROWS;
 
 // The panels of a chunk: each has two bytes of it.
-const PANELS: usize = CHUNK / 2;
+const CHUNK_PANELS: usize = CHUNK / 2;
 
 // The tables of chunks of the lines of as many variables as a key may have.
 const LINES_TABLES: usize = (MOST_VARIABLES + ELEMENTS - 1) / ELEMENTS;
@@ -104,10 +104,10 @@ fn add_each(lines: &mut [u8], sums: &[u8], m: usize, panel: usize)
         → lineByte (now (lines .exit)) m i (panel * 2 + h) ≡ bitXor (lineByte (now (lines .entry)) m i (panel * 2 + h)) (xorSum 16 (λ f. cellAt (now (sums .entry)) i (h * 16 + f)))) ⌝ }
     ensures { λ _. ⌜ LinesBeside m panel (now (lines .entry)) (now (lines .exit)) ⌝ }
 {
-    let first = panel / PANELS * m;
+    let first = panel / CHUNK_PANELS * m;
     let mut i = 0;
     while i < m {
-        let at = (first + i) * CHUNK + panel % PANELS * 2;
+        let at = (first + i) * CHUNK + panel % CHUNK_PANELS * 2;
         lines[at] ^= forms_columns::sum_at(sums, i * CHUNK);
         lines[at + 1] ^= forms_columns::sum_at(sums, i * CHUNK + SIXTEEN);
         i += 1;
@@ -256,7 +256,7 @@ pub fn add_lines(
         × GroupsFor (s .m) (s .groups) × WordsFit (s .tau) (now words) × VectorsFit (s .tau) (now vectors) × VectorsEnd (s .n) (s .tau) (now vectors) ⌝ }
     ensures { λ _. ⌜ ((χ : ℕ → ℕ → ℕ) (e : ℕ) → IsBytes χ → ChosenAll χ (s .m) (s .tau) (now (words .entry)) → e < s .tau
         → byteAt (now (mid .exit)) e
-        ≡ bitXor (byteAt (now (mid .entry)) e) (lineForm (s .n) (now (lines .entry)) (s .m) χ e (λ c. byteAt (now (vectors .entry)) (e * mostVariables + c)))) ⌝ }
+        ≡ bitXor (byteAt (now (mid .entry)) e) (lineForm (s .n) (now (lines .entry)) (s .m) χ e (coordinateOf (now (vectors .entry)) e))) ⌝ }
 {
     let n = s.n;
     let m = s.m;

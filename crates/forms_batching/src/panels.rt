@@ -11,7 +11,7 @@ ghost use Rattle.forms_columns.specs.Stacks.{coordinateOf};
 ghost use Rattle.forms_folds.specs.Folds.{FoldedSet};
 ghost use Rattle.forms_folds.specs.Sets.{CellsFit, PieceOf, RoomFits};
 ghost use Rattle.forms_batching.specs.Batched.{formSum, CollectFits, PartStacked, polarSum, BatchFits};
-ghost use Rattle.forms_batching.specs.Lines.{lineForm, LinesAdded};
+ghost use Rattle.forms_batching.specs.Lines.{lineForm};
 ghost use Rattle.forms_batching.specs.Pieces.{rowsOf, PieceAt, NextPlace};
 use super::lines::Part;
 use chunks::CHUNK;
@@ -31,8 +31,8 @@ use strings::least;
 // The chunks of a piece, one for each equation and sixteen rows: the space that `add_forms` is lent.
 pub const CELLS: usize = CELL_SIXTEENS * MOST_BLOCK * CHUNK;
 
-// The table of sums of as many equations: 32 entries for each five. Before it is filled, space for a matrix, and for a
-// chunk of each line.
+// The table of sums of as many equations as a block may have: 32 entries for each five. Before it is filled, space for
+// a matrix, and for a chunk of each line.
 const SUMS: usize = MOST_BLOCK / 5 * ENTRIES * CHUNK;
 
 // So many sixteens of rows do the cells hold of each of four panels that lie below them.
@@ -192,7 +192,6 @@ pub fn add_forms(
         → byteAt (now (mid .exit)) e
         ≡ bitXor (bitXor (byteAt (now (mid .entry)) e) (polarSum (s .n) (s .width) (s .m) (now (a .entry)) χ e (byteAt (now (xs .entry))) (coordinateOf (now (vectors .entry)) e)))
         (lineForm (s .n) (now (lines .entry)) (s .m) χ e (coordinateOf (now (vectors .entry)) e))) ⌝ }
-    ensures { λ _. ⌜ LinesAdded (s .n) (s .width) (s .m) (now (a .entry)) (byteAt (now (xs .entry))) (now (lines .entry)) (now (lines .exit)) ⌝ }
 {
     let n = s.n;
     let m = s.m;

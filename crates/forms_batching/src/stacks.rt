@@ -179,7 +179,7 @@ fn absorb_lane(
     absorb(
         &mut stacks[at..at + STACK],
         words,
-        e * Gf256::DEGREE,
+        e * BITS,
         groups,
         sums,
         &masks,

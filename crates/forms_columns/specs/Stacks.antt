@@ -1,7 +1,7 @@
 -- Polynomials in α whose coefficients are bits, in planes: plane s of a stack holds the coefficients of α^s, one bit
 -- for each place. In each definition d is the degree of the field (field's Degrees).
 --   alpha d s == α^s as a byte, where α is the element 02;  byteProduct d x y == the product of two bytes as elements
---   planes == 2·8 - 1, the planes of a stack: as many coefficients as a product of two polynomials of eight has
+--   planes == the planes of a stack: as many coefficients as a product of two elements has before it is reduced
 --   stackAt d t f z == the value of a stack at bit z of byte f;  stackOf d T e f z == that of stack e of a table
 --   foldOf d T e h z == the sum of the values of stack e at bit z of the sixteen bytes of half h
 --   columnOf d T e s == the same for column s of sixteen
@@ -21,13 +21,13 @@
 --   Weights d weights == byte s is α^s, for each plane
 --   IsBits xs == each byte is 0 or 1
 --   StacksFit tau T == T has a stack for each repetition below tau
---   ColumnsFit, PanelFits == these have the lengths of lanes, of sixteen coordinates and of bits, and the
---     columns are among the bits
+--   ColumnsFit == lanes, planes, front, weights and bits have their lengths, and the bits are bits
+--   PanelFits == the same of lanes, of τ stacks and of the vectors, and the panel's sixteen columns are coordinates
 --   MasksAt v f masks == the masks have at byte f those of the bits of v
 -- Assumes nothing.
 use mathlib.Core.Path.{_≡_}
 use mathlib.Core.List.{List}
-use Prim.Native.Nat.{ℕ, _+_, _*_, _/_, _%_, _<_, _≤_}
+use Prim.Native.Nat.{ℕ, _+_, _*_, _-_, _/_, _%_, _<_, _≤_}
 use lib.Bits.{bitXor}
 use lib.ListN.{length}
 use Rattle.algebra.specs.Coded.{mulByte, powByte}
@@ -44,7 +44,7 @@ unfoldable pub byteProduct : ℕ → ℕ → ℕ → ℕ
 byteProduct d x y = mulByte (fieldOf d) x y
 
 abbrev pub planes : ℕ
-planes = 15
+planes = 2 * degree - 1
 
 abbrev pub stackAt : ℕ → List ℕ → ℕ → ℕ → ℕ
 stackAt d t f z = xorSum planes (λ s. bitOf (byteAt t (s * chunk + f)) z * alpha d s)

@@ -34,7 +34,8 @@ const TURNED: usize = COLUMNS * PIECE_ROWS;
 // So many bytes are read past the rows of a matrix.
 const PAST: usize = 48;
 
-// The sixteens of rows that the cells hold, a chunk of each for every matrix. A piece is cut so that it fits them.
+// The sixteens of rows that the cells hold, a chunk of each for every matrix: 5 + 6 + 7 + 8, those of the panels 4 to
+// 7. A piece is cut so that it fits them.
 pub const CELL_SIXTEENS: usize = 26;
 
 // A piece of four panels: of the panels first, .., end - 1, the first `count` sixteens of rows. All are counted in the

@@ -5,8 +5,7 @@
 --   byteLookedUp b x sums e == the sum of the two entries that byte b of a row chooses, where it is x
 --   rowLookedUp count row sums e == the sum of the entries that the first count bytes of a row choose, two for each
 --     byte
---   RowSelected row sums old new == each lane is as it was, plus what the row selects of the coordinates of any table
---     that was so summed
+--   RowSelected row sums out == out is what the row selects of the coordinates of any table that was so summed
 -- Assumes nothing.
 use mathlib.Core.Path.{_≡_}
 use mathlib.Core.List.{List}
@@ -28,7 +27,7 @@ byteLookedUp b x sums e = bitXor (laneAt sums (b * 32 + x % 16) e) (laneAt sums 
 abbrev pub rowLookedUp : ℕ → List ℕ → List ℕ → ℕ → ℕ
 rowLookedUp count row sums e = xorSum count (λ b. byteLookedUp b (byteAt row b) sums e)
 
-abbrev pub RowSelected : List ℕ → List ℕ → List ℕ → List ℕ → Type 0
-RowSelected row sums old new =
+abbrev pub RowSelected : List ℕ → List ℕ → List ℕ → Type 0
+RowSelected row sums out =
     (table : List ℕ) (n e : ℕ) → LanesTabled table sums (length row * 32) → length table ≡ n * lanes → n ≤ length row * 8 → e < lanes
-    → byteAt new e ≡ bitXor (byteAt old e) (selected n row table lanes e)
+    → byteAt out e ≡ selected n row table lanes e

@@ -34,8 +34,8 @@ pub fn add_lanes(dst: &mut [u8; LANES], table: &[u8], c: usize)
     }
 }
 
-// The first entries of the table of sums: sixteen for each four of the n coordinates. Made once, they serve every row
-// of every matrix.
+// The first entries of the table of sums: sixteen for each four of the n coordinates. Made once, they serve all
+// rows of a block.
 pub fn fill_sums(sums: &mut [u8], count: usize, n: usize, table: &[u8])
     requires { ⌜ (count * lanes ≤ length (now sums)) × (length (now table) ≡ n * lanes) × (count % 16 ≡ 0) ⌝ }
     ensures { λ _. ⌜ LanesTabled (now (table .entry)) (now (sums .exit)) count ⌝ }
@@ -59,10 +59,10 @@ fn add_chosen(dst: &mut [u8; LANES], b: usize, x: u8, sums: &[u8])
     add_lanes(dst, sums, first + PER_GROUP + wide(x / 16));
 }
 
-// out[e] += Σ row(c)·T[c][e] over the n coordinates of the table T that was summed: two additions for eight of them.
+// out[e] = Σ row(c)·T[c][e] over the n coordinates of the table T that was summed: two additions for eight of them.
 pub fn look_up_row(out: &mut [u8], row: &[u8], sums: &[u8])
     requires { ⌜ (length (now out) ≡ lanes) × (length (now row) * 32 * lanes ≤ length (now sums)) ⌝ }
-    ensures { λ _. ⌜ RowSelected (now (row .entry)) (now (sums .entry)) (now (out .entry)) (now (out .exit)) ⌝ }
+    ensures { λ _. ⌜ RowSelected (now (row .entry)) (now (sums .entry)) (now (out .exit)) ⌝ }
 {
     let mut sum = [0u8; LANES];
     let mut b = 0;
@@ -70,5 +70,5 @@ pub fn look_up_row(out: &mut [u8], row: &[u8], sums: &[u8])
         add_chosen(&mut sum, b, row[b], sums);
         b += 1;
     }
-    strings::xor_into(out, &sum);
+    strings::copies::copy_into(out, &sum);
 }

@@ -3,14 +3,18 @@ ghost use mathlib.Core.Path.{_≡_};
 ghost use mathlib.Core.Bool.{true};
 ghost use Prim.Native.Nat.{ℕ, _+_, _*_, _<_, _≤_};
 ghost use lib.ListN.{length};
+ghost use Rattle.protocol.specs.Lists.{part, blockAt};
 ghost use Rattle.protocol.specs.Strings.{bytesFor};
 ghost use Rattle.protocol.specs.Shape.{limits, kOf, wOf};
 ghost use Rattle.strings.specs.Sums.{byteAt};
-ghost use Rattle.lanes.specs.Lanes.{lanes, laneAt};
+ghost use Rattle.lanes.specs.Lanes.{lanes};
 ghost use Rattle.format.specs.Sizes.{alphabetFor, shapeFor};
 ghost use Rattle.hash.specs.Hashed.{BlockTabled, BlockFits, Column, Columns, Hashed};
 ghost use Rattle.questions.specs.Facts.{HashForm};
 use super::lookups::PER_BYTE;
+use super::lookups::add_lanes;
+use super::lookups::fill_sums;
+use super::lookups::look_up_row;
 use format::Sizes;
 use lanes::LANES;
 use strings::BITS;
@@ -27,6 +31,14 @@ struct Block {
     k: usize,
     t: usize,
     tau: usize,
+}
+
+// `len` bytes of s from `at` on, as that part of it.
+fn part_of(s: &[u8], at: usize, len: usize) -> &[u8]
+    requires { ⌜ at + len ≤ length (now s) ⌝ }
+    ensures { λ r. ⌜ (now r ≡ part (now (s .entry)) at len) × (length (now r) ≡ len) ⌝ }
+{
+    &s[at..at + len]
 }
 
 // Takes the lanes below tau from column rho of a table of rows of t bytes, one row for each repetition.
@@ -54,23 +66,32 @@ fn put_column(out: &mut [u8], rho: usize, t: usize, tau: usize, column: &[u8])
     }
 }
 
-// What row rho has before a block: the identity's coordinate before the first, and then what stands in the output.
-fn start_column(column: &mut [u8], out: &[u8], table: &[u8], rho: usize, b: Block)
-    requires { ⌜ (length (now column) ≡ lanes) × (length (now out) ≡ b .tau * b .t) × (rho < b .t) × (b .tau ≤ lanes) × ((b .k + b .t) * lanes ≤ length (now table)) ⌝ }
-    ensures { λ _. ⌜ ((b .from ≡ 0) → (e : ℕ) → e < lanes → byteAt (now (column .exit)) e ≡ laneAt (now (table .entry)) (b .k + rho) e) ⌝ }
-    ensures { λ _. ⌜ ((0 < b .from) → (e : ℕ) → e < b .tau → byteAt (now (column .exit)) e ≡ byteAt (now (out .entry)) (e * b .t + rho)) ⌝ }
+// Takes what row rho has in the output, where a block came before.
+fn take_before(taken: &mut [u8], out: &[u8], rho: usize, b: Block)
+    requires { ⌜ (length (now out) ≡ b .tau * b .t) × (rho < b .t) × (b .tau ≤ length (now taken)) ⌝ }
+    ensures { λ _. ⌜ ((0 < b .from) → (e : ℕ) → e < b .tau → byteAt (now (taken .exit)) e ≡ byteAt (now (out .entry)) (e * b .t + rho)) ⌝ }
 {
-    let k = b.k;
     let t = b.t;
     let tau = b.tau;
-    if b.from == 0 {
-        strings::copies::copy_into(column, strings::row_at(table, LANES, k + rho));
-    } else {
-        take_column(column, out, rho, t, tau);
+    if b.from != 0 {
+        take_column(taken, out, rho, t, tau);
     }
 }
 
-// Row rho of a block: its bytes of the row are looked up, for each lane.
+// What a row has before the block at `from`: the identity's coordinate c before the first, and else what was taken. It
+// is handed on and not copied: so the row's sum stays in registers.
+fn start_of<'a>(taken: &'a [u8], table: &'a [u8], c: usize, from: usize) -> &'a [u8]
+    requires { ⌜ (length (now taken) ≡ lanes) × (c * lanes + lanes ≤ length (now table)) ⌝ }
+    ensures { λ r. ⌜ (length (now r) ≡ lanes) × ((from ≡ 0) → now r ≡ blockAt (now (table .entry)) lanes c) × ((0 < from) → now r ≡ now (taken .entry)) ⌝ }
+{
+    if from == 0 {
+        strings::row_at(table, LANES, c)
+    } else {
+        taken
+    }
+}
+
+// Row rho of a block: what its bytes of the row select is added, for each lane.
 fn hash_row(out: &mut [u8], matrix: &[u8], table: &[u8], sums: &[u8], rho: usize, b: Block)
     requires { ⌜ BlockFits (now matrix) (now table) b (now out) (now sums) × (rho < b .t) ⌝ }
     requires { ⌜ BlockTabled (b .from) (b .len) (now table) (now sums) × (0 < b .from → Column (now matrix) (now table) b (b .from) rho (now out)) ⌝ }
@@ -79,12 +100,16 @@ fn hash_row(out: &mut [u8], matrix: &[u8], table: &[u8], sums: &[u8], rho: usize
 {
     let t = b.t;
     let tau = b.tau;
-    let at = rho * b.width + b.from;
-    let end = at + b.len;
-    let mut column = [0u8; LANES];
-    start_column(&mut column, out, table, rho, b);
-    super::lookups::look_up_row(&mut column, &matrix[at..end], sums);
-    put_column(out, rho, t, tau, &column);
+    let from = b.from;
+    let at = rho * b.width + from;
+    let len = b.len;
+    let c = b.k + rho;
+    let mut taken = [0u8; LANES];
+    take_before(&mut taken, out, rho, b);
+    let mut sum = [0u8; LANES];
+    look_up_row(&mut sum, part_of(matrix, at, len), sums);
+    add_lanes(&mut sum, start_of(&taken, table, c, from), 0);
+    put_column(out, rho, t, tau, &sum);
 }
 
 // The rows of a block, after the blocks before it.
@@ -108,8 +133,8 @@ fn fill_entries(entries: &mut [u8], table: &[u8], from: usize, len: usize)
 {
     let rows = len * BITS;
     let at = from * BITS * LANES;
-    let end = at + rows * LANES;
-    super::lookups::fill_sums(entries, len * PER_BYTE, rows, &table[at..end]);
+    let front = part_of(table, at, rows * LANES);
+    fill_sums(entries, len * PER_BYTE, rows, front);
 }
 
 // Byte e·t + ρ is row ρ of H·v_e, for the vectors v_e of the table (the verifier's are W_e). The table of sums is

@@ -7,7 +7,8 @@
 --   maskLane T at e == Σ α^i · coordinate at + i, i below the field's degree, in repetition e
 --   maskBits u at == the same of a string of bits
 --   firstMask s e == the first mask coordinate of repetition e, for a key of the sizes s
---   MasksIn s T, MaskBitsIn s u == the mask coordinates of every repetition are in the table, and in the string
+--   MasksIn s T, MaskBitsIn s u == there are at most as many repetitions as lanes, and the mask coordinates of each are
+--     in the table, and in the string; of the string each is small, so that its index cannot overflow
 -- Assumes nothing.
 use mathlib.Core.Path.{_≡_}
 use mathlib.Core.List.{List}

@@ -2,7 +2,7 @@
 --   rowConsistent hashed v u δ t == the consistency check of one repetition: hashed, of t entries, is v + δ·u
 --   RowsOf Δ t hashed v == hashed and v have a row of t entries for each repetition
 --   firstInconsistent == the first repetition whose rows of t entries do not pass it, or their number
---   BitMasks u masks == byte i of masks is 255 where bit i of u is set, and 0 elsewhere
+--   BitMasks u masks == byte i of masks is all ones where bit i of u is set, and 0 elsewhere
 --   firstDiffering == the first repetition whose left side of the product check is not QS0 + QS1·δ, or their number
 -- Assumes nothing.
 use mathlib.Core.Path.{_≡_}
@@ -16,13 +16,13 @@ use Rattle.algebra.specs.Coded.{mulByte}
 use Rattle.field.specs.Gf256.{gf256}
 use Rattle.protocol.specs.Lists.{allBelow, firstNot, blockAt}
 use Rattle.protocol.specs.Strings.{bit}
-use Rattle.strings.specs.Sums.{byteAt}
+use Rattle.strings.specs.Sums.{byteAt, maskByte}
 
 abbrev pub rowConsistent : List ℕ → List ℕ → List ℕ → ℕ → ℕ → Bool
 rowConsistent hashed v u δ t = allBelow t (λ ρ. eqb (byteAt hashed ρ) (bitXor (byteAt v ρ) (δ * bit u ρ)))
 
 abbrev pub BitMasks : List ℕ → List ℕ → Type 0
-BitMasks u masks = (i : ℕ) → i < length masks → byteAt masks i ≡ bit u i * 255
+BitMasks u masks = (i : ℕ) → i < length masks → byteAt masks i ≡ bit u i * maskByte
 
 abbrev pub RowsOf : List ℕ → ℕ → List ℕ → List ℕ → Type 0
 RowsOf Δ t hashed v = (length hashed ≡ length Δ * t) × (length v ≡ length Δ * t)

@@ -18,15 +18,16 @@ use questions::proof::U;
 use questions::proof::V;
 use questions::proof::proof_section;
 use sections::reader::Places;
+use strings::MASK_BYTE;
 
-// masks[ρ] is 255 where bit ρ of ũ is set, and 0 elsewhere.
+// masks[ρ] is all ones where bit ρ of ũ is set, and 0 elsewhere.
 fn fill_masks(masks: &mut [u8], u: &[u8])
     requires { ⌜ length (now masks) ≤ length (now u) * 8 ⌝ }
     ensures { λ _. ⌜ BitMasks (now (u .entry)) (now (masks .exit)) ⌝ }
 {
     let mut i = 0;
     while i < masks.len() {
-        masks[i] = strings::bit_at(u, i) * 255;
+        masks[i] = strings::bit_at(u, i) * MASK_BYTE;
         i += 1;
     }
 }

@@ -78,7 +78,7 @@ returns c =
       (λ e h.
           let g : ℕ → ℕ = coordinateOf vs e in
           let gs : (k : ℕ) → g k < 256 = λ k. bytes (e * mostVariables + k) in
-          formed .ensures .1 .0 X e each (chosen .ensures) h
+          formed .ensures .1 X e each (chosen .ensures) h
           ∙ ap₂ (λ (u v : ℕ). bitXor (bitXor (byteAt (now (a .lin)) e) u) v) (polar-is (a .k .n) (a .k .count) e (now (a .a)) X g gs (byteAt (now (a .xs))) (pre .12)) (lines-are (a .k .n) (a .k .count) e (now (a .a)) X g (now (a .b)) (lines .last .0) (lines .ensures))
           ∙ middle-is (a .k .n) (a .k .count) e (now (a .a)) X g gs (byteAt (now (a .xs))) (pre .12) (now (a .b)) (byteAt (now (a .lin)) e)),
     )

@@ -3,6 +3,7 @@
 -- Assumes nothing.
 use borrow.Author.Needs.{needs}
 use Prim.Native.Nat.{ℕ, _+_, _*_, _-_, _%_, _/_, _≤_, _<_}
+use mathlib.Core.List.{List}
 use mathlib.Core.Path.{_≡_, refl, sym, ap, _∙_}
 use native.Mathlib.Omega.{arith}
 use denote.Ref.{now}
@@ -49,24 +50,24 @@ loop-again c =
       (λ e h. added .ensures .1 e h ∙ ap (λ (x : ℕ). bitXor x (chosen e (l .b))) (l .inv .2 e h) ∙ sym (sum-more (l .b) (chosen e))),
     )
 
-slice-aggregate-xor-into : tie.Need-slice-aggregate-xor-into Inv-loop μ-loop
-slice-aggregate-xor-into c = sym (c .before .before .before .loop .inv .1)
+slice-aggregate-copy-into : tie.Need-slice-aggregate-copy-into Inv-loop μ-loop
+slice-aggregate-copy-into c = sym (c .before .before .before .loop .inv .1)
 
-xor-into-requires : tie.Need-xor-into-requires Inv-loop μ-loop
-xor-into-requires c κs = c .before .before .before .loop .inv .1 ∙ sym (c .before .before .before .before .before .before .before .pre .0)
+copy-into-requires : tie.Need-copy-into-requires Inv-loop μ-loop
+copy-into-requires c κs = c .before .before .before .loop .inv .1 ∙ sym (c .before .before .before .before .before .before .before .pre .0)
 
 same-length : tie.Need-same-length Inv-loop μ-loop
 same-length c = search needs
 
 returns : tie.Need-returns Inv-loop μ-loop
 returns c table n e tabled long most h =
-    let a = c .before .before .before .before .before .before .before .before .before .before .args in
+    let start = c .before .before .before .before .before .before .before .before .before .before in
+    let a = start .args in
     let l = c .before .before .before .before .before .before .loop in
     let row = now (a .row) in
     let end : l .b ≡ length row = omega arith in
-    c .before .before .xor-into .ensures e (rw (c .before .before .before .before .before .before .before .before .before .before .pre .0) h)
-    ∙ ap (bitXor (byteAt (now (a .out)) e))
-    ((rw end at (l .inv .2)) e h ∙ look-up-selects row table e (now (a .sums)) h (length row) tabled (λ i. c .before .before .before .before .before .before .before .before .shared-slice-known .given i .fits) n long most)
+    ap (λ (d : List ℕ). byteAt d e) (c .before .before .copy-into .ensures) ∙ (rw end at (l .inv .2)) e h
+    ∙ look-up-selects row table e (now (a .sums)) h (length row) tabled (λ i. c .before .before .before .before .before .before .before .before .shared-slice-known .given i .fits) n long most
 
 pub look-up-row-spec : {M : Type 1} → statement M
 look-up-row-spec =
@@ -80,7 +81,7 @@ look-up-row-spec =
     add-b
     loop-less
     loop-again
-    slice-aggregate-xor-into
-    xor-into-requires
+    slice-aggregate-copy-into
+    copy-into-requires
     same-length
     returns)

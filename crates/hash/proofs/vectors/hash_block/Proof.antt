@@ -1,5 +1,5 @@
--- `hash::vectors::hash_block` meets its contract. The invariant: the rows below rho have their block, and the others are
--- as they were.
+-- `hash::vectors::hash_block` meets its contract. The invariant: the rows below rho have their block, and the others
+-- are as they were.
 -- Assumes nothing.
 use borrow.Author.Needs.{needs}
 use mathlib.Core.Path.{_≡_, refl, _∙_}

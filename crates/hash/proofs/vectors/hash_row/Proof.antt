@@ -1,17 +1,17 @@
 -- `hash::vectors::hash_row` meets its contract: what the block's bytes of the row select is added (`FrontLaws`).
 -- Assumes nothing.
-use mathlib.Core.Path.{_≡_, ap, _∙_}
+use mathlib.Core.Path.{_≡_, ap, ap₂, _∙_}
 use mathlib.Core.List.{List}
-use Prim.Native.Nat.{ℕ, _+_, _*_, _-_, _≤_, _<_}
-use native.Mathlib.Nat.{add-sub-cancel-left}
+use Prim.Native.Nat.{ℕ, _+_, _*_, _<_}
 use native.Mathlib.Omega.{arith}
 use denote.Ref.{now}
-use lib.Bits.{bitXor}
+use lib.Bits.{bitXor, xor-comm}
 use lib.ListN.{length, length-take, length-drop}
 use Rattle.protocol.specs.Lists.{part}
 use Rattle.protocol.proofs.ListLaws.{row-end}
 use Rattle.strings.specs.Sums.{byteAt, selected}
-use Rattle.lanes.specs.Lanes.{lanes}
+use Rattle.strings.proofs.Rows.{row-byte}
+use Rattle.lanes.specs.Lanes.{lanes, laneAt}
 use Rattle.hash.specs.Hashed.{frontLane}
 use Rattle.hash.proofs.FrontLaws.{front-start, front-more}
 use borrow.Author.Needs.{needs}
@@ -25,42 +25,43 @@ mul-at c =
 
 add-at : tie.Need-add-at
 add-at c =
-    let a = c .before .before .before .before .before .before .args in
-    omega (arith, row-end (a .rho) (a .b .t) (a .b .width) (c .before .before .before .before .before .before .pre .0 .1), c .before .before .before .before .before .before .pre .0 .0 .1, c .before .before .before .before .before .before .pre .0 .0 .6)
+    let a = c .before .before .before .before .before .args in
+    omega (arith, row-end (a .rho) (a .b .t) (a .b .width) (c .before .before .before .before .before .pre .0 .1), c .before .before .before .before .before .pre .0 .0 .1, c .before .before .before .before .before .pre .0 .0 .6)
 
-add-end : tie.Need-add-end
-add-end c =
-    let a = c .before .before .before .before .before .before .before .args in
-    omega (arith, row-end (a .rho) (a .b .t) (a .b .width) (c .before .before .before .before .before .before .before .pre .0 .1), c .before .before .before .before .before .before .before .pre .0 .0 .1, c .before .before .before .before .before .before .before .pre .0 .0 .6)
+add-c : tie.Need-add-c
+add-c c = search needs
 
-slice-aggregate-start-column : tie.Need-slice-aggregate-start-column
-slice-aggregate-start-column c = search needs
+slice-aggregate-take-before : tie.Need-slice-aggregate-take-before
+slice-aggregate-take-before c = search needs
 
-start-column-requires : tie.Need-start-column-requires
-start-column-requires c κs = search needs
+take-before-requires : tie.Need-take-before-requires
+take-before-requires c κs = search needs
 
 slice-aggregate-look-up-row : tie.Need-slice-aggregate-look-up-row
 slice-aggregate-look-up-row c = search needs
 
-sub-look-up-row : tie.Need-sub-look-up-row
-sub-look-up-row c = search needs
-
-part-look-up-row-start : tie.Need-part-look-up-row-start
-part-look-up-row-start c = search needs
-
-part-look-up-row-end : tie.Need-part-look-up-row-end
-part-look-up-row-end c =
-    let a = c .before .before .before .before .before .before .before .before .before .before .before .before .args in
-    omega (arith, row-end (a .rho) (a .b .t) (a .b .width) (c .before .before .before .before .before .before .before .before .before .before .before .before .pre .0 .1), c .before .before .before .before .before .before .before .before .before .before .before .before .pre .0 .0 .1, c .before .before .before .before .before .before .before .before .before .before .before .before .pre .0 .0 .6)
+part-of-requires : tie.Need-part-of-requires
+part-of-requires c κs =
+    let a = c .before .before .before .before .before .before .before .before .before .before .before .args in
+    omega (arith, row-end (a .rho) (a .b .t) (a .b .width) (c .before .before .before .before .before .before .before .before .before .before .before .pre .0 .1), c .before .before .before .before .before .before .before .before .before .before .before .pre .0 .0 .1, c .before .before .before .before .before .before .before .before .before .before .before .pre .0 .0 .6)
 
 look-up-row-requires : tie.Need-look-up-row-requires
 look-up-row-requires c κs = search needs
+
+slice-aggregate-start-of : tie.Need-slice-aggregate-start-of
+slice-aggregate-start-of c = search needs
+
+start-of-requires : tie.Need-start-of-requires
+start-of-requires c κs = search needs
+
+add-lanes-requires : tie.Need-add-lanes-requires
+add-lanes-requires c κs = search needs
 
 slice-aggregate-put-column : tie.Need-slice-aggregate-put-column
 slice-aggregate-put-column c = search needs
 
 put-column-requires : tie.Need-put-column-requires
-put-column-requires c κs = search needs
+put-column-requires c κs = (c .before .before .before .before .before .before .before .before .before .before .before .before .before .before .before .before .before .before .before .before .pre .0 .0 .0, c .before .before .before .before .before .before .before .before .before .before .before .before .before .before .before .before .before .before .before .before .pre .0 .1, rw (c .before .before .add-lanes .ensures .0) (c .before .before .before .before .before .before .before .before .before .before .before .before .before .before .before .before .before .before .before .before .pre .0 .0 .2))
 
 same-length : tie.Need-same-length
 same-length c = search needs
@@ -68,27 +69,27 @@ same-length c = search needs
 returns : tie.Need-returns
 unfolding part
 returns c =
-    let a = c .before .before .before .before .before .before .before .before .before .before .before .before .before .before .before .before .before .before .before .before .args in
+    let a = c .before .before .before .before .before .before .before .before .before .before .before .before .before .before .before .before .before .before .before .before .before .before .before .args in
     let b = a .b in
     let H = now (a .matrix) in
     let T = now (a .table) in
-    let at = a .rho * b .width + b .from in
-    let fits : at + b .len ≤ length H = omega (arith, row-end (a .rho) (b .t) (b .width) (c .before .before .before .before .before .before .before .before .before .before .before .before .before .before .before .before .before .before .before .before .pre .0 .1), c .before .before .before .before .before .before .before .before .before .before .before .before .before .before .before .before .before .before .before .before .pre .0 .0 .1, c .before .before .before .before .before .before .before .before .before .before .before .before .before .before .before .before .before .before .before .before .pre .0 .0 .6) in
-    let cut : at + b .len - at ≡ b .len = add-sub-cancel-left at (b .len) in
-    let row : List ℕ = part H at (b .len) in
+    let start = now (c .before .before .before .before .before .before .start-of .result) in
     let table : List ℕ = part T (b .from * 8 * lanes) (b .len * 8 * lanes) in
-    let long-row : length row ≡ b .len = simp (length-take, length-drop) (omega (arith, fits)) in
-    let long : length table ≡ b .len * 8 * lanes = simp (length-take, length-drop) (omega (arith, c .before .before .before .before .before .before .before .before .before .before .before .before .before .before .before .before .before .before .before .before .pre .0 .0 .5, c .before .before .before .before .before .before .before .before .before .before .before .before .before .before .before .before .before .before .before .before .pre .0 .0 .6)) in
-    let looked = rw (cut, long-row) at (c .before .before .before .before .before .before .look-up-row .ensures) in
-    let start : (e : ℕ) → e < b .tau → e < lanes → byteAt (c .before .before .before .before .before .before .before .before .before .before .start-column .last .0) e ≡ frontLane H (b .width) (b .k) T (b .from) (a .rho) e =
+    let long : length table ≡ b .len * 8 * lanes = simp (length-take, length-drop) (omega (arith, c .before .before .before .before .before .before .before .before .before .before .before .before .before .before .before .before .before .before .before .before .before .before .before .pre .0 .0 .5, c .before .before .before .before .before .before .before .before .before .before .before .before .before .before .before .before .before .before .before .before .before .before .before .pre .0 .0 .6)) in
+    let looked = rw (c .before .before .before .before .before .before .before .before .before .before .before .part-of .ensures .1) at (c .before .before .before .before .before .before .before .before .before .before .look-up-row .ensures) in
+    let begun : (e : ℕ) → e < b .tau → e < lanes → laneAt start 0 e ≡ frontLane H (b .width) (b .k) T (b .from) (a .rho) e =
     λ e h l.
-    front-start H T (b .width) (b .k) (b .from) (a .rho) e (byteAt (c .before .before .before .before .before .before .before .before .before .before .start-column .last .0) e) (λ z. c .before .before .before .before .before .before .before .before .before .before .start-column .ensures .0 z e l)
-    (λ pos. c .before .before .before .before .before .before .before .before .before .before .start-column .ensures .1 pos e h ∙ c .before .before .before .before .before .before .before .before .before .before .before .before .before .before .before .before .before .before .before .before .pre .1 .1 pos e h) in (
+    let first : 0 * lanes + e ≡ e = omega arith in
+    ap (byteAt start) first
+    ∙ front-start H T (b .width) (b .k) (b .from) (a .rho) e (byteAt start e) (λ z. ap (λ (r : List ℕ). byteAt r e) (c .before .before .before .before .before .before .start-of .ensures .1 z) ∙ row-byte T lanes (b .k + a .rho) e l)
+    (λ pos. ap (λ (r : List ℕ). byteAt r e) (c .before .before .before .before .before .before .start-of .ensures .2 pos) ∙ c .before .before .before .before .before .before .before .before .before .before .before .before .before .before .take-before .ensures pos e h ∙ c .before .before .before .before .before .before .before .before .before .before .before .before .before .before .before .before .before .before .before .before .before .before .before .pre .1 .1 pos e h) in (
       (λ e h.
-          let l : e < lanes = omega (arith, h, c .before .before .before .before .before .before .before .before .before .before .before .before .before .before .before .before .before .before .before .before .pre .0 .0 .2) in
-          c .before .before .put-column .ensures .0 e h ∙ looked table (b .len * 8) e (c .before .before .before .before .before .before .before .before .before .before .before .before .before .before .before .before .before .before .before .before .pre .1 .0) long (omega arith) l
-          ∙ ap (λ x. bitXor x (selected (b .len * 8) row table lanes e)) (start e h l)
-          ∙ front-more H T (b .width) (b .k) (b .from) (b .len) (a .rho) e (c .before .before .before .before .before .before .before .before .before .before .before .before .before .before .before .before .before .before .before .before .pre .0 .0 .6) l),
+          let l : e < lanes = omega (arith, h, c .before .before .before .before .before .before .before .before .before .before .before .before .before .before .before .before .before .before .before .before .before .before .before .pre .0 .0 .2) in
+          c .before .before .put-column .ensures .0 e h ∙ c .before .before .before .before .before .add-lanes .ensures .1 e l
+          ∙ xor-comm (byteAt (c .before .before .before .before .before .before .before .before .before .before .look-up-row .last .0) e) (laneAt start 0 e)
+          ∙ ap₂ bitXor (begun e h l)
+          (looked table (b .len * 8) e (c .before .before .before .before .before .before .before .before .before .before .before .before .before .before .before .before .before .before .before .before .before .before .before .pre .1 .0) long (omega arith) l ∙ ap (λ (r : List ℕ). selected (b .len * 8) r table lanes e) (c .before .before .before .before .before .before .before .before .before .before .before .part-of .ensures .0))
+          ∙ front-more H T (b .width) (b .k) (b .from) (b .len) (a .rho) e (c .before .before .before .before .before .before .before .before .before .before .before .before .before .before .before .before .before .before .before .before .before .before .before .pre .0 .0 .6) l),
       c .before .before .put-column .ensures .1,
     )
 
@@ -98,14 +99,15 @@ hash-row-spec =
     (tie.spec
     mul-at
     add-at
-    add-end
-    slice-aggregate-start-column
-    start-column-requires
+    add-c
+    slice-aggregate-take-before
+    take-before-requires
     slice-aggregate-look-up-row
-    sub-look-up-row
-    part-look-up-row-start
-    part-look-up-row-end
+    part-of-requires
     look-up-row-requires
+    slice-aggregate-start-of
+    start-of-requires
+    add-lanes-requires
     slice-aggregate-put-column
     put-column-requires
     same-length
