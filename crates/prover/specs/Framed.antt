@@ -1,5 +1,6 @@
 -- The sections C, d, ũ and Ṽ after their counts: what a writer of each is given, and what it wrote for any leaves that
 -- were loaded.
+-- In each definition A is the alphabet.
 --   CReady, DReady, UReady, VReady == the output has the section's exact length, and what is lent beside it has its
 --     form
 --   CWritten, DWritten, UWritten, VWritten == the output is the section after its count

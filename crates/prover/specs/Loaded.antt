@@ -1,4 +1,4 @@
--- What a call has of its trees once they are loaded.
+-- What a call has of its trees once they are loaded. In each definition A is the alphabet.
 --   Buffers s table sums == the two buffers have room for the table of the v_e and for the u_e of a key of the sizes s
 --   LoadReady s leaves table sums == the leaves have their form, and the buffers their room
 --   Loaded s leaves table sums == the rows of `sums` are u_e, and the lanes of `table` v_e, of every repetition e

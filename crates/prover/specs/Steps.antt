@@ -1,4 +1,5 @@
 -- The three steps: what each is given, and what it wrote for any leaves that were loaded.
+-- In each definition A is the alphabet.
 --   commitFrame s leaves x, hashFrame, batchFrame == the bytes of a step, for a key of the sizes s
 --   restFrame, proofFrame == those of the steps after the first, and of a whole proof
 --   CommitReady, HashReady, BatchReady == the output has the step's exact length, and what is lent beside it has its

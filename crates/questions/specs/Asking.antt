@@ -1,5 +1,6 @@
 -- How the code puts its questions: those on the key first, then one input after the other, each only where all before
 -- got a yes.
+-- In each definition A is the alphabet.
 --   keyQuestions key == questions 1 to 4;  outputQuestion ls n == question 10, of an output of n bytes
 --   commitInputs s .., hashInputs, batchInputs, proveInputs, verifyInputs == the questions of a call after those on the
 --     key, by the sizes s

@@ -1,4 +1,4 @@
--- What each call knows once its questions on form got a yes.
+-- What each call knows once its questions on form got a yes. In each definition A is the alphabet.
 --   KeyFacts s key == of the key;  WitnessForm s x == of the witness
 --   LeavesForm s leaves == of full leaves;  HashForm s H′ == of H′
 --   ProofForm s proof == the proof is its sections, each of its length (question 12)

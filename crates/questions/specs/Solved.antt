@@ -1,4 +1,5 @@
 -- The answer to question 11 alone.
+-- In each definition A is the alphabet.
 --   ErrorsAs errors a == a is accepted and every error is 0, or a is refused 11 at the first that is not
 --   SolvedAs key x a == a is accepted and the witness x solves the system, or a is refused 11 at an equation that fails
 -- Assumes nothing.

@@ -1,4 +1,4 @@
--- What the verifier knows once its questions on form got a yes.
+-- What the verifier knows once its questions on form got a yes. In each definition A is the alphabet.
 --   VerifyFacts == of everything that it is lent
 --   checkQuestions == questions 14 and 15
 -- Assumes nothing.

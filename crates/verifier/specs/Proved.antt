@@ -1,4 +1,4 @@
--- What the two checks are given.
+-- What the two checks are given. In each definition A is the alphabet.
 --   SpaceRoom s space == the space is no shorter than the table of the W_e, nor than the cells of the forms: it is
 --     first the one, and then the other
 --   Opened s Δ opened proof table == the lanes of the table, with which a space may begin, are W_e of every repetition

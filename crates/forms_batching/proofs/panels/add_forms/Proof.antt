@@ -359,15 +359,15 @@ returns c =
           let y : ℕ → ℕ = coordinateOf vs e in
           l .inv .10 (λ J. J + 1) all χ e small chosen he ∙ ap (bitXor (byteAt (now (a .quad)) e)) (terms-all n w m A χ e N y y ∙ form-is N n w m A χ e enough y (gone e he))),
       (λ χ e small chosen he.
-            let y : ℕ → ℕ = coordinateOf vs e in
-            let columns = xorSum N (λ J. xorSum 16 (λ s. byteProduct degree (x (J * 16 + s)) (leftSum w (n * w) m A χ e y J (J * 16 + s)))) in
-            let given = xorSum n (λ k. byteProduct degree (y k) (lineSum L m χ e k)) in
-            let added-left = xorSum N (λ J. xorSum 16 (λ s. byteProduct degree (y (J * 16 + s)) (leftSum w (n * w) m A χ e x J (J * 16 + s)))) in
-            c .before .before .before .add-lines .ensures χ e small chosen he
-            ∙ ap₂ bitXor (l .inv .11 (λ J. J + 1) all χ e small chosen he ∙ ap (bitXor (byteAt (now (a .mid)) e)) (terms-all n w m A χ e N x y))
-            (lines-added w (n * w) m A χ e small x (pre .13) N n enough y (gone e he) L (l .lines) added)
-            ∙ both-halves (byteAt (now (a .mid)) e) given added-left columns
-            ∙ ap (λ (v : ℕ). bitXor (bitXor (byteAt (now (a .mid)) e) v) given) (polar-is N n w m A χ e enough y (gone e he) x none)),
+          let y : ℕ → ℕ = coordinateOf vs e in
+          let columns = xorSum N (λ J. xorSum 16 (λ s. byteProduct degree (x (J * 16 + s)) (leftSum w (n * w) m A χ e y J (J * 16 + s)))) in
+          let given = xorSum n (λ k. byteProduct degree (y k) (lineSum L m χ e k)) in
+          let added-left = xorSum N (λ J. xorSum 16 (λ s. byteProduct degree (y (J * 16 + s)) (leftSum w (n * w) m A χ e x J (J * 16 + s)))) in
+          c .before .before .before .add-lines .ensures χ e small chosen he
+          ∙ ap₂ bitXor (l .inv .11 (λ J. J + 1) all χ e small chosen he ∙ ap (bitXor (byteAt (now (a .mid)) e)) (terms-all n w m A χ e N x y))
+          (lines-added w (n * w) m A χ e small x (pre .13) N n enough y (gone e he) L (l .lines) added)
+          ∙ both-halves (byteAt (now (a .mid)) e) given added-left columns
+          ∙ ap (λ (v : ℕ). bitXor (bitXor (byteAt (now (a .mid)) e) v) given) (polar-is N n w m A χ e enough y (gone e he) x none)),
     )
 
 pub add-forms-spec : {M : Type 1} → statement M
