@@ -226,6 +226,15 @@ static int fails(size_t i, const uint8_t *x)
         && ((other[y - key + i / 8] ^ y[i / 8]) >> i % 8 & 1);
 }
 
+/* The lowest-numbered equation that fails at x. */
+static size_t first_failing(const uint8_t *x)
+{
+    size_t i = 0;
+    while (i < M && !fails(i, x))
+        i++;
+    return i;
+}
+
 static void show_refusals(void)
 {
     uint8_t wrong[sizeof witness];
@@ -237,7 +246,7 @@ static void show_refusals(void)
     word = prove(wrong, sizeof whole);
     show("mq_prove", word, 0, "one bit of the witness changed");
     expect(MQ_NUMBER(word) == MQ_REFUSED_EQUATION_FAILS, "refused for that");
-    expect(fails(MQ_PLACE(word), wrong), "the equation that it names fails");
+    expect(MQ_PLACE(word) == first_failing(wrong), "it names the lowest-numbered equation that fails");
     expect(unchanged(whole, sizeof whole), "the output is as it was");
 
     word = prove(witness, sizeof whole - 1);

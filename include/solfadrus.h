@@ -90,15 +90,14 @@
  *    8  Are the spare bits of each leaf 0?
  *    9  Has the witness ceil(n / 8) bytes, spare bits 0?
  *   10  Has the output exactly the length to be written?
- *   11  Does the witness solve the system?     place: an equation that fails, from 0
+ *   11  Does the witness solve the system?     place: the lowest-numbered equation that fails
  *   12  Are the proof's counts and length exact?
  *   13  Are the spare bits of C, d, u~ 0?
  *   14  Does consistency hold in every repetition?         place: the first one where not
  *   15  Does the product check hold in every repetition?   place: the first one where not
  *
- * The place is 0 for all numbers but 11, 14 and 15. Where several equations fail, 11 names one of
- * them: do not rely on which. 12 to 15 are questions of mq_verify alone. 14 is put of every
- * repetition before 15 of any.
+ * The place is 0 for all numbers but 11, 14 and 15; equations and repetitions count from 0. 12 to 15
+ * are questions of mq_verify alone. 14 is put of every repetition before 15 of any.
  *
  *
  * 4. THE CALLER'S DUTY
@@ -201,7 +200,7 @@ extern "C" {
 #define MQ_REFUSED_LEAF_SPARE_BIT 8
 #define MQ_REFUSED_WITNESS_FORM 9
 #define MQ_REFUSED_OUTPUT_LENGTH 10
-#define MQ_REFUSED_EQUATION_FAILS 11  /* place: an equation that fails */
+#define MQ_REFUSED_EQUATION_FAILS 11  /* place: the lowest-numbered equation that fails */
 #define MQ_REFUSED_PROOF_LENGTH 12
 #define MQ_REFUSED_PROOF_SPARE_BIT 13
 #define MQ_REFUSED_INCONSISTENT 14    /* place: the first repetition where not */

@@ -28,8 +28,8 @@ pub enum Reason {
     WitnessForm,
     /// 10: the output has not exactly the length to be written.
     OutputLength,
-    /// 11: the witness does not solve the system. The place is an equation that fails, from 0; where several fail, do
-    /// not rely on which one.
+    /// 11: the witness does not solve the system. The place is the lowest-numbered equation that
+    /// fails, from 0.
     EquationFails,
     /// 12: a count of the proof, or its length, is not exact.
     ProofLength,

@@ -3,7 +3,7 @@
 -- Assumes nothing.
 use mathlib.Core.Path.{_≡_, refl, sym, ap, ap₂, _∙_}
 use mathlib.Core.Logic.{_≢_}
-use mathlib.Core.Bool.{Bool, true, false}
+use mathlib.Core.Bool.{true, false, true≢false}
 use mathlib.Core.List.{List}
 use Prim.Native.Nat.{ℕ, zero, suc, _+_, _*_, _<_}
 use native.Mathlib.Omega.{arith}
@@ -14,16 +14,16 @@ use Rattle.algebra.specs.Ring.{Ring}
 use Rattle.algebra.specs.Field.{Field}
 use Rattle.algebra.specs.Coded.{Coded}
 use Rattle.algebra.specs.Sum.{sum}
-use Rattle.algebra.specs.Roots.{isZero}
-use Rattle.protocol.specs.Lists.{allBelow, blockAt}
+use Rattle.algebra.proofs.FieldLaws.{eqb-true}
+use Rattle.protocol.specs.Lists.{blockAt, firstNot}
 use Rattle.protocol.specs.Strings.{bytesFor, bit, spareZero}
 use Rattle.protocol.specs.Alphabet.{Alphabet, sym as symbol}
 use Rattle.protocol.specs.Binary.{binary}
 use Rattle.protocol.specs.Shape.{Shape}
 use Rattle.protocol.specs.Key.{sectionA, sectionB, sectionY, aSym, bSym, ySym}
 use Rattle.protocol.specs.Forms.{quad, lin, yOf, error}
-use Rattle.protocol.specs.Questions.{solves, namesFailing}
-use Rattle.protocol.proofs.TestLaws.{T-true, T-false, all-of, all-at}
+use Rattle.protocol.specs.Questions.{equationHolds, solves}
+use Rattle.protocol.proofs.TestLaws.{T-true, T-false, all-of, all-at, first-at}
 use Rattle.protocol.proofs.StringLaws.{bit-lt}
 use Rattle.strings.specs.Sums.{byteAt, xorSum}
 use Rattle.strings.proofs.SumLaws.{sum-same}
@@ -81,21 +81,25 @@ module _ (C : Coded) (s : Shape) (key x : List ℕ) where
 
     module _ (errors : List ℕ) (long : length errors ≡ s .m)
         (are : (i : ℕ) → i < length errors → byteAt errors i ≡ keyError n (sectionA A s key) (sectionB A s key) (sectionY A s key) x i) where
-      zero-error : (i : ℕ) → i < s .m → byteAt errors i ≡ 0 → error A s key i (symbol A x) ≡ 𝟘
-      zero-error i h z = sym (C .elem-byte _) ∙ ap elem (sym (are i (omega arith) ∙ error-is i) ∙ z) ∙ C .elem-zero
+      holds-at : (i : ℕ) → i < s .m → byteAt errors i ≡ 0 → equationHolds A s key x i ≡ true
+      holds-at i h z = eqb-true base _ 𝟘 (sym (C .elem-byte _) ∙ ap elem (sym (are i (omega arith) ∙ error-is i) ∙ z) ∙ C .elem-zero)
 
-      error-zero : (i : ℕ) → i < s .m → error A s key i (symbol A x) ≡ 𝟘 → byteAt errors i ≡ 0
-      error-zero i h z = are i (omega arith) ∙ error-is i ∙ ap byte (z ∙ sym (C .elem-zero)) ∙ byte-bit C 0 (omega arith)
+      fails-at : (i : ℕ) → i < s .m → byteAt errors i ≢ 0 → equationHolds A s key x i ≡ false
+      fails-at i h n = T-false _ (λ t. n (are i (omega arith) ∙ error-is i ∙ ap byte (base .eqb-sound _ 𝟘 (T-true _ t) ∙ sym (C .elem-zero)) ∙ byte-bit C 0 (omega arith)))
 
-      -- the first that fails is named, and the witness does not solve the system
-      pub first-fails : (i : ℕ) → FirstIn errors (At i) → namesFailing A s key x i
-      first-fails i f = (omega (arith, f .0), λ z. f .1 (error-zero i (omega (arith, f .0)) z))
+      pub none-solves : FirstIn errors Nothing → solves A s key x ≡ true
+      unfolding solves
+      none-solves f = all-of (s .m) _ (λ i h. holds-at i h (f i (omega arith)))
+
+      -- the first error that is not 0 is that of the first equation that fails, and the witness does not solve the
+      -- system
+      pub first-named : (i : ℕ) → FirstIn errors (At i) → firstNot (s .m) (equationHolds A s key x) ≡ i
+      first-named i f =
+          let l : i < s .m = omega (arith, f .0) in
+          first-at (s .m) (equationHolds A s key x) i l (λ k h. holds-at k (omega (arith, h, l)) (f .2 k h)) (fails-at i l (f .1))
 
       pub first-refutes : (i : ℕ) → FirstIn errors (At i) → solves A s key x ≡ false
       unfolding solves
       first-refutes i f =
-          T-false _ (λ t. first-fails i f .1 (base .eqb-sound _ 𝟘 (all-at (s .m) (λ k. isZero base (error A s key k (symbol A x))) (T-true _ t) i (first-fails i f .0))))
-
-      pub none-solves : FirstIn errors Nothing → solves A s key x ≡ true
-      unfolding solves
-      none-solves f = all-of (s .m) _ (λ i h. ap (isZero base) (zero-error i h (f i (omega arith))) ∙ base .eqb-refl 𝟘)
+          let l : i < s .m = omega (arith, f .0) in
+          T-false _ (λ t. true≢false (sym (all-at (s .m) (equationHolds A s key x) (T-true _ t) i l) ∙ fails-at i l (f .1)))

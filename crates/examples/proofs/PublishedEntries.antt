@@ -4,7 +4,7 @@ use Rattle.field.proofs.Products.{product-57-83, product-57-13, product-05-52}
 use Rattle.examples.specs.PublishedEntries.{PublishedEntries}
 use Rattle.examples.proofs.ToyProver.{u-is, v-is, C-is, d-is, ũ-is, Ṽ-is, QS0-is, QS1-is, proof-is, proof-length}
 use Rattle.examples.proofs.ToyVerifier.{proof-at-02, QS1-changed-at-02, QS1-changed-at-00, ũ-changed-at-02}
-use Rattle.examples.proofs.ToyWitness.{equation-0-fails, test-at, commit-at, batch-at, prove-at, test-no-other, commit-no-other, batch-no-other, prove-no-other}
+use Rattle.examples.proofs.ToyWitness.{equation-0-fails, test-refused, commit-refused, batch-refused, prove-refused}
 use Rattle.examples.proofs.ToyForged.{forged-at-00-and-52}
 
 pub published-entries : PublishedEntries
@@ -27,13 +27,9 @@ published-entries = record {
   QS1-changed-at-00 = QS1-changed-at-00;
   ũ-changed-at-02 = ũ-changed-at-02;
   equation-0-fails = equation-0-fails;
-  test-refused = test-at 0;
-  commit-refused = commit-at 0;
-  batch-refused = batch-at 0;
-  prove-refused = prove-at 0;
-  test-no-other = test-no-other;
-  commit-no-other = commit-no-other;
-  batch-no-other = batch-no-other;
-  prove-no-other = prove-no-other;
+  test-refused = test-refused;
+  commit-refused = commit-refused;
+  batch-refused = batch-refused;
+  prove-refused = prove-refused;
   forged-at-00-and-52 = forged-at-00-and-52;
 }

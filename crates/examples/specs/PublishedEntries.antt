@@ -14,9 +14,9 @@ use Rattle.protocol.specs.Lists.{table}
 use Rattle.protocol.specs.Shape.{shapeOf, lOf}
 use Rattle.protocol.specs.Sections.{Sections}
 use Rattle.protocol.specs.Prover.{u, v, sectionsOf, proofOf}
-use Rattle.protocol.specs.Answers.{Answer, accepted, refused, isAccepted}
-use Rattle.protocol.specs.Questions.{namesFailing}
-use Rattle.protocol.specs.Calls.{testAnswer, commitAnswer, batchAnswer, proveAnswer, TestReply, CommitReply, BatchReply, ProveReply}
+use Rattle.protocol.specs.Answers.{accepted, refused, isAccepted}
+use Rattle.protocol.specs.Questions.{fails}
+use Rattle.protocol.specs.Calls.{testAnswer, commitAnswer, batchAnswer, proveAnswer}
 use Rattle.examples.specs.Toy.{A, s, key, key₀, leaves, x, H′, χ, out, proof, proofQS1, proofũ, answerWith}
 
 abbrev pub sections : Sections
@@ -46,15 +46,11 @@ pub record PublishedEntries : Type 0 where
   pub QS1-changed-at-00 : answerWith key 0x00 proofQS1 ≡ accepted
   -- "ũ changed to 00: refused 14 place 0 at 02."
   pub ũ-changed-at-02 : answerWith key 0x02 proofũ ≡ refused 14 0
-  -- "y = 0: witness refused 11 place 0;" equation 0 fails, so that this answer is a reply, and there is no other.
-  pub equation-0-fails : namesFailing A (shapeOf key₀) key₀ x 0
-  pub test-refused : testAnswer A key₀ x 0 ≡ refused 11 0
-  pub commit-refused : commitAnswer A key₀ leaves x (out 9) 0 ≡ refused 11 0
-  pub batch-refused : batchAnswer A key₀ leaves x χ (out 10) 0 ≡ refused 11 0
-  pub prove-refused : proveAnswer A key₀ leaves x H′ χ (out 29) 0 ≡ refused 11 0
-  pub test-no-other : (a : Answer) → TestReply A key₀ x a → a ≡ refused 11 0
-  pub commit-no-other : (a : Answer) → CommitReply A key₀ leaves x (out 9) a → a ≡ refused 11 0
-  pub batch-no-other : (a : Answer) → BatchReply A key₀ leaves x χ (out 10) a → a ≡ refused 11 0
-  pub prove-no-other : (a : Answer) → ProveReply A key₀ leaves x H′ χ (out 29) a → a ≡ refused 11 0
+  -- "y = 0: witness refused 11 place 0;" equation 0 fails.
+  pub equation-0-fails : fails A (shapeOf key₀) key₀ x 0
+  pub test-refused : testAnswer A key₀ x ≡ refused 11 0
+  pub commit-refused : commitAnswer A key₀ leaves x (out 9) ≡ refused 11 0
+  pub batch-refused : batchAnswer A key₀ leaves x χ (out 10) ≡ refused 11 0
+  pub prove-refused : proveAnswer A key₀ leaves x H′ χ (out 29) ≡ refused 11 0
   -- "with QS1 = 05, accepted at Δ = 00 and 52 only."
   pub forged-at-00-and-52 : (δ : ℕ) → δ < 256 → isAccepted (answerWith key₀ δ proofQS1) ≡ (eqb δ 0x00 || eqb δ 0x52)

@@ -8,7 +8,7 @@ use Prim.Native.Nat.{ℕ, zero, suc, _+_, _*_, _≤_, _<_}
 use native.Mathlib.Omega.{arith}
 use Rattle.algebra.proofs.CountLaws.{and-left, and-right}
 use Rattle.protocol.specs.Shape.{Shape}
-use Rattle.protocol.specs.Answers.{Answer, accepted, refused, numberOf, placeOf, word, isAccepted, Question, ask, allYes, Reply, Published, taken, header-short, size-out-of-range, key-length, key-spare-bit, challenge-length, hash-spare-bit, leaf-length, leaf-spare-bit, witness-form, output-length, equation-fails, proof-length, proof-spare-bit, inconsistent, product-differs}
+use Rattle.protocol.specs.Answers.{Answer, accepted, refused, numberOf, placeOf, word, isAccepted, Question, ask, allYes, Published, taken, header-short, size-out-of-range, key-length, key-spare-bit, challenge-length, hash-spare-bit, leaf-length, leaf-spare-bit, witness-form, output-length, equation-fails, proof-length, proof-spare-bit, inconsistent, product-differs}
 use Rattle.protocol.specs.Statements.{FirstNo, AskRefuses, AskFirstNo, AskAccepts, WordInjective}
 use Rattle.protocol.proofs.TestLaws.{both-true}
 
@@ -59,15 +59,6 @@ ask-after (x ∷ before) qs h = go (x .yes?) refl h (ask-after before qs)
     go : (b : Bool) → x .yes? ≡ b → (b && allYes before) ≡ true → (allYes before ≡ true → ask (before ++ qs) ≡ ask qs) → ask (x ∷ (before ++ qs)) ≡ ask qs
     go true e k ih = ask-yes x (before ++ qs) e ∙ ih k
     go false e k ih = absurd (false≢true k)
-
--- once a question has got a no, those after it are not put
-pub ask-before : (before qs rs : List Question) → allYes before ≡ false → ask (before ++ qs) ≡ ask (before ++ rs)
-ask-before [] qs rs h = absurd (true≢false h)
-ask-before (x ∷ before) qs rs h = go (x .yes?) refl h (ask-before before qs rs)
-  where
-    go : (b : Bool) → x .yes? ≡ b → (b && allYes before) ≡ false → (allYes before ≡ false → ask (before ++ qs) ≡ ask (before ++ rs)) → ask (x ∷ (before ++ qs)) ≡ ask (x ∷ (before ++ rs))
-    go true e k ih = ask-yes x (before ++ qs) e ∙ ih k ∙ sym (ask-yes x (before ++ rs) e)
-    go false e k ih = ask-no x (before ++ qs) e ∙ sym (ask-no x (before ++ rs) e)
 
 pub ask-first-no : AskFirstNo
 ask-first-no before x after h n = ask-after before (x ∷ after) h ∙ ask-no x after n

@@ -3,7 +3,7 @@
 use mathlib.Core.Path.{refl}
 use Rattle.protocol.specs.Reader.{sectionAt}
 use Rattle.protocol.specs.SmallExample.{key, witness, leaves, H′, χ, Δ, proof, opened}
-use Rattle.protocol.specs.Edges.{Limits, Forms, Numbers, Lengths, Order, Derived, Extents, Words}
+use Rattle.protocol.specs.Edges.{Limits, Forms, Numbers, Lengths, Order, FirstEquation, Derived, Extents, Words}
 use Rattle.protocol.proofs.Computing.{computing}
 
 pub limits-are : Limits
@@ -94,7 +94,13 @@ order-is = record {
   twelve-thirteen = refl;
   nine-ten = refl;
   ten-eleven = refl;
-  eleven = refl;
+}
+
+pub first-equation : FirstEquation
+unfolding computing key witness leaves H′ χ
+first-equation = record {
+  both-fail = refl;
+  second-fails = refl;
 }
 
 pub derived-are : Derived

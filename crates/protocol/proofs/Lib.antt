@@ -17,7 +17,7 @@ pub mod FormLaws
 pub mod HashLaws
 pub mod CoefficientLaws
 pub mod AnswerLaws
-pub mod ReplyLaws
+pub mod EachLaws
 pub mod OwnNumbers
 pub mod CountingLaws
 pub mod LimitLaws

@@ -1,12 +1,12 @@
 -- A call answers 0 or a number of its own questions: `ask` gives no other.
 -- Assumes nothing.
-use mathlib.Core.Path.{_≡_, refl, sym, ap, _∙_}
+use mathlib.Core.Path.{_≡_, refl, ap, _∙_}
 use mathlib.Core.Bool.{Bool, true, false, _||_}
 use mathlib.Core.List.{List, [], _∷_}
 use Prim.Native.Nat.{ℕ}
 use lib.Dec.{eqb}
 use Rattle.protocol.specs.Alphabet.{Alphabet}
-use Rattle.protocol.specs.Answers.{Answer, numberOf, placeOf, Question, ask}
+use Rattle.protocol.specs.Answers.{numberOf, Question, ask}
 use Rattle.protocol.specs.Calls.{testPuts, commitPuts, hashQuestions, batchPuts, provePuts, verifyPuts, testAnswer, commitAnswer, hashAnswer, batchAnswer, proveAnswer, verifyAnswer}
 use Rattle.protocol.specs.QuestionNumbers.{numbers, among, OwnNumbers}
 use Rattle.protocol.proofs.TestLaws.{eqb-same}
@@ -33,16 +33,13 @@ number-among (x ∷ qs) = go (x .yes?) refl (number-among qs)
         ap (λ a. among (0 ∷ numbers (x ∷ qs)) (numberOf a)) (ask-no x qs e)
         ∙ or-second (eqb (x .number) 0) (eqb (x .number) (x .number)) (among (numbers qs) (x .number)) (eqb-same (x .number) (x .number) refl)
 
-own : (qs : List Question) (a : Answer) → a ≡ ask qs → among (0 ∷ numbers qs) (numberOf a) ≡ true
-own qs a h = ap (λ b. among (0 ∷ numbers qs) (numberOf b)) h ∙ number-among qs
-
 pub own-numbers : (A : Alphabet) → OwnNumbers A
 unfolding testAnswer commitAnswer hashAnswer batchAnswer proveAnswer verifyAnswer
 own-numbers A = record {
-  test-own = λ key x a r. own (testPuts A key x (placeOf a)) a (r .answers);
-  commit-own = λ key leaves x out a r. own (commitPuts A key leaves x out (placeOf a)) a (r .answers);
-  hash-own = λ key leaves H′ out. own (hashQuestions A key leaves H′ out) _ refl;
-  batch-own = λ key leaves x χ out a r. own (batchPuts A key leaves x χ out (placeOf a)) a (r .answers);
-  prove-own = λ key leaves x H′ χ out a r. own (provePuts A key leaves x H′ χ out (placeOf a)) a (r .answers);
-  verify-own = λ key Δ H′ χ opened proof. own (verifyPuts A key Δ H′ χ opened proof) _ refl;
+  test-own = λ key x. number-among (testPuts A key x);
+  commit-own = λ key leaves x out. number-among (commitPuts A key leaves x out);
+  hash-own = λ key leaves H′ out. number-among (hashQuestions A key leaves H′ out);
+  batch-own = λ key leaves x χ out. number-among (batchPuts A key leaves x χ out);
+  prove-own = λ key leaves x H′ χ out. number-among (provePuts A key leaves x H′ χ out);
+  verify-own = λ key Δ H′ χ opened proof. number-among (verifyPuts A key Δ H′ χ opened proof);
 }

@@ -1,5 +1,5 @@
--- Every answer of every call is in the published list; 11 is given exactly when some equation fails;
--- and there always is a reply.
+-- Every answer of every call is in the published list; 11 is given exactly when some equation fails, and names the
+-- first that does.
 -- Assumes nothing.
 use mathlib.Core.Path.{_≡_, refl, sym, ap, _∙_}
 use mathlib.Core.Logic.{_↔_, _≢_}
@@ -10,20 +10,19 @@ use native.Mathlib.Omega.{arith}
 use Rattle.algebra.specs.Ring.{Ring}
 use Rattle.algebra.specs.Field.{Field}
 use Rattle.algebra.specs.Coded.{Coded}
-use Rattle.algebra.specs.Roots.{isZero}
 use Rattle.algebra.proofs.FieldLaws.{dec, eqb-true}
 use Rattle.protocol.specs.Lists.{allBelow, firstNot}
 use Rattle.protocol.specs.Alphabet.{Alphabet, sym as symbol}
 use Rattle.protocol.specs.Shape.{Shape, shapeOf, perTree, perOpened}
 use Rattle.protocol.specs.Sections.{lengths, commitLengths, hashLengths, batchLengths}
 use Rattle.protocol.specs.Forms.{error}
-use Rattle.protocol.specs.Answers.{Answer, refused, numberOf, placeOf, Question, allYes, ask, Reply, Published, header-short, size-out-of-range, key-length, key-spare-bit, challenge-length, hash-spare-bit, leaf-length, leaf-spare-bit, witness-form, output-length, equation-fails, proof-length, proof-spare-bit, inconsistent, product-differs}
-use Rattle.protocol.specs.Questions.{ΔExact, hExact, χExact, solves, fails, namesFailing, consistentIn, productIn, q1, q2, q3, q4, q5, q6, q7, q8, q9, q10, q11, q12, q13, q14, q15}
-use Rattle.protocol.specs.Calls.{testQuestions, commitQuestions, hashQuestions, batchQuestions, proveQuestions, verifyQuestions, testAnswer, commitAnswer, hashAnswer, batchAnswer, proveAnswer, verifyAnswer, testForm, commitForm, batchForm, proveForm, TestReply, CommitReply, BatchReply, ProveReply}
-use Rattle.protocol.specs.Statements.{AllPublished, SomeFails, RefusesExactly, AlwaysReplies}
+use Rattle.protocol.specs.Answers.{Answer, refused, Question, allYes, ask, Published, header-short, size-out-of-range, key-length, key-spare-bit, challenge-length, hash-spare-bit, leaf-length, leaf-spare-bit, witness-form, output-length, equation-fails, proof-length, proof-spare-bit, inconsistent, product-differs}
+use Rattle.protocol.specs.Questions.{ΔExact, hExact, χExact, equationHolds, solves, consistentIn, productIn, q1, q2, q3, q4, q5, q6, q7, q8, q9, q10, q11, q12, q13, q14, q15}
+use Rattle.protocol.specs.Calls.{testQuestions, commitQuestions, hashQuestions, batchQuestions, proveQuestions, verifyQuestions, testAnswer, commitAnswer, hashAnswer, batchAnswer, proveAnswer, verifyAnswer, testForm, commitForm, batchForm, proveForm}
+use Rattle.protocol.specs.Statements.{AllPublished, SomeFails, FirstFails, FirstFailing, RefusedIff, RefusesExactly}
 use Rattle.protocol.proofs.TestLaws.{all-at, first-not}
 use Rattle.protocol.proofs.AnswerLaws.{Listed, published-ask, on-form}
-use Rattle.protocol.proofs.ReplyLaws.{without?, without-by, refuses-exactly, reply-exists}
+use Rattle.protocol.proofs.EachLaws.{without?, without-by, each, some-first-fails, names-first, refused-first, refused-when}
 
 module _ (A : Alphabet) where
   open Alphabet A using (K)
@@ -31,58 +30,71 @@ module _ (A : Alphabet) where
   open Field base using (R)
   open Ring R using (F, 𝟘)
 
-  -- the question 11 gets a no exactly when some equation fails
+  -- question 11, in the terms of the errors
   module _ (key x : List ℕ) where
     abbrev s : Shape
     s = shapeOf key
 
-    fails-no : SomeFails A key x → solves A s key x ≡ false
-    unfolding solves
-    fails-no (i, t) = go (allBelow (s .m) (λ i. isZero base (error A s key i (symbol A x)))) refl
+    abbrev holds : ℕ → Bool
+    holds = equationHolds A s key x
+
+    not-holds : (i : ℕ) → holds i ≡ false → error A s key i (symbol A x) ≢ 𝟘
+    not-holds i h z = true≢false (sym (eqb-true base _ 𝟘 z) ∙ h)
+
+    first-fails : {i : ℕ} → FirstFailing (s .m) holds i → FirstFails A key x i
+    first-fails f = ((f .0, not-holds _ (f .1)), λ j l. base .eqb-sound _ 𝟘 (f .2 j l))
+
+    some-fails : (allBelow (s .m) holds ≡ false) ↔ SomeFails A key x
+    some-fails = (λ h. let t = first-not (s .m) holds h in (firstNot (s .m) holds, (t .0, not-holds _ (t .1))), λ t. go (allBelow (s .m) holds) refl t)
       where
-        go : (b : Bool) → allBelow (s .m) (λ i. isZero base (error A s key i (symbol A x))) ≡ b → b ≡ false
-        go true e = absurd (t .1 (base .eqb-sound _ 𝟘 (all-at (s .m) (λ i. isZero base (error A s key i (symbol A x))) e i (t .0))))
-        go false e = refl
+        go : (b : Bool) → allBelow (s .m) holds ≡ b → SomeFails A key x → b ≡ false
+        go true e (i, f) = absurd (f .1 (base .eqb-sound _ 𝟘 (all-at (s .m) holds e i (f .0))))
+        go false e t = refl
 
-    abbrev first : ℕ
-    first = firstNot (s .m) (λ i. isZero base (error A s key i (symbol A x)))
+    -- of a call that puts it last, after questions of other numbers
+    module _ (form : List Question) (other : without? 11 form ≡ true) where
+      abbrev answer : Answer
+      answer = ask (form ++ (each 11 (s .m) holds ∷ []))
 
-    first-fails : solves A s key x ≡ false → fails A s key x first
-    unfolding solves
-    first-fails h =
-        let t = first-not (s .m) (λ i. isZero base (error A s key i (symbol A x))) h in
-        (t .0, λ z. true≢false (sym (eqb-true base _ 𝟘 z) ∙ t .1))
+      pub names-eleven : (i : ℕ) → answer ≡ refused 11 i → FirstFails A key x i
+      names-eleven i h = first-fails (names-first 11 (s .m) holds form [] (without-by 11 form other) tt i h .1)
 
-    no-fails : solves A s key x ≡ false → SomeFails A key x
-    no-fails h = (first, first-fails h)
+      pub refused-iff : allYes form ≡ true → RefusedIff A key x answer
+      refused-iff f =
+          let when = refused-when 11 (s .m) holds form f in (
+            (λ n. some-fails .0 (when .0 n), λ t. when .1 (some-fails .1 t)),
+            λ n.
+                let no = when .0 n in
+                (firstNot (s .m) holds, first-fails (some-first-fails 11 (s .m) holds no), refused-first 11 (s .m) holds form f no),
+          )
 
   module _ (key : List ℕ) (r : Answer) where
-    abbrev P : Type 0
-    P = Published (shapeOf key) r
-
     form : (i : ℕ) (b : Bool) → Published (shapeOf key) (refused i 0) → b ≡ false → r ≡ refused i 0 → Published (shapeOf key) r
     form i b c = on-form (shapeOf key) r i b c
 
-    eleven : (x : List ℕ) → (numberOf r ≡ 11 → namesFailing A (shapeOf key) key x (placeOf r)) → solves A (shapeOf key) key x ≡ false → r ≡ refused 11 (placeOf r) → Published (shapeOf key) r
-    eleven x n e h = rw h (equation-fails (placeOf r) (n (ap numberOf h) .0))
+    eleven : (x : List ℕ) → allBelow (shapeOf key .m) (holds key x) ≡ false → r ≡ refused 11 (firstNot (shapeOf key .m) (holds key x)) → Published (shapeOf key) r
+    eleven x e h = rw h (equation-fails _ (first-not (shapeOf key .m) (holds key x) e .0))
 
   pub all-published : AllPublished A
-  unfolding testAnswer commitAnswer hashAnswer batchAnswer proveAnswer verifyAnswer
+  unfolding testAnswer commitAnswer hashAnswer batchAnswer proveAnswer verifyAnswer solves
   all-published = record {
-    test-published = λ key x a r.
-        published-ask (shapeOf key) a (testQuestions A key x ++ (q11 A (shapeOf key) key x (placeOf a) ∷ [])) (form key a 1 _ header-short, (form key a 2 _ size-out-of-range, (form key a 3 _ key-length, (form key a 4 _ key-spare-bit, (form key a 9 _ witness-form, (eleven key a x (r .eleven), tt))))))
-        (r .answers);
-    commit-published = λ key leaves x out a r.
-        published-ask (shapeOf key) a (commitQuestions A key leaves x out ++ (q11 A (shapeOf key) key x (placeOf a) ∷ []))
-        (form key a 1 _ header-short, (form key a 2 _ size-out-of-range, (form key a 3 _ key-length, (form key a 4 _ key-spare-bit, (form key a 7 _ leaf-length, (form key a 8 _ leaf-spare-bit, (form key a 9 _ witness-form, (form key a 10 _ output-length, (eleven key a x (r .eleven), tt)))))))))
-        (r .answers);
+    test-published = λ key x.
+        let a = testAnswer A key x in
+        published-ask (shapeOf key) a (testQuestions A key x ++ (q11 A (shapeOf key) key x ∷ [])) (form key a 1 _ header-short, (form key a 2 _ size-out-of-range, (form key a 3 _ key-length, (form key a 4 _ key-spare-bit, (form key a 9 _ witness-form, (eleven key a x, tt))))))
+        refl;
+    commit-published = λ key leaves x out.
+        let a = commitAnswer A key leaves x out in
+        published-ask (shapeOf key) a (commitQuestions A key leaves x out ++ (q11 A (shapeOf key) key x ∷ []))
+        (form key a 1 _ header-short, (form key a 2 _ size-out-of-range, (form key a 3 _ key-length, (form key a 4 _ key-spare-bit, (form key a 7 _ leaf-length, (form key a 8 _ leaf-spare-bit, (form key a 9 _ witness-form, (form key a 10 _ output-length, (eleven key a x, tt)))))))))
+        refl;
     hash-published = λ key leaves H′ out.
         let r = hashAnswer A key leaves H′ out in
         published-ask (shapeOf key) r (hashQuestions A key leaves H′ out)
         (form key r 1 _ header-short, (form key r 2 _ size-out-of-range, (form key r 3 _ key-length, (form key r 4 _ key-spare-bit, (form key r 5 _ challenge-length, (form key r 6 _ hash-spare-bit, (form key r 7 _ leaf-length, (form key r 8 _ leaf-spare-bit, (form key r 10 _ output-length, tt)))))))))
         refl;
-    batch-published = λ key leaves x χ out a r.
-        published-ask (shapeOf key) a (batchQuestions A key leaves x χ out ++ (q11 A (shapeOf key) key x (placeOf a) ∷ [])) (
+    batch-published = λ key leaves x χ out.
+        let a = batchAnswer A key leaves x χ out in
+        published-ask (shapeOf key) a (batchQuestions A key leaves x χ out ++ (q11 A (shapeOf key) key x ∷ [])) (
           form key a 1 _ header-short,
           (
             form key a 2 _ size-out-of-range,
@@ -100,7 +112,7 @@ module _ (A : Alphabet) where
                         form key a 9 _ witness-form,
                         (
                           form key a 10 _ output-length,
-                          (eleven key a x (r .eleven), tt),
+                          (eleven key a x, tt),
                         ),
                       ),
                     ),
@@ -110,9 +122,10 @@ module _ (A : Alphabet) where
             ),
           ),
         )
-        (r .answers);
-    prove-published = λ key leaves x H′ χ out a r.
-        published-ask (shapeOf key) a (proveQuestions A key leaves x H′ χ out ++ (q11 A (shapeOf key) key x (placeOf a) ∷ [])) (
+        refl;
+    prove-published = λ key leaves x H′ χ out.
+        let a = proveAnswer A key leaves x H′ χ out in
+        published-ask (shapeOf key) a (proveQuestions A key leaves x H′ χ out ++ (q11 A (shapeOf key) key x ∷ [])) (
           form key a 1 _ header-short,
           (
             form key a 2 _ size-out-of-range,
@@ -130,7 +143,7 @@ module _ (A : Alphabet) where
                         form key a 8 _ leaf-spare-bit,
                         (
                           form key a 9 _ witness-form,
-                          (form key a 10 _ output-length, (eleven key a x (r .eleven), tt)),
+                          (form key a 10 _ output-length, (eleven key a x, tt)),
                         ),
                       ),
                     ),
@@ -140,7 +153,7 @@ module _ (A : Alphabet) where
             ),
           ),
         )
-        (r .answers);
+        refl;
     verify-published = λ key Δ H′ χ opened proof.
         let s = shapeOf key in
         let r = verifyAnswer A key Δ H′ χ opened proof in
@@ -178,27 +191,10 @@ module _ (A : Alphabet) where
   }
 
   pub refuses-exactly-when : RefusesExactly A
-  unfolding testAnswer commitAnswer batchAnswer proveAnswer testForm commitForm batchForm proveForm
+  unfolding testAnswer commitAnswer batchAnswer proveAnswer testForm commitForm batchForm proveForm solves
   refuses-exactly-when = record {
-    test-refuses = λ key x a f r. refuses-exactly (testQuestions A key x) (solves A (shapeOf key) key x) (testAnswer A key x) (λ p. refl) _ f (fails-no key x) (no-fails key x) a r;
-    commit-refuses = λ key leaves x out a f r.
-        refuses-exactly (commitQuestions A key leaves x out) (solves A (shapeOf key) key x) (commitAnswer A key leaves x out) (λ p. refl) _ f (fails-no key x) (no-fails key x) a r;
-    batch-refuses = λ key leaves x χ out a f r.
-        refuses-exactly (batchQuestions A key leaves x χ out) (solves A (shapeOf key) key x) (batchAnswer A key leaves x χ out) (λ p. refl) _ f (fails-no key x) (no-fails key x) a r;
-    prove-refuses = λ key leaves x H′ χ out a f r.
-        refuses-exactly (proveQuestions A key leaves x H′ χ out) (solves A (shapeOf key) key x) (proveAnswer A key leaves x H′ χ out) (λ p. refl) _ f (fails-no key x) (no-fails key x) a r;
-  }
-
-  -- a call that puts question 11 after questions of other numbers has a reply
-  replies : (key x : List ℕ) (qs : List Question) (answer : ℕ → Answer) → ((p : ℕ) → answer p ≡ ask (qs ++ (q11 A (shapeOf key) key x p ∷ []))) → without? 11 qs ≡ true
-      → (a : Answer) × Reply answer (namesFailing A (shapeOf key) key x) a
-  replies key x qs answer is w = reply-exists qs (solves A (shapeOf key) key x) answer is _ (without-by 11 qs w) (first key x) (first-fails key x)
-
-  pub always-replies : AlwaysReplies A
-  unfolding testAnswer commitAnswer batchAnswer proveAnswer
-  always-replies = record {
-    test-replies = λ key x. replies key x (testQuestions A key x) (testAnswer A key x) (λ p. refl) refl;
-    commit-replies = λ key leaves x out. replies key x (commitQuestions A key leaves x out) (commitAnswer A key leaves x out) (λ p. refl) refl;
-    batch-replies = λ key leaves x χ out. replies key x (batchQuestions A key leaves x χ out) (batchAnswer A key leaves x χ out) (λ p. refl) refl;
-    prove-replies = λ key leaves x H′ χ out. replies key x (proveQuestions A key leaves x H′ χ out) (proveAnswer A key leaves x H′ χ out) (λ p. refl) refl;
+    test-refuses = λ key x f. refused-iff key x (testQuestions A key x) refl f;
+    commit-refuses = λ key leaves x out f. refused-iff key x (commitQuestions A key leaves x out) refl f;
+    batch-refuses = λ key leaves x χ out f. refused-iff key x (batchQuestions A key leaves x χ out) refl f;
+    prove-refuses = λ key leaves x H′ χ out f. refused-iff key x (proveQuestions A key leaves x H′ χ out) refl f;
   }

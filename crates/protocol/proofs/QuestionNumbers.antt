@@ -6,11 +6,11 @@ use Rattle.protocol.specs.QuestionNumbers.{QuestionNumbers}
 
 pub question-numbers : (A : Alphabet) → QuestionNumbers A
 question-numbers A = record {
-  test-puts = λ key x p. refl;
-  commit-puts = λ key leaves x out p. refl;
+  test-puts = λ key x. refl;
+  commit-puts = λ key leaves x out. refl;
   hash-puts = λ key leaves H′ out. refl;
-  batch-puts = λ key leaves x χ out p. refl;
-  prove-puts = λ key leaves x H′ χ out p. refl;
+  batch-puts = λ key leaves x χ out. refl;
+  prove-puts = λ key leaves x H′ χ out. refl;
   verify-puts = λ key Δ H′ χ opened proof. refl;
   honest = λ key leaves x H′ χ. refl;
   well-formed = λ key leaves H′ χ proof. refl;

@@ -126,3 +126,9 @@ first-not (suc n) p h = go (p 0) refl (first-not n (λ i. p (suc i)))
         → (elim b as (λ x. ℕ) [ true ↦ suc (firstNot n (λ i. p (suc i))) | false ↦ 0 ] < suc n) × (p (elim b as (λ x. ℕ) [ true ↦ suc (firstNot n (λ i. p (suc i))) | false ↦ 0 ]) ≡ false)
     go true e ih = let r = ih (rw e at h) in (omega (arith, r .0), r .1)
     go false e ih = (omega arith, e)
+
+pub first-at : (n : ℕ) (p : ℕ → Bool) (i : ℕ) → i < n → ((k : ℕ) → k < i → p k ≡ true) → p i ≡ false → firstNot n p ≡ i
+unfolding firstNot
+first-at zero p i l before fails = absurd (omega arith)
+first-at (suc n) p zero l before fails = rw (fails, firstNot)
+first-at (suc n) p (suc i) l before fails = rw (before 0 (omega arith), firstNot) (ap suc (first-at n (λ k. p (suc k)) i (omega arith) (λ k h. before (suc k) (omega arith)) fails))

@@ -18,7 +18,7 @@ use Rattle.algebra.proofs.CountLaws.{and-left, and-right, count-congr}
 use Rattle.algebra.proofs.RootLaws.{factor-values, factor-iff}
 use Rattle.algebra.proofs.StringLaws.{above}
 use Rattle.algebra.proofs.ColumnLaws.{columns-fail, columns-all}
-use Rattle.protocol.specs.Lists.{allBelow, allTrue, firstNot}
+use Rattle.protocol.specs.Lists.{allBelow, allTrue}
 use Rattle.protocol.specs.Frames.{frame}
 use Rattle.protocol.specs.Alphabet.{Alphabet, sym as symbol, IsSymbol, Lawful}
 use Rattle.protocol.specs.Shape.{Shape, shapeOf, limits, perTree, perOpened, wOf}
@@ -27,30 +27,29 @@ use Rattle.protocol.specs.Leaves.{openTree, openedLeaf}
 use Rattle.protocol.specs.Forms.{quad, lin, yOf, error}
 use Rattle.protocol.specs.Prover.{v, a₀, a₁, cSection, dSection, ũSection, ṼSection, qs0Section, qs1Section, sectionsOf, commitBytes, hashBytes, batchBytes, proofOf}
 use Rattle.protocol.specs.Verifier.{candidate, correctionAt}
-use Rattle.protocol.specs.Answers.{accepted, refused, numberOf, placeOf, isAccepted, Question, question, ask, allYes}
-use Rattle.protocol.specs.Questions.{hExact, χExact, witnessForm, proofSpare, leavesExact, consistentIn, productIn, q1, q2, q3, q4, q5, q6, q7, q8, q9, q12, q13, q14, q15}
-use Rattle.protocol.specs.Calls.{verifyQuestions, verifyAnswer, honestForm, verifyForm, wellFormed}
+use Rattle.protocol.specs.Answers.{accepted, isAccepted, Question, ask, allYes}
+use Rattle.protocol.specs.Questions.{hExact, χExact, solves, witnessForm, proofSpare, leavesExact, consistentIn, productIn, q1, q2, q3, q4, q5, q6, q7, q8, q9, q12, q13, q14, q15}
+use Rattle.protocol.specs.Calls.{testQuestions, commitQuestions, batchQuestions, proveQuestions, verifyQuestions, testAnswer, commitAnswer, batchAnswer, proveAnswer, verifyAnswer, honestForm, verifyForm, wellFormed}
 use Rattle.protocol.specs.Counting.{opening, acceptedCount, checksAt, factor}
 use Rattle.protocol.specs.Coefficients.{conditions}
-use Rattle.protocol.specs.Statements.{OpenedByPlace, OpenedForm, VoleIdentity, Expansion, ProverExpansion, HonestAccepted, HonestWellFormed, AcceptsExactly, FirstFailing, FirstNamed, StepsAreWhole, ProofReadsBack, CandidateIsWitness, candidateBytes, ForgeryCount, HidingColumns, errorOf, factorOf}
-use Rattle.protocol.proofs.TestLaws.{both-true, all-at, all-of, all-true, eqb-same, passes-all, first-not, first-before}
+use Rattle.protocol.specs.Statements.{OpenedByPlace, OpenedForm, VoleIdentity, Expansion, ProverExpansion, HonestAccepted, HonestWellFormed, AcceptsExactly, FirstNamed, StepsAreWhole, ProofReadsBack, CandidateIsWitness, candidateBytes, ForgeryCount, HidingColumns, errorOf, factorOf}
+use Rattle.protocol.proofs.TestLaws.{both-true, all-at, all-of, all-true, eqb-same, passes-all}
 use Rattle.protocol.proofs.FrameLaws.{frame-append}
 use Rattle.protocol.proofs.LeafLaws.{open-place}
 use Rattle.protocol.proofs.VoleLaws.{vole}
 use Rattle.protocol.proofs.FormLaws.{expand, quad-congr, lin-congr}
 use Rattle.protocol.proofs.CoefficientLaws.{checks-passing}
-use Rattle.protocol.proofs.AnswerLaws.{ask-none, ask-no, ask-yes, accepted-all, accepted-of, all-yes, yes-all, ask-after}
-use Rattle.protocol.proofs.ReplyLaws.{Without, not-number}
+use Rattle.protocol.proofs.AnswerLaws.{accepted-all, accepted-of, all-yes, yes-all, ask-after}
+use Rattle.protocol.proofs.EachLaws.{without-by, names-first}
+use Rattle.protocol.proofs.Published.{names-eleven}
 use Rattle.protocol.proofs.CountingLaws.{Form, form-of, leaves-length, opened-exact, opened-spare, tree-is, splits, count-product}
 use Rattle.protocol.proofs.LimitLaws.{bounds-of}
 use Rattle.protocol.proofs.SymbolLaws.{sym-symbol, pack-sym, u-symbol}
 use Rattle.protocol.proofs.HonestLaws.{passing-all, exact, sections-back, spare}
 
-zero-not : (i : ℕ) → 0 < i → _≡_ {A = ℕ} 0 i → ⊥
-zero-not i l h = omega arith
-
-fifteen-not : _≡_ {A = ℕ} 15 14 → ⊥
-fifteen-not h = omega arith
+last-yes : (qs : List Question) (x : Question) → allYes (qs ++ (x ∷ [])) ≡ true → x .yes? ≡ true
+last-yes [] x h = and-left (x .yes?) true h
+last-yes (y ∷ qs) x h = last-yes qs x (and-right (y .yes?) (allYes (qs ++ (x ∷ []))) h)
 
 module _ (A : Alphabet) where
   open Alphabet A using (K)
@@ -122,78 +121,22 @@ module _ (A : Alphabet) where
       from f =
           accepted-of _ (split ∙ both-true _ _ (all-of (shapeOf key .τ) C (λ e l. f e l .0)) (both-true _ true (all-of (shapeOf key .τ) Q (λ e l. f e l .1)) refl))
 
-  -- what a refusal by 14 or 15 says, over any questions on form that have neither number
-  module _ (form : List Question) (τ : ℕ) (C Q : ℕ → Bool) (d14 : Without 14 form) (d15 : Without 15 form) (e : ℕ) where
-    abbrev fourteenth : Question
-    fourteenth = question (allBelow τ C) 14 (firstNot τ C)
-
-    abbrev fifteenth : Question
-    fifteenth = question (allBelow τ Q) 15 (firstNot τ Q)
-
-    abbrev last : List Question
-    last = fourteenth ∷ fifteenth ∷ []
-
-    form-yes : (i : ℕ) → Without i form → ask (form ++ last) ≡ refused i e → allYes form ≡ true
-    form-yes i d h = go (allYes form) refl
-      where
-        go : (b : Bool) → allYes form ≡ b → b ≡ true
-        go true f = refl
-        go false f = absurd (not-number i form last d f (ap numberOf h))
-
-    all-C : (i : ℕ) → i ≢ 14 → ask last ≡ refused i e → allBelow τ C ≡ true
-    all-C i n h = go (allBelow τ C) refl
-      where
-        go : (b : Bool) → allBelow τ C ≡ b → b ≡ true
-        go true f = refl
-        go false f = absurd (n (sym (ap numberOf (sym (ask-no fourteenth (fifteenth ∷ []) f) ∙ h))))
-
-    names-14 : ask (form ++ last) ≡ refused 14 e → FirstFailing τ C e
-    names-14 h = go (allBelow τ C) refl
-      where
-        k : ask last ≡ refused 14 e
-        k = sym (ask-after form last (form-yes 14 d14 h)) ∙ h
-
-        rest : (b : Bool) → allBelow τ C ≡ true → allBelow τ Q ≡ b → ⊥
-        rest true f g = zero-not 14 (omega arith) (sym (ap numberOf (ask-yes fifteenth [] g ∙ ask-none)) ∙ ap numberOf (sym (ask-yes fourteenth (fifteenth ∷ []) f) ∙ k))
-        rest false f g = fifteen-not (sym (ap numberOf (ask-no fifteenth [] g)) ∙ ap numberOf (sym (ask-yes fourteenth (fifteenth ∷ []) f) ∙ k))
-
-        go : (b : Bool) → allBelow τ C ≡ b → FirstFailing τ C e
-        go true f = absurd (rest (allBelow τ Q) f refl)
-        go false f =
-            let p : firstNot τ C ≡ e = ap placeOf (sym (ask-no fourteenth (fifteenth ∷ []) f) ∙ k) in
-            let t = first-not τ C f in
-            subst (FirstFailing τ C) p (t .0, t .1, first-before τ C)
-
-    names-15 : ask (form ++ last) ≡ refused 15 e → FirstFailing τ Q e × ((i : ℕ) → i < τ → C i ≡ true)
-    names-15 h = go (allBelow τ Q) refl
-      where
-        k : ask last ≡ refused 15 e
-        k = sym (ask-after form last (form-yes 15 d15 h)) ∙ h
-
-        f : allBelow τ C ≡ true
-        f = all-C 15 (omega arith) k
-
-        r : ask (fifteenth ∷ []) ≡ refused 15 e
-        r = sym (ask-yes fourteenth (fifteenth ∷ []) f) ∙ k
-
-        go : (b : Bool) → allBelow τ Q ≡ b → FirstFailing τ Q e × ((i : ℕ) → i < τ → C i ≡ true)
-        go true g = absurd (zero-not 15 (omega arith) (sym (ap numberOf (ask-yes fifteenth [] g ∙ ask-none)) ∙ ap numberOf r))
-        go false g =
-            let p : firstNot τ Q ≡ e = ap placeOf (sym (ask-no fifteenth [] g) ∙ r) in
-            let t = first-not τ Q g in
-            (subst (FirstFailing τ Q) p (t .0, t .1, first-before τ Q), all-at τ C f)
-
   pub first-named : FirstNamed A
-  unfolding verifyAnswer
+  unfolding testAnswer commitAnswer batchAnswer proveAnswer verifyAnswer solves
   first-named = record {
+    test-eleven = λ key x. names-eleven A key x (testQuestions A key x) refl;
+    commit-eleven = λ key leaves x out. names-eleven A key x (commitQuestions A key leaves x out) refl;
+    batch-eleven = λ key leaves x χ out. names-eleven A key x (batchQuestions A key leaves x χ out) refl;
+    prove-eleven = λ key leaves x H′ χ out. names-eleven A key x (proveQuestions A key leaves x H′ χ out) refl;
     fourteen = λ key Δ H′ χ opened proof e h.
-        names-14 (verifyQuestions A key Δ H′ χ opened proof) (shapeOf key .τ) (consistentIn A (shapeOf key) Δ H′ opened proof) (productIn A (shapeOf key) key Δ χ opened proof)
-        (omega arith, (omega arith, (omega arith, (omega arith, (omega arith, (omega arith, (omega arith, (omega arith, (omega arith, (omega arith, tt))))))))))
-        (omega arith, (omega arith, (omega arith, (omega arith, (omega arith, (omega arith, (omega arith, (omega arith, (omega arith, (omega arith, tt)))))))))) e h;
+        let s = shapeOf key in
+        let before = verifyQuestions A key Δ H′ χ opened proof in
+        names-first 14 (s .τ) (consistentIn A s Δ H′ opened proof) before (q15 A s key Δ χ opened proof ∷ []) (without-by 14 before refl) (omega arith, tt) e h .1;
     fifteen = λ key Δ H′ χ opened proof e h.
-        names-15 (verifyQuestions A key Δ H′ χ opened proof) (shapeOf key .τ) (consistentIn A (shapeOf key) Δ H′ opened proof) (productIn A (shapeOf key) key Δ χ opened proof)
-        (omega arith, (omega arith, (omega arith, (omega arith, (omega arith, (omega arith, (omega arith, (omega arith, (omega arith, (omega arith, tt))))))))))
-        (omega arith, (omega arith, (omega arith, (omega arith, (omega arith, (omega arith, (omega arith, (omega arith, (omega arith, (omega arith, tt)))))))))) e h;
+        let s = shapeOf key in
+        let before = verifyQuestions A key Δ H′ χ opened proof ++ (q14 A s Δ H′ opened proof ∷ []) in
+        let t = names-first 15 (s .τ) (productIn A s key Δ χ opened proof) before [] (without-by 15 before refl) tt e h in
+        (t .1, all-at (s .τ) (consistentIn A s Δ H′ opened proof) (last-yes (verifyQuestions A key Δ H′ χ opened proof) (q14 A s Δ H′ opened proof) (t .0)));
   }
 
   -- the factors, of leaves of exact length

@@ -5,8 +5,6 @@
 --   ask qs == the refusal of the first question that gets a no
 --   allYes qs == every question gets a yes
 --   written a old new == the output after a call that answers a: a refusal writes nothing
---   Reply answer names a == a is what `answer` gives at a's own place (only refusal 11 uses it), and if a's number is
---     11, `names` holds of that place
 --   Published s a == a is accepted or stands in the published list, for a key of sizes s
 -- Assumes nothing.
 use mathlib.Core.Path.{_≡_}
@@ -53,10 +51,6 @@ allYes (x ∷ qs) = x .yes? && allYes qs
 abbrev pub written : Answer → List ℕ → List ℕ → List ℕ
 written accepted old new = new
 written (refused i p) old new = old
-
-pub record Reply (answer : ℕ → Answer) (names : ℕ → Type 0) (a : Answer) : Type 0 where
-  pub answers : a ≡ answer (placeOf a)
-  pub eleven : numberOf a ≡ 11 → names (placeOf a)
 
 pub data Published (s : Shape) : Answer → Type 0 where
   taken : Published s accepted

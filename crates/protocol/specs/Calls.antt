@@ -1,5 +1,4 @@
 -- What each call answers: its questions, in 01's order.
--- In the calls that take a witness, p is the place of refusal 11, which is free.
 --   testQuestions, .., verifyQuestions == the call's questions on form: all but 11, 14 and 15, which come last
 --   testPuts, commitPuts, batchPuts, provePuts, verifyPuts == all questions that the call puts, in order; hash has none
 --     but those on form
@@ -8,7 +7,6 @@
 --   honestQuestions, honestForm == every question of prove on form but 10: a proof's bytes do not depend on the
 --     output's length
 --   wellFormedQuestions, wellFormed == demand 3's: the questions on form, of full leaves
---   TestReply, CommitReply, BatchReply, ProveReply == the replies that the papers allow, where a place is free
 -- Assumes nothing.
 use mathlib.Core.Bool.{Bool}
 use mathlib.Core.List.{List, [], _∷_, _++_}
@@ -16,8 +14,8 @@ use Prim.Native.Nat.{ℕ}
 use Rattle.protocol.specs.Alphabet.{Alphabet}
 use Rattle.protocol.specs.Shape.{Shape, shapeOf, perTree, perOpened}
 use Rattle.protocol.specs.Sections.{lengths, commitLengths, hashLengths, batchLengths}
-use Rattle.protocol.specs.Answers.{Answer, Question, ask, allYes, Reply}
-use Rattle.protocol.specs.Questions.{ΔExact, hExact, χExact, namesFailing, q1, q2, q3, q4, q5, q6, q7, q8, q9, q10, q11, q12, q13, q14, q15}
+use Rattle.protocol.specs.Answers.{Answer, Question, ask, allYes}
+use Rattle.protocol.specs.Questions.{ΔExact, hExact, χExact, q1, q2, q3, q4, q5, q6, q7, q8, q9, q10, q11, q12, q13, q14, q15}
 
 module _ (A : Alphabet) (key : List ℕ) where
   abbrev pub s : Shape
@@ -50,35 +48,35 @@ module _ (A : Alphabet) (key : List ℕ) where
       q1 A s key ∷ q2 A s ∷ q3 A s key ∷ q4 A s key ∷ q5 A s (ΔExact A s Δ ∷ hExact A s H′ ∷ χExact A s χ ∷ []) ∷ q6 A s H′ ∷ q7 A s (perOpened A) opened
       ∷ q8 A s (perOpened A) opened ∷ q12 A s proof ∷ q13 A s proof ∷ []
 
-  abbrev pub testPuts : List ℕ → ℕ → List Question
-  testPuts x p = testQuestions x ++ (q11 A s key x p ∷ [])
+  abbrev pub testPuts : List ℕ → List Question
+  testPuts x = testQuestions x ++ (q11 A s key x ∷ [])
 
-  abbrev pub commitPuts : List ℕ → List ℕ → List ℕ → ℕ → List Question
-  commitPuts leaves x out p = commitQuestions leaves x out ++ (q11 A s key x p ∷ [])
+  abbrev pub commitPuts : List ℕ → List ℕ → List ℕ → List Question
+  commitPuts leaves x out = commitQuestions leaves x out ++ (q11 A s key x ∷ [])
 
-  abbrev pub batchPuts : List ℕ → List ℕ → List ℕ → List ℕ → ℕ → List Question
-  batchPuts leaves x χ out p = batchQuestions leaves x χ out ++ (q11 A s key x p ∷ [])
+  abbrev pub batchPuts : List ℕ → List ℕ → List ℕ → List ℕ → List Question
+  batchPuts leaves x χ out = batchQuestions leaves x χ out ++ (q11 A s key x ∷ [])
 
-  abbrev pub provePuts : List ℕ → List ℕ → List ℕ → List ℕ → List ℕ → ℕ → List Question
-  provePuts leaves x H′ χ out p = proveQuestions leaves x H′ χ out ++ (q11 A s key x p ∷ [])
+  abbrev pub provePuts : List ℕ → List ℕ → List ℕ → List ℕ → List ℕ → List Question
+  provePuts leaves x H′ χ out = proveQuestions leaves x H′ χ out ++ (q11 A s key x ∷ [])
 
   abbrev pub verifyPuts : List ℕ → List ℕ → List ℕ → List ℕ → List ℕ → List Question
   verifyPuts Δ H′ χ opened proof = verifyQuestions Δ H′ χ opened proof ++ (q14 A s Δ H′ opened proof ∷ q15 A s key Δ χ opened proof ∷ [])
 
-  unfoldable pub testAnswer : List ℕ → ℕ → Answer
-  testAnswer x p = ask (testPuts x p)
+  unfoldable pub testAnswer : List ℕ → Answer
+  testAnswer x = ask (testPuts x)
 
-  unfoldable pub commitAnswer : List ℕ → List ℕ → List ℕ → ℕ → Answer
-  commitAnswer leaves x out p = ask (commitPuts leaves x out p)
+  unfoldable pub commitAnswer : List ℕ → List ℕ → List ℕ → Answer
+  commitAnswer leaves x out = ask (commitPuts leaves x out)
 
   unfoldable pub hashAnswer : List ℕ → List ℕ → List ℕ → Answer
   hashAnswer leaves H′ out = ask (hashQuestions leaves H′ out)
 
-  unfoldable pub batchAnswer : List ℕ → List ℕ → List ℕ → List ℕ → ℕ → Answer
-  batchAnswer leaves x χ out p = ask (batchPuts leaves x χ out p)
+  unfoldable pub batchAnswer : List ℕ → List ℕ → List ℕ → List ℕ → Answer
+  batchAnswer leaves x χ out = ask (batchPuts leaves x χ out)
 
-  unfoldable pub proveAnswer : List ℕ → List ℕ → List ℕ → List ℕ → List ℕ → ℕ → Answer
-  proveAnswer leaves x H′ χ out p = ask (provePuts leaves x H′ χ out p)
+  unfoldable pub proveAnswer : List ℕ → List ℕ → List ℕ → List ℕ → List ℕ → Answer
+  proveAnswer leaves x H′ χ out = ask (provePuts leaves x H′ χ out)
 
   unfoldable pub verifyAnswer : List ℕ → List ℕ → List ℕ → List ℕ → List ℕ → Answer
   verifyAnswer Δ H′ χ opened proof = ask (verifyPuts Δ H′ χ opened proof)
@@ -113,15 +111,3 @@ module _ (A : Alphabet) (key : List ℕ) where
 
   unfoldable pub wellFormed : List ℕ → List ℕ → List ℕ → List ℕ → Bool
   wellFormed leaves H′ χ proof = allYes (wellFormedQuestions leaves H′ χ proof)
-
-  abbrev pub TestReply : List ℕ → Answer → Type 0
-  TestReply x = Reply (testAnswer x) (namesFailing A s key x)
-
-  abbrev pub CommitReply : List ℕ → List ℕ → List ℕ → Answer → Type 0
-  CommitReply leaves x out = Reply (commitAnswer leaves x out) (namesFailing A s key x)
-
-  abbrev pub BatchReply : List ℕ → List ℕ → List ℕ → List ℕ → Answer → Type 0
-  BatchReply leaves x χ out = Reply (batchAnswer leaves x χ out) (namesFailing A s key x)
-
-  abbrev pub ProveReply : List ℕ → List ℕ → List ℕ → List ℕ → List ℕ → Answer → Type 0
-  ProveReply leaves x H′ χ out = Reply (proveAnswer leaves x H′ χ out) (namesFailing A s key x)

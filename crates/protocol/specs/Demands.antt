@@ -28,11 +28,11 @@ use Rattle.protocol.specs.Sections.{sectionsIn}
 use Rattle.protocol.specs.Forms.{χAt}
 use Rattle.protocol.specs.Prover.{commitBytes, hashBytes, batchBytes, proofOf}
 use Rattle.protocol.specs.Verifier.{batchedError}
-use Rattle.protocol.specs.Answers.{Answer, accepted, numberOf}
+use Rattle.protocol.specs.Answers.{accepted}
 use Rattle.protocol.specs.Questions.{solves, consistentIn, productIn}
-use Rattle.protocol.specs.Calls.{verifyAnswer, proveForm, honestForm, verifyForm, wellFormed, ProveReply}
+use Rattle.protocol.specs.Calls.{proveAnswer, verifyAnswer, proveForm, honestForm, verifyForm, wellFormed}
 use Rattle.protocol.specs.Counting.{opening, acceptedCount, factor}
-use Rattle.protocol.specs.Statements.{SomeFails, errorOf, CandidateIsWitness, candidateBytes}
+use Rattle.protocol.specs.Statements.{RefusedIff, errorOf, CandidateIsWitness, candidateBytes}
 
 abbrev pub 𝟎 : bits256 .K .base .R .F
 𝟎 = bits256 .K .base .R .𝟘
@@ -51,11 +51,10 @@ StepBytes = (key leaves x H′ χ : List ℕ) → commitBytes bits256 key leaves
 
 -- "and, all else being well formed, a call given a witness of the right form refuses it exactly when some equation
 -- fails."
--- `RefusedIff`: refused, and refused 11, exactly when some equation fails.
+-- `RefusedIff`: and then by the number 11, with the lowest-numbered equation that fails.
 -- The same of the test, of commit and of batch: `RefusesExactly`.
 abbrev pub RefusedExactlyWhen : Type 0
-RefusedExactlyWhen = (key leaves x H′ χ out : List ℕ) (a : Answer) → proveForm bits256 key leaves x H′ χ out ≡ true → ProveReply bits256 key leaves x H′ χ out a
-    → ((a ≢ accepted) ↔ SomeFails bits256 key x) × ((numberOf a ≡ 11) ↔ SomeFails bits256 key x)
+RefusedExactlyWhen = (key leaves x H′ χ out : List ℕ) → proveForm bits256 key leaves x H′ χ out ≡ true → RefusedIff bits256 key x (proveAnswer bits256 key leaves x H′ χ out)
 
 -- "Given well-formed input, the verifier accepts exactly when the published checks hold in every repetition."
 abbrev pub AcceptsExactlyWhen : Type 0

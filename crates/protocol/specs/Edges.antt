@@ -1,4 +1,5 @@
--- Where a no begins: at the sizes, at spare bits and exact lengths, and where two questions get a no.
+-- Where a no begins: at the sizes, at spare bits and exact lengths, and where two questions get a no; and which
+-- equation 11 names.
 -- proofs/Edges computes each statement.
 -- Key, leaves and proof are those of SmallExample with bytes changed. A spare bit that is set is the first one of the
 -- last row (A-spare-set), the last one of the first row (A-first-row), or the last one of the only row (y-last).
@@ -85,11 +86,11 @@ pub record Numbers : Type 0 where
 -- A key without a whole header; a size whose high byte is set; a count whose third byte is set;
 -- a byte too many or too few.
 pub record Lengths : Type 0 where
-  pub header-short : testAnswer bits16 (take 7 key) witness 0 ≡ refused 1 0
-  pub header-alone : testAnswer bits16 (take 8 key) witness 0 ≡ refused 3 0
-  pub m-high : testAnswer bits16 (changed key 3 0x01) witness 0 ≡ refused 2 0
-  pub τ-high : testAnswer bits16 (changed key 5 0x01) witness 0 ≡ refused 2 0
-  pub t-high : testAnswer bits16 (changed key 7 0x01) witness 0 ≡ refused 2 0
+  pub header-short : testAnswer bits16 (take 7 key) witness ≡ refused 1 0
+  pub header-alone : testAnswer bits16 (take 8 key) witness ≡ refused 3 0
+  pub m-high : testAnswer bits16 (changed key 3 0x01) witness ≡ refused 2 0
+  pub τ-high : testAnswer bits16 (changed key 5 0x01) witness ≡ refused 2 0
+  pub t-high : testAnswer bits16 (changed key 7 0x01) witness ≡ refused 2 0
   pub Δ-long : verifyAnswer bits16 key (Δ ++ (0x00 ∷ [])) H′ χ opened proof ≡ refused 5 0
   pub Δ-short : verifyAnswer bits16 key (take 1 Δ) H′ χ opened proof ≡ refused 5 0
   pub H-short : verifyAnswer bits16 key Δ (take 3 H′) χ opened proof ≡ refused 5 0
@@ -103,9 +104,14 @@ pub record Order : Type 0 where
   pub five-six : verifyAnswer bits16 key Δ (changed H′ 3 0x20) (χ ++ (0x00 ∷ [])) opened proof ≡ refused 5 0
   pub seven-eight : verifyAnswer bits16 key Δ H′ χ (changed leaves 63 0x80) proof ≡ refused 7 0
   pub twelve-thirteen : verifyAnswer bits16 key Δ H′ χ opened (changed (changed proof 0 0x01) 11 0x02) ≡ refused 12 0
-  pub nine-ten : proveAnswer bits16 key leaves (changed witness 1 0x02) H′ χ [] 0 ≡ refused 9 0
-  pub ten-eleven : proveAnswer bits16 key leaves (changed witness 0 0x01) H′ χ [] 1 ≡ refused 10 0
-  pub eleven : proveAnswer bits16 key leaves (changed witness 0 0x01) H′ χ (replicate 37 0x00) 1 ≡ refused 11 1
+  pub nine-ten : proveAnswer bits16 key leaves (changed witness 1 0x02) H′ χ [] ≡ refused 9 0
+  pub ten-eleven : proveAnswer bits16 key leaves (changed witness 0 0x01) H′ χ [] ≡ refused 10 0
+
+-- Refusal 11 names the lowest-numbered equation that fails: of two that fail the first, and the second where only that
+-- one fails.
+pub record FirstEquation : Type 0 where
+  pub both-fail : proveAnswer bits16 key leaves (changed witness 0 0x04) H′ χ (replicate 37 0x00) ≡ refused 11 0
+  pub second-fails : proveAnswer bits16 key leaves (changed witness 0 0x01) H′ χ (replicate 37 0x00) ≡ refused 11 1
 
 -- 01's numbers, over GF(256), at the sizes of its toy: k, L, w, the leaves of a tree and of an opened one.
 pub record Derived : Type 0 where

@@ -10,18 +10,18 @@ use mathlib.Core.List.{List, [], _∷_, map}
 use Prim.Native.Nat.{ℕ}
 use lib.Dec.{eqb}
 use Rattle.protocol.specs.Alphabet.{Alphabet}
-use Rattle.protocol.specs.Answers.{Answer, numberOf, Question}
-use Rattle.protocol.specs.Calls.{testPuts, commitPuts, hashQuestions, batchPuts, provePuts, verifyPuts, honestQuestions, wellFormedQuestions, hashAnswer, verifyAnswer, TestReply, CommitReply, BatchReply, ProveReply}
+use Rattle.protocol.specs.Answers.{numberOf, Question}
+use Rattle.protocol.specs.Calls.{testPuts, commitPuts, hashQuestions, batchPuts, provePuts, verifyPuts, honestQuestions, wellFormedQuestions, testAnswer, commitAnswer, hashAnswer, batchAnswer, proveAnswer, verifyAnswer}
 
 abbrev pub numbers : List Question → List ℕ
 numbers qs = map (λ x. x .number) qs
 
 pub record QuestionNumbers (A : Alphabet) : Type 0 where
-  pub test-puts : (key x : List ℕ) (p : ℕ) → numbers (testPuts A key x p) ≡ 1 ∷ 2 ∷ 3 ∷ 4 ∷ 9 ∷ 11 ∷ []
-  pub commit-puts : (key leaves x out : List ℕ) (p : ℕ) → numbers (commitPuts A key leaves x out p) ≡ 1 ∷ 2 ∷ 3 ∷ 4 ∷ 7 ∷ 8 ∷ 9 ∷ 10 ∷ 11 ∷ []
+  pub test-puts : (key x : List ℕ) → numbers (testPuts A key x) ≡ 1 ∷ 2 ∷ 3 ∷ 4 ∷ 9 ∷ 11 ∷ []
+  pub commit-puts : (key leaves x out : List ℕ) → numbers (commitPuts A key leaves x out) ≡ 1 ∷ 2 ∷ 3 ∷ 4 ∷ 7 ∷ 8 ∷ 9 ∷ 10 ∷ 11 ∷ []
   pub hash-puts : (key leaves H′ out : List ℕ) → numbers (hashQuestions A key leaves H′ out) ≡ 1 ∷ 2 ∷ 3 ∷ 4 ∷ 5 ∷ 6 ∷ 7 ∷ 8 ∷ 10 ∷ []
-  pub batch-puts : (key leaves x χ out : List ℕ) (p : ℕ) → numbers (batchPuts A key leaves x χ out p) ≡ 1 ∷ 2 ∷ 3 ∷ 4 ∷ 5 ∷ 7 ∷ 8 ∷ 9 ∷ 10 ∷ 11 ∷ []
-  pub prove-puts : (key leaves x H′ χ out : List ℕ) (p : ℕ) → numbers (provePuts A key leaves x H′ χ out p) ≡ 1 ∷ 2 ∷ 3 ∷ 4 ∷ 5 ∷ 6 ∷ 7 ∷ 8 ∷ 9 ∷ 10 ∷ 11 ∷ []
+  pub batch-puts : (key leaves x χ out : List ℕ) → numbers (batchPuts A key leaves x χ out) ≡ 1 ∷ 2 ∷ 3 ∷ 4 ∷ 5 ∷ 7 ∷ 8 ∷ 9 ∷ 10 ∷ 11 ∷ []
+  pub prove-puts : (key leaves x H′ χ out : List ℕ) → numbers (provePuts A key leaves x H′ χ out) ≡ 1 ∷ 2 ∷ 3 ∷ 4 ∷ 5 ∷ 6 ∷ 7 ∷ 8 ∷ 9 ∷ 10 ∷ 11 ∷ []
   pub verify-puts : (key Δ H′ χ opened proof : List ℕ) → numbers (verifyPuts A key Δ H′ χ opened proof) ≡ 1 ∷ 2 ∷ 3 ∷ 4 ∷ 5 ∷ 6 ∷ 7 ∷ 8 ∷ 12 ∷ 13 ∷ 14 ∷ 15 ∷ []
   -- the questions on form that completeness and the forgery count suppose: 9 and 10 concern the witness and the output
   pub honest : (key leaves x H′ χ : List ℕ) → numbers (honestQuestions A key leaves x H′ χ) ≡ 1 ∷ 2 ∷ 3 ∷ 4 ∷ 5 ∷ 6 ∷ 7 ∷ 8 ∷ 9 ∷ []
@@ -32,13 +32,10 @@ among [] i = false
 among (j ∷ is) i = eqb i j || among is i
 
 pub record OwnNumbers (A : Alphabet) : Type 0 where
-  pub test-own : (key x : List ℕ) (a : Answer) → TestReply A key x a → among (0 ∷ 1 ∷ 2 ∷ 3 ∷ 4 ∷ 9 ∷ 11 ∷ []) (numberOf a) ≡ true
-  pub commit-own : (key leaves x out : List ℕ) (a : Answer) → CommitReply A key leaves x out a
-      → among (0 ∷ 1 ∷ 2 ∷ 3 ∷ 4 ∷ 7 ∷ 8 ∷ 9 ∷ 10 ∷ 11 ∷ []) (numberOf a) ≡ true
+  pub test-own : (key x : List ℕ) → among (0 ∷ 1 ∷ 2 ∷ 3 ∷ 4 ∷ 9 ∷ 11 ∷ []) (numberOf (testAnswer A key x)) ≡ true
+  pub commit-own : (key leaves x out : List ℕ) → among (0 ∷ 1 ∷ 2 ∷ 3 ∷ 4 ∷ 7 ∷ 8 ∷ 9 ∷ 10 ∷ 11 ∷ []) (numberOf (commitAnswer A key leaves x out)) ≡ true
   pub hash-own : (key leaves H′ out : List ℕ) → among (0 ∷ 1 ∷ 2 ∷ 3 ∷ 4 ∷ 5 ∷ 6 ∷ 7 ∷ 8 ∷ 10 ∷ []) (numberOf (hashAnswer A key leaves H′ out)) ≡ true
-  pub batch-own : (key leaves x χ out : List ℕ) (a : Answer) → BatchReply A key leaves x χ out a
-      → among (0 ∷ 1 ∷ 2 ∷ 3 ∷ 4 ∷ 5 ∷ 7 ∷ 8 ∷ 9 ∷ 10 ∷ 11 ∷ []) (numberOf a) ≡ true
-  pub prove-own : (key leaves x H′ χ out : List ℕ) (a : Answer) → ProveReply A key leaves x H′ χ out a
-      → among (0 ∷ 1 ∷ 2 ∷ 3 ∷ 4 ∷ 5 ∷ 6 ∷ 7 ∷ 8 ∷ 9 ∷ 10 ∷ 11 ∷ []) (numberOf a) ≡ true
+  pub batch-own : (key leaves x χ out : List ℕ) → among (0 ∷ 1 ∷ 2 ∷ 3 ∷ 4 ∷ 5 ∷ 7 ∷ 8 ∷ 9 ∷ 10 ∷ 11 ∷ []) (numberOf (batchAnswer A key leaves x χ out)) ≡ true
+  pub prove-own : (key leaves x H′ χ out : List ℕ) → among (0 ∷ 1 ∷ 2 ∷ 3 ∷ 4 ∷ 5 ∷ 6 ∷ 7 ∷ 8 ∷ 9 ∷ 10 ∷ 11 ∷ []) (numberOf (proveAnswer A key leaves x H′ χ out)) ≡ true
   pub verify-own : (key Δ H′ χ opened proof : List ℕ)
       → among (0 ∷ 1 ∷ 2 ∷ 3 ∷ 4 ∷ 5 ∷ 6 ∷ 7 ∷ 8 ∷ 12 ∷ 13 ∷ 14 ∷ 15 ∷ []) (numberOf (verifyAnswer A key Δ H′ χ opened proof)) ≡ true

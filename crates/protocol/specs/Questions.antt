@@ -1,10 +1,10 @@
--- The fifteen questions of 01, each with its number; the place is 0 but for 11, 14 and 15.
+-- The fifteen questions of 01, each with its number. The place is 0, but of 11 the first equation that fails (request
+-- 2; 01 leaves it free), and of 14 and 15 the first repetition.
 --   hExact, χExact, ΔExact == a challenge has its exact length
 --   leavesExact per l == l is `per` leaves for each repetition
 --   hSpare, leavesSpare, proofSpare == spare bits are 0;  witnessForm x == question 9
---   solves key x == every equation of the key holds at x
+--   equationHolds key x i == equation i of the key holds at x;  solves key x == every equation does
 --   fails key x i == i is an equation of the key, and it fails at x
---   namesFailing key x i == refusal 11 may name i: it fails
 --   treeOf opened e == the opened tree of repetition e
 --   consistentIn, productIn == the checks in repetition e, on what the verifier is lent
 -- Assumes nothing.
@@ -56,14 +56,14 @@ module _ (A : Alphabet) (s : Shape) where
   unfoldable pub witnessForm : List ℕ → Bool
   witnessForm x = eqb (length x) (width (s .n)) && spareZero x (s .n)
 
+  abbrev pub equationHolds : List ℕ → List ℕ → ℕ → Bool
+  equationHolds key x i = isZero base (error A s key i (sym A x))
+
   unfoldable pub solves : List ℕ → List ℕ → Bool
-  solves key x = allBelow (s .m) (λ i. isZero base (error A s key i (sym A x)))
+  solves key x = allBelow (s .m) (equationHolds key x)
 
   abbrev pub fails : List ℕ → List ℕ → ℕ → Type 0
   fails key x i = (i < s .m) × (error A s key i (sym A x) ≢ 𝟘)
-
-  abbrev pub namesFailing : List ℕ → List ℕ → ℕ → Type 0
-  namesFailing key x i = fails key x i
 
   unfoldable pub proofSpare : Sections → Bool
   proofSpare p = allTrue (rowsSpare A (lOf A s) (s .τ - 1) (p .C) ∷ spareZero (p .d) (s .n) ∷ spareZero (p .ũ) (s .t) ∷ [])
@@ -109,8 +109,8 @@ module _ (A : Alphabet) (s : Shape) where
   abbrev pub q10 : List ℕ → List ℕ → Question
   q10 ls out = question (eqb (length out) (framedLength ls)) 10 0
 
-  abbrev pub q11 : List ℕ → List ℕ → ℕ → Question
-  q11 key x p = question (solves key x) 11 p
+  abbrev pub q11 : List ℕ → List ℕ → Question
+  q11 key x = question (solves key x) 11 (firstNot (s .m) (equationHolds key x))
 
   abbrev pub q12 : List ℕ → Question
   q12 proof = question (framed (lengths A s) proof) 12 0

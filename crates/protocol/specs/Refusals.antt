@@ -4,11 +4,11 @@
 --   key₁ == no byte;  key₂ == n with its high byte set;  key₃ == a byte too many;  key₄ == the last spare bit of y set
 --   H₅, χ₅ == a byte too many;  H₆ == a spare bit of the last row set;  leaves₇, opened₇ == a byte missing
 --   leaves₈, opened₈ == the spare bit of the last leaf set;  x₉ == a spare bit set
---   x₁₁ == a witness that fails
+--   x₁₁ == a witness at which both equations fail
 --   out n == n bytes to write on;  proof₁₂ == a byte too many;  proof₁₃ == a spare bit of ũ set;  proof₁₄ == Ṽ changed
 --   proof₁₅ == QS0 changed
 --   refusedBy is == refused by each of the numbers is, with the place 0
---   test, .., verify == the calls' answers, 11's place being 0
+--   test, .., verify == the calls' answers
 -- Assumes nothing.
 use mathlib.Core.Path.{_≡_}
 use mathlib.Core.List.{List, [], _∷_, _++_, map}
@@ -55,7 +55,7 @@ abbrev pub x₉ : List ℕ
 x₉ = changed witness 1 0x02
 
 abbrev pub x₁₁ : List ℕ
-x₁₁ = changed witness 0 0x01
+x₁₁ = changed witness 0 0x04
 
 abbrev pub out : ℕ → List ℕ
 out n = replicate n 0x00
@@ -76,19 +76,19 @@ abbrev pub refusedBy : List ℕ → List Answer
 refusedBy is = map (λ i. refused i 0) is
 
 abbrev pub test : List ℕ → List ℕ → Answer
-test k x = testAnswer bits16 k x 0
+test k x = testAnswer bits16 k x
 
 abbrev pub commit : List ℕ → List ℕ → List ℕ → ℕ → Answer
-commit k l x n = commitAnswer bits16 k l x (out n) 0
+commit k l x n = commitAnswer bits16 k l x (out n)
 
 abbrev pub hash : List ℕ → List ℕ → List ℕ → ℕ → Answer
 hash k l h n = hashAnswer bits16 k l h (out n)
 
 abbrev pub batch : List ℕ → List ℕ → List ℕ → List ℕ → ℕ → Answer
-batch k l x c n = batchAnswer bits16 k l x c (out n) 0
+batch k l x c n = batchAnswer bits16 k l x c (out n)
 
 abbrev pub prove : List ℕ → List ℕ → List ℕ → List ℕ → List ℕ → ℕ → Answer
-prove k l x h c n = proveAnswer bits16 k l x h c (out n) 0
+prove k l x h c n = proveAnswer bits16 k l x h c (out n)
 
 abbrev pub verify : List ℕ → List ℕ → List ℕ → List ℕ → List ℕ → Answer
 verify k h c o p = verifyAnswer bits16 k Δ h c o p

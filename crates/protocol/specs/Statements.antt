@@ -21,9 +21,9 @@ use Rattle.protocol.specs.Leaves.{leafAt, openTree, openedLeaf}
 use Rattle.protocol.specs.Forms.{quad, lin, yOf, middle, error}
 use Rattle.protocol.specs.Prover.{u, v, a₀, a₁, commitBytes, hashBytes, batchBytes, proofOf, sectionsOf}
 use Rattle.protocol.specs.Verifier.{W, correctionAt, candidate, batchedError}
-use Rattle.protocol.specs.Answers.{Answer, accepted, refused, numberOf, Question, ask, allYes, word, Published}
+use Rattle.protocol.specs.Answers.{Answer, accepted, refused, Question, ask, allYes, word, Published}
 use Rattle.protocol.specs.Questions.{fails, witnessForm, treeOf, leavesExact, leavesSpare, consistentIn, productIn}
-use Rattle.protocol.specs.Calls.{testAnswer, hashAnswer, verifyAnswer, testForm, commitForm, batchForm, proveForm, honestForm, verifyForm, wellFormed, TestReply, CommitReply, BatchReply, ProveReply}
+use Rattle.protocol.specs.Calls.{testAnswer, commitAnswer, hashAnswer, batchAnswer, proveAnswer, verifyAnswer, testForm, commitForm, batchForm, proveForm, honestForm, verifyForm, wellFormed}
 use Rattle.protocol.specs.Counting.{opening, acceptedCount, factor}
 use Rattle.protocol.specs.Coefficients.{conditions}
 
@@ -45,9 +45,9 @@ AskAccepts = (qs : List Question) → (ask qs ≡ accepted) ↔ (allYes qs ≡ t
 abbrev pub WordInjective : Type 0
 WordInjective = (s : Shape) → s .m ≤ 65536 → s .τ ≤ 65536 → (a b : Answer) → Published s a → Published s b → word a ≡ word b → a ≡ b
 
--- e is the first of τ repetitions in which a check does not hold
+-- i is the first index below n at which `holds` is false
 abbrev pub FirstFailing : ℕ → (ℕ → Bool) → ℕ → Type 0
-FirstFailing τ holds e = (e < τ) × (holds e ≡ false) × ((i : ℕ) → i < e → holds i ≡ true)
+FirstFailing n holds i = (i < n) × (holds i ≡ false) × ((j : ℕ) → j < i → holds j ≡ true)
 
 module _ (A : Alphabet) where
   open Alphabet A using (K)
@@ -59,33 +59,31 @@ module _ (A : Alphabet) where
   infixl 70 _⊗_
   -- Every answer of every call is in the published list.
   pub record AllPublished : Type 0 where
-    pub test-published : (key x : List ℕ) (a : Answer) → TestReply A key x a → Published (shapeOf key) a
-    pub commit-published : (key leaves x out : List ℕ) (a : Answer) → CommitReply A key leaves x out a → Published (shapeOf key) a
+    pub test-published : (key x : List ℕ) → Published (shapeOf key) (testAnswer A key x)
+    pub commit-published : (key leaves x out : List ℕ) → Published (shapeOf key) (commitAnswer A key leaves x out)
     pub hash-published : (key leaves H′ out : List ℕ) → Published (shapeOf key) (hashAnswer A key leaves H′ out)
-    pub batch-published : (key leaves x χ out : List ℕ) (a : Answer) → BatchReply A key leaves x χ out a → Published (shapeOf key) a
-    pub prove-published : (key leaves x H′ χ out : List ℕ) (a : Answer) → ProveReply A key leaves x H′ χ out a → Published (shapeOf key) a
+    pub batch-published : (key leaves x χ out : List ℕ) → Published (shapeOf key) (batchAnswer A key leaves x χ out)
+    pub prove-published : (key leaves x H′ χ out : List ℕ) → Published (shapeOf key) (proveAnswer A key leaves x H′ χ out)
     pub verify-published : (key Δ H′ χ opened proof : List ℕ) → Published (shapeOf key) (verifyAnswer A key Δ H′ χ opened proof)
 
-  -- All else being well formed, a witness of the right form is refused exactly when some equation fails, and then by
-  -- the number 11.
+  -- some equation fails
   abbrev pub SomeFails : List ℕ → List ℕ → Type 0
   SomeFails key x = (i : ℕ) × fails A (shapeOf key) key x i
 
+  -- i is the lowest-numbered equation that fails
+  abbrev pub FirstFails : List ℕ → List ℕ → ℕ → Type 0
+  FirstFails key x i = fails A (shapeOf key) key x i × ((j : ℕ) → j < i → error A (shapeOf key) key j (sym A x) ≡ 𝟘)
+
+  -- All else being well formed, a witness of the right form is refused exactly when some equation fails, and then by
+  -- the number 11, with the first that does.
   abbrev pub RefusedIff : List ℕ → List ℕ → Answer → Type 0
-  RefusedIff key x a = ((a ≢ accepted) ↔ SomeFails key x) × ((numberOf a ≡ 11) ↔ SomeFails key x)
+  RefusedIff key x a = ((a ≢ accepted) ↔ SomeFails key x) × (a ≢ accepted → (i : ℕ) × FirstFails key x i × (a ≡ refused 11 i))
 
   pub record RefusesExactly : Type 0 where
-    pub test-refuses : (key x : List ℕ) (a : Answer) → testForm A key x ≡ true → TestReply A key x a → RefusedIff key x a
-    pub commit-refuses : (key leaves x out : List ℕ) (a : Answer) → commitForm A key leaves x out ≡ true → CommitReply A key leaves x out a → RefusedIff key x a
-    pub batch-refuses : (key leaves x χ out : List ℕ) (a : Answer) → batchForm A key leaves x χ out ≡ true → BatchReply A key leaves x χ out a → RefusedIff key x a
-    pub prove-refuses : (key leaves x H′ χ out : List ℕ) (a : Answer) → proveForm A key leaves x H′ χ out ≡ true → ProveReply A key leaves x H′ χ out a → RefusedIff key x a
-
-  -- For all inputs there is a reply that the papers allow.
-  pub record AlwaysReplies : Type 0 where
-    pub test-replies : (key x : List ℕ) → (a : Answer) × TestReply A key x a
-    pub commit-replies : (key leaves x out : List ℕ) → (a : Answer) × CommitReply A key leaves x out a
-    pub batch-replies : (key leaves x χ out : List ℕ) → (a : Answer) × BatchReply A key leaves x χ out a
-    pub prove-replies : (key leaves x H′ χ out : List ℕ) → (a : Answer) × ProveReply A key leaves x H′ χ out a
+    pub test-refuses : (key x : List ℕ) → testForm A key x ≡ true → RefusedIff key x (testAnswer A key x)
+    pub commit-refuses : (key leaves x out : List ℕ) → commitForm A key leaves x out ≡ true → RefusedIff key x (commitAnswer A key leaves x out)
+    pub batch-refuses : (key leaves x χ out : List ℕ) → batchForm A key leaves x χ out ≡ true → RefusedIff key x (batchAnswer A key leaves x χ out)
+    pub prove-refuses : (key leaves x H′ χ out : List ℕ) → proveForm A key leaves x H′ χ out ≡ true → RefusedIff key x (proveAnswer A key leaves x H′ χ out)
 
   -- The two descriptions of opened leaves agree, and what is opened has the right form.
   abbrev pub OpenedByPlace : Type 0
@@ -118,14 +116,18 @@ module _ (A : Alphabet) where
       → length Δ ≡ shapeOf key .τ → ((e : ℕ) → e < length Δ → getD Δ e 0 < size)
       → verifyAnswer A key Δ H′ χ (opening A (shapeOf key) leaves Δ) (proofOf A key leaves x H′ χ) ≡ accepted
 
-  -- The verifier accepts exactly when both checks hold in every repetition;
-  -- and a refusal 14 or 15 names the first repetition that fails.
+  -- The verifier accepts exactly when both checks hold in every repetition.
   abbrev pub AcceptsExactly : Type 0
   AcceptsExactly = (key Δ H′ χ opened proof : List ℕ) → verifyForm A key Δ H′ χ opened proof ≡ true
       → (verifyAnswer A key Δ H′ χ opened proof ≡ accepted)
       ↔ ((e : ℕ) → e < shapeOf key .τ → (consistentIn A (shapeOf key) Δ H′ opened proof e ≡ true) × (productIn A (shapeOf key) key Δ χ opened proof e ≡ true))
 
+  -- A refusal 11 names the first equation that fails, and a refusal 14 or 15 the first repetition where the check fails.
   pub record FirstNamed : Type 0 where
+    pub test-eleven : (key x : List ℕ) (i : ℕ) → testAnswer A key x ≡ refused 11 i → FirstFails key x i
+    pub commit-eleven : (key leaves x out : List ℕ) (i : ℕ) → commitAnswer A key leaves x out ≡ refused 11 i → FirstFails key x i
+    pub batch-eleven : (key leaves x χ out : List ℕ) (i : ℕ) → batchAnswer A key leaves x χ out ≡ refused 11 i → FirstFails key x i
+    pub prove-eleven : (key leaves x H′ χ out : List ℕ) (i : ℕ) → proveAnswer A key leaves x H′ χ out ≡ refused 11 i → FirstFails key x i
     pub fourteen : (key Δ H′ χ opened proof : List ℕ) (e : ℕ) → verifyAnswer A key Δ H′ χ opened proof ≡ refused 14 e
         → FirstFailing (shapeOf key .τ) (consistentIn A (shapeOf key) Δ H′ opened proof) e
     pub fifteen : (key Δ H′ χ opened proof : List ℕ) (e : ℕ) → verifyAnswer A key Δ H′ χ opened proof ≡ refused 15 e

@@ -3,10 +3,14 @@
 ghost use mathlib.Core.Path.{_≡_};
 ghost use Prim.Native.Nat.{_≤_};
 ghost use lib.ListN.{length};
+ghost use mathlib.Core.List.{[], _∷_};
+ghost use Rattle.protocol.specs.Shape.{shapeOf};
+ghost use Rattle.protocol.specs.Answers.{ask};
+ghost use Rattle.protocol.specs.Questions.{q11};
 ghost use Rattle.format.specs.Sizes.{alphabetFor, shapeFor, SizesOf};
 ghost use Rattle.format.specs.Verdict.{answerOf};
 ghost use Rattle.questions.specs.Facts.{TestFacts};
-ghost use Rattle.questions.specs.Solved.{ErrorsAs, SolvedAs};
+ghost use Rattle.questions.specs.Solved.{ErrorsAs};
 use equations::Found;
 use format::Reason;
 use format::Verdict;
@@ -27,7 +31,7 @@ fn answer(errors: &[u8]) -> Verdict
 
 fn test_equations(errors: &mut [u8], key: &[u8], witness: &[u8], s: Sizes) -> Verdict
     requires { ⌜ SizesOf (now key) s × TestFacts (alphabetFor s) (shapeFor s) (now key) (now witness) × (length (now errors) ≡ s .m) ⌝ }
-    ensures { λ r. ⌜ SolvedAs (alphabetFor s) (now (key .entry)) (now (witness .entry)) (answerOf r) ⌝ }
+    ensures { λ r. ⌜ answerOf r ≡ ask (q11 (alphabetFor s) (shapeOf (now (key .entry))) (now (key .entry)) (now (witness .entry)) ∷ []) ⌝ }
 {
     let n = s.n;
     equations::equation_errors(
@@ -41,10 +45,10 @@ fn test_equations(errors: &mut [u8], key: &[u8], witness: &[u8], s: Sizes) -> Ve
     answer(errors)
 }
 
-// Accepted, or refused 11 with an equation that fails.
+// Accepted, or refused 11 with the lowest-numbered equation that fails.
 pub fn solved(key: &[u8], witness: &[u8], s: Sizes) -> Verdict
     requires { ⌜ SizesOf (now key) s × TestFacts (alphabetFor s) (shapeFor s) (now key) (now witness) ⌝ }
-    ensures { λ r. ⌜ SolvedAs (alphabetFor s) (now (key .entry)) (now (witness .entry)) (answerOf r) ⌝ }
+    ensures { λ r. ⌜ answerOf r ≡ ask (q11 (alphabetFor s) (shapeOf (now (key .entry))) (now (key .entry)) (now (witness .entry)) ∷ []) ⌝ }
 {
     let m = s.m;
     let mut errors = [0u8; MOST_EQUATIONS];

@@ -1,7 +1,7 @@
 -- Demand 1 and demand 2 of the exports.
 -- Assumes nothing.
 use mathlib.Core.Path.{_≡_, refl, sym, ap, ap₂, _∙_, subst}
-use mathlib.Core.Bool.{Bool, true}
+use mathlib.Core.Bool.{true}
 use mathlib.Core.List.{List, [], _∷_, _++_}
 use Prim.Native.Nat.{ℕ}
 use lib.ListN.{length}
@@ -11,9 +11,9 @@ use Rattle.protocol.specs.Shape.{Shape, shapeOf, limits, perTree}
 use Rattle.protocol.specs.Frames.{framed}
 use Rattle.protocol.specs.Sections.{Sections, bytesOf, lengths, sectionsIn}
 use Rattle.protocol.specs.Prover.{sectionsOf, proofOf}
-use Rattle.protocol.specs.Answers.{Answer, Question, question, ask, placeOf, word, Published}
-use Rattle.protocol.specs.Questions.{hExact, χExact, solves, q1, q2, q3, q4, q5, q6, q7, q8, q9, q11}
-use Rattle.protocol.specs.Calls.{commitQuestions, hashQuestions, batchQuestions, proveQuestions, testAnswer, commitAnswer, hashAnswer, batchAnswer, proveAnswer, verifyAnswer, honestForm}
+use Rattle.protocol.specs.Answers.{Answer, Question, ask, word, Published}
+use Rattle.protocol.specs.Questions.{hExact, χExact, solves, q1, q2, q3, q4, q5, q6, q7, q8, q9}
+use Rattle.protocol.specs.Calls.{hashQuestions, commitPuts, batchPuts, provePuts, testAnswer, commitAnswer, hashAnswer, batchAnswer, proveAnswer, verifyAnswer, honestForm}
 use Rattle.protocol.specs.Counting.{opening}
 use Rattle.protocol.specs.Statements.{SomeFails, RefusedIff}
 use Rattle.protocol.proofs.TestLaws.{all-true, true-all}
@@ -27,79 +27,65 @@ use Rattle.protocol.proofs.Demands.{accepts-exactly-when, honest-proof-accepted
 use Rattle.sections.specs.Reading.{Reads}
 use Rattle.sections.proofs.ReadingLaws.{proof-read}
 use Rattle.solfadrus.specs.Demands.{CommitWrites, HashWrites, BatchWrites, ProveWrites, VerifyTold, RefusedByEleven, EveryAnswerListed, EveryQuestionPut, PlacesNamed, RefusedKeeps, AcceptedWrites, RefusedWhenFails, VerifierAcceptsExactly, WrittenIsAccepted, StepsMakeWhole, StepsAreAccepted, ReadsBack}
-use Rattle.solfadrus.proofs.ToldLaws.{word-accepted, only-accepted, not-zero, kept, wrote, asked-told, refusal-told, number-told, eleven-told}
-
-hash-published : (key leaves H′ out : List ℕ) (a : Answer) → a ≡ hashAnswer bits256 key leaves H′ out → Published (shapeOf key) a
-hash-published key leaves H′ out a h = subst (Published (shapeOf key)) (sym h) (all-published bits256 .hash-published key leaves H′ out)
+use Rattle.solfadrus.proofs.ToldLaws.{word-accepted, only-accepted, not-zero, kept, wrote, asked-told, refusal-told}
 
 pub every-answer-listed : EveryAnswerListed
 every-answer-listed = record {
-  test-listed = λ key x r t. (t .0, (t .1 .0, all-published bits256 .test-published key x (t .0) (t .1 .1)));
-  commit-listed = λ key leaves x before after r t. (t .0, (t .1 .0, all-published bits256 .commit-published key leaves x before (t .0) (t .1 .1)));
-  hash-listed = λ key leaves H′ before after r t. (t .0, (t .1 .0, hash-published key leaves H′ before (t .0) (t .1 .1)));
-  batch-listed = λ key leaves x χ before after r t. (t .0, (t .1 .0, all-published bits256 .batch-published key leaves x χ before (t .0) (t .1 .1)));
-  prove-listed = λ key leaves x H′ χ before after r t. (t .0, (t .1 .0, all-published bits256 .prove-published key leaves x H′ χ before (t .0) (t .1 .1)));
-  verify-listed = λ key Δ H′ χ opened proof r t. (verifyAnswer bits256 key Δ H′ χ opened proof, (t, all-published bits256 .verify-published key Δ H′ χ opened proof));
+  test-listed = λ key x r t. (_, t, all-published bits256 .test-published key x);
+  commit-listed = λ key leaves x before after r t. (_, t .0, all-published bits256 .commit-published key leaves x before);
+  hash-listed = λ key leaves H′ before after r t. (_, t .0, all-published bits256 .hash-published key leaves H′ before);
+  batch-listed = λ key leaves x χ before after r t. (_, t .0, all-published bits256 .batch-published key leaves x χ before);
+  prove-listed = λ key leaves x H′ χ before after r t. (_, t .0, all-published bits256 .prove-published key leaves x H′ χ before);
+  verify-listed = λ key Δ H′ χ opened proof r t. (_, t, all-published bits256 .verify-published key Δ H′ χ opened proof);
 }
 
 pub every-question-put : EveryQuestionPut
 unfolding testAnswer commitAnswer hashAnswer batchAnswer proveAnswer verifyAnswer
 every-question-put = record {
-  test-put = λ key x r t. asked-told (shapeOf key) _ _ (t .0) (t .1 .1 .answers) (all-published bits256 .test-published key x (t .0) (t .1 .1)) r _ (t .1 .0) (t .1 .1 .answers);
-  commit-put = λ key leaves x before after r t.
-      asked-told (shapeOf key) _ _ (t .0) (t .1 .1 .answers) (all-published bits256 .commit-published key leaves x before (t .0) (t .1 .1)) r _ (t .1 .0) (t .1 .1 .answers);
-  hash-put = λ key leaves H′ before after r t. asked-told (shapeOf key) _ _ (t .0) (t .1 .1) (hash-published key leaves H′ before (t .0) (t .1 .1)) r _ (t .1 .0) (t .1 .1);
-  batch-put = λ key leaves x χ before after r t.
-      asked-told (shapeOf key) _ _ (t .0) (t .1 .1 .answers) (all-published bits256 .batch-published key leaves x χ before (t .0) (t .1 .1)) r _ (t .1 .0) (t .1 .1 .answers);
-  prove-put = λ key leaves x H′ χ before after r t.
-      asked-told (shapeOf key) _ _ (t .0) (t .1 .1 .answers) (all-published bits256 .prove-published key leaves x H′ χ before (t .0) (t .1 .1)) r _ (t .1 .0) (t .1 .1 .answers);
-  verify-put = λ key Δ H′ χ opened proof r t. asked-told (shapeOf key) _ _ _ refl (all-published bits256 .verify-published key Δ H′ χ opened proof) r _ t refl;
+  test-put = λ key x r t. asked-told (shapeOf key) _ _ (all-published bits256 .test-published key x) r t;
+  commit-put = λ key leaves x before after r t. asked-told (shapeOf key) _ _ (all-published bits256 .commit-published key leaves x before) r (t .0);
+  hash-put = λ key leaves H′ before after r t. asked-told (shapeOf key) _ _ (all-published bits256 .hash-published key leaves H′ before) r (t .0);
+  batch-put = λ key leaves x χ before after r t. asked-told (shapeOf key) _ _ (all-published bits256 .batch-published key leaves x χ before) r (t .0);
+  prove-put = λ key leaves x H′ χ before after r t. asked-told (shapeOf key) _ _ (all-published bits256 .prove-published key leaves x H′ χ before) r (t .0);
+  verify-put = λ key Δ H′ χ opened proof r t. asked-told (shapeOf key) _ _ (all-published bits256 .verify-published key Δ H′ χ opened proof) r t;
 }
 
 pub refused-keeps : RefusedKeeps
-refused-keeps reply before after string r t n = kept (t .0) before after string (t .1 .2) (λ z. n (t .1 .0 ∙ z))
+refused-keeps answer before after string r t n = kept answer before after string (t .1) (λ z. n (t .0 ∙ z))
 
 pub accepted-writes : AcceptedWrites
 accepted-writes = record {
-  commit-writes = λ key leaves x before after t. wrote (shapeOf key) (t .0) before after _ (all-published bits256 .commit-published key leaves x before (t .0) (t .1 .1)) (t .1 .0) (t .1 .2);
-  hash-writes = λ key leaves H′ before after t. wrote (shapeOf key) (t .0) before after _ (hash-published key leaves H′ before (t .0) (t .1 .1)) (t .1 .0) (t .1 .2);
-  batch-writes = λ key leaves x χ before after t. wrote (shapeOf key) (t .0) before after _ (all-published bits256 .batch-published key leaves x χ before (t .0) (t .1 .1)) (t .1 .0) (t .1 .2);
-  prove-writes = λ key leaves x H′ χ before after t. wrote (shapeOf key) (t .0) before after _ (all-published bits256 .prove-published key leaves x H′ χ before (t .0) (t .1 .1)) (t .1 .0) (t .1 .2);
+  commit-writes = λ key leaves x before after t. wrote (shapeOf key) _ before after _ (all-published bits256 .commit-published key leaves x before) (t .0) (t .1);
+  hash-writes = λ key leaves H′ before after t. wrote (shapeOf key) _ before after _ (all-published bits256 .hash-published key leaves H′ before) (t .0) (t .1);
+  batch-writes = λ key leaves x χ before after t. wrote (shapeOf key) _ before after _ (all-published bits256 .batch-published key leaves x χ before) (t .0) (t .1);
+  prove-writes = λ key leaves x H′ χ before after t. wrote (shapeOf key) _ before after _ (all-published bits256 .prove-published key leaves x H′ χ before) (t .0) (t .1);
 }
 
 pub places-named : PlacesNamed
 unfolding testAnswer commitAnswer batchAnswer proveAnswer verifyAnswer
 places-named = record {
-  test-names = λ key x i l t. eleven-told (shapeOf key) _ _ (t .0) (t .1 .1 .answers) (all-published bits256 .test-published key x (t .0) (t .1 .1)) _ _ (t .1 .1) i l (t .1 .0);
-  commit-names = λ key leaves x before after i l t.
-      eleven-told (shapeOf key) _ _ (t .0) (t .1 .1 .answers) (all-published bits256 .commit-published key leaves x before (t .0) (t .1 .1)) _ _ (t .1 .1) i l (t .1 .0);
-  batch-names = λ key leaves x χ before after i l t.
-      eleven-told (shapeOf key) _ _ (t .0) (t .1 .1 .answers) (all-published bits256 .batch-published key leaves x χ before (t .0) (t .1 .1)) _ _ (t .1 .1) i l (t .1 .0);
-  prove-names = λ key leaves x H′ χ before after i l t.
-      eleven-told (shapeOf key) _ _ (t .0) (t .1 .1 .answers) (all-published bits256 .prove-published key leaves x H′ χ before (t .0) (t .1 .1)) _ _ (t .1 .1) i l (t .1 .0);
+  test-names = λ key x i l t. first-named bits256 .test-eleven key x i (refusal-told (shapeOf key) _ _ (all-published bits256 .test-published key x) 10 i l t);
+  commit-names = λ key leaves x before after i l t. first-named bits256 .commit-eleven key leaves x before i (refusal-told (shapeOf key) _ _ (all-published bits256 .commit-published key leaves x before) 10 i l (t .0));
+  batch-names = λ key leaves x χ before after i l t. first-named bits256 .batch-eleven key leaves x χ before i (refusal-told (shapeOf key) _ _ (all-published bits256 .batch-published key leaves x χ before) 10 i l (t .0));
+  prove-names = λ key leaves x H′ χ before after i l t. first-named bits256 .prove-eleven key leaves x H′ χ before i (refusal-told (shapeOf key) _ _ (all-published bits256 .prove-published key leaves x H′ χ before) 10 i l (t .0));
   fourteen = λ key Δ H′ χ opened proof e l t.
-      first-named bits256 .fourteen key Δ H′ χ opened proof e (refusal-told (shapeOf key) _ _ _ refl (all-published bits256 .verify-published key Δ H′ χ opened proof) 13 e l t);
+      first-named bits256 .fourteen key Δ H′ χ opened proof e (refusal-told (shapeOf key) _ _ (all-published bits256 .verify-published key Δ H′ χ opened proof) 13 e l t);
   fifteen = λ key Δ H′ χ opened proof e l t.
-      first-named bits256 .fifteen key Δ H′ χ opened proof e (refusal-told (shapeOf key) _ _ _ refl (all-published bits256 .verify-published key Δ H′ χ opened proof) 14 e l t);
+      first-named bits256 .fifteen key Δ H′ χ opened proof e (refusal-told (shapeOf key) _ _ (all-published bits256 .verify-published key Δ H′ χ opened proof) 14 e l t);
 }
 
--- a refusal exactly when some equation fails, by the number of the answer
-by-eleven : (key x : List ℕ) (b : Bool) (qs : List Question) (a : Answer) (r : ℕ) → a ≡ ask (question b 1 0 ∷ q2 bits256 (shapeOf key) ∷ qs) → Published (shapeOf key) a → r ≡ word a
-    → RefusedIff bits256 key x a → RefusedByEleven key x r
-by-eleven key x b qs a r is listed w i =
-    let refused = not-zero (shapeOf key) a r (SomeFails bits256 key x) listed w (i .0) in
-    (refused, λ n. number-told (shapeOf key) b qs a is listed r w ∙ i .1 .1 (refused .0 n))
+-- what the answer says of the equations, its number says
+by-eleven : (key x : List ℕ) (a : Answer) (r : ℕ) → Published (shapeOf key) a → r ≡ word a → RefusedIff bits256 key x a → RefusedByEleven key x r
+unfolding word
+by-eleven key x a r listed w i =
+    (not-zero (shapeOf key) a r (SomeFails bits256 key x) listed w (i .0), λ n. let t = i .1 (λ e. n (w ∙ ap word e ∙ word-accepted)) in (t .0, t .1, w ∙ ap word (t .2)))
 
 pub refused-when-fails : RefusedWhenFails
-unfolding testAnswer commitAnswer batchAnswer proveAnswer
 refused-when-fails = record {
-  test-fails = λ key x r f t. by-eleven key x _ _ (t .0) r (t .1 .1 .answers) (all-published bits256 .test-published key x (t .0) (t .1 .1)) (t .1 .0) (refuses-exactly-when bits256 .test-refuses key x (t .0) f (t .1 .1));
-  commit-fails = λ key leaves x before after r f t.
-      by-eleven key x _ _ (t .0) r (t .1 .1 .answers) (all-published bits256 .commit-published key leaves x before (t .0) (t .1 .1)) (t .1 .0) (refuses-exactly-when bits256 .commit-refuses key leaves x before (t .0) f (t .1 .1));
-  batch-fails = λ key leaves x χ before after r f t.
-      by-eleven key x _ _ (t .0) r (t .1 .1 .answers) (all-published bits256 .batch-published key leaves x χ before (t .0) (t .1 .1)) (t .1 .0) (refuses-exactly-when bits256 .batch-refuses key leaves x χ before (t .0) f (t .1 .1));
-  prove-fails = λ key leaves x H′ χ before after r f t.
-      by-eleven key x _ _ (t .0) r (t .1 .1 .answers) (all-published bits256 .prove-published key leaves x H′ χ before (t .0) (t .1 .1)) (t .1 .0) (refuses-exactly-when bits256 .prove-refuses key leaves x H′ χ before (t .0) f (t .1 .1));
+  test-fails = λ key x r f t. by-eleven key x _ r (all-published bits256 .test-published key x) t (refuses-exactly-when bits256 .test-refuses key x f);
+  commit-fails = λ key leaves x before after r f t. by-eleven key x _ r (all-published bits256 .commit-published key leaves x before) (t .0) (refuses-exactly-when bits256 .commit-refuses key leaves x before f);
+  batch-fails = λ key leaves x χ before after r f t. by-eleven key x _ r (all-published bits256 .batch-published key leaves x χ before) (t .0) (refuses-exactly-when bits256 .batch-refuses key leaves x χ before f);
+  prove-fails = λ key leaves x H′ χ before after r f t. by-eleven key x _ r (all-published bits256 .prove-published key leaves x H′ χ before) (t .0) (refuses-exactly-when bits256 .prove-refuses key leaves x H′ χ before f);
 }
 
 pub steps-make-whole : StepsMakeWhole
@@ -123,8 +109,8 @@ honestQuestions key leaves x H′ χ =
     ∷ q8 bits256 s (perTree bits256) leaves ∷ q9 bits256 s x ∷ []
 
 -- every question got a yes, where the number is 0
-yes-told : (s : Shape) (qs : List Question) (a : Answer) → Published s a → a ≡ ask qs → 0 ≡ word a → Yes qs
-yes-told s qs a listed h z = all-yes qs (ask-accepts qs .0 (sym h ∙ only-accepted s a listed (sym z)))
+yes-told : (s : Shape) (qs : List Question) → Published s (ask qs) → 0 ≡ word (ask qs) → Yes qs
+yes-told s qs listed z = all-yes qs (ask-accepts qs .0 (only-accepted s (ask qs) listed (sym z)))
 
 -- the form of an honest proof's inputs, a solved system, and sizes in range
 abbrev Honest : List ℕ → List ℕ → List ℕ → List ℕ → List ℕ → Type 0
@@ -134,8 +120,7 @@ proved : (key leaves x H′ χ before after : List ℕ) → ProveWrites key leav
 unfolding proveAnswer honestForm
 proved key leaves x H′ χ before after t =
     let y =
-    yes-told (shapeOf key) (proveQuestions bits256 key leaves x H′ χ before ++ (q11 bits256 (shapeOf key) key x (placeOf (t .0)) ∷ [])) (t .0)
-    (all-published bits256 .prove-published key leaves x H′ χ before (t .0) (t .1 .1)) (t .1 .1 .answers) (t .1 .0) in
+    yes-told (shapeOf key) (provePuts bits256 key leaves x H′ χ before) (all-published bits256 .prove-published key leaves x H′ χ before) (t .0) in
     (yes-all (honestQuestions key leaves x H′ χ) (y .0, (y .1 .0, (y .1 .1 .0, (y .1 .1 .1 .0, (y .1 .1 .1 .1 .0, (y .1 .1 .1 .1 .1 .0, (y .1 .1 .1 .1 .1 .1 .0, (y .1 .1 .1 .1 .1 .1 .1 .0, (y .1 .1 .1 .1 .1 .1 .1 .1 .0, tt))))))))), y .1 .1 .1 .1 .1 .1 .1 .1 .1 .1 .0, y .1 .0)
 
 stepped : (key leaves x H′ χ b₁ a₁ b₂ a₂ b₃ a₃ : List ℕ) → CommitWrites key leaves x b₁ a₁ 0 → HashWrites key leaves H′ b₂ a₂ 0 → BatchWrites key leaves x χ b₃ a₃ 0 → Honest key leaves x H′ χ
@@ -143,12 +128,9 @@ unfolding commitAnswer hashAnswer batchAnswer honestForm
 stepped key leaves x H′ χ b₁ a₁ b₂ a₂ b₃ a₃ c h t =
     let s = shapeOf key in
     let y =
-    yes-told s (commitQuestions bits256 key leaves x b₁ ++ (q11 bits256 s key x (placeOf (c .0)) ∷ [])) (c .0)
-    (all-published bits256 .commit-published key leaves x b₁ (c .0) (c .1 .1)) (c .1 .1 .answers) (c .1 .0) in
-    let z = yes-told s (hashQuestions bits256 key leaves H′ b₂) (h .0) (hash-published key leaves H′ b₂ (h .0) (h .1 .1)) (h .1 .1) (h .1 .0) in
-    let w =
-    yes-told s (batchQuestions bits256 key leaves x χ b₃ ++ (q11 bits256 s key x (placeOf (t .0)) ∷ [])) (t .0)
-    (all-published bits256 .batch-published key leaves x χ b₃ (t .0) (t .1 .1)) (t .1 .1 .answers) (t .1 .0) in
+    yes-told s (commitPuts bits256 key leaves x b₁) (all-published bits256 .commit-published key leaves x b₁) (c .0) in
+    let z = yes-told s (hashQuestions bits256 key leaves H′ b₂) (all-published bits256 .hash-published key leaves H′ b₂) (h .0) in
+    let w = yes-told s (batchPuts bits256 key leaves x χ b₃) (all-published bits256 .batch-published key leaves x χ b₃) (t .0) in
     let exact =
     true-all (hExact bits256 s H′ ∷ χExact bits256 s χ ∷ [])
     (all-true (hExact bits256 s H′ ∷ []) (z .1 .1 .1 .1 .0) .0, (all-true (χExact bits256 s χ ∷ []) (w .1 .1 .1 .1 .0) .0, tt)) in

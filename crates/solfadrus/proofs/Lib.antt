@@ -1,5 +1,4 @@
 pub mod FactLaws
-pub mod ReplyLaws
 pub mod SizedLaws
 pub mod ToldLaws
 pub mod Demands

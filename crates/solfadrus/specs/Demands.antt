@@ -1,9 +1,9 @@
 -- Demand 1 and demand 2 of the exports, over what their contracts promise. Demand 3 is in Forgery.
 --   Listed s r == r is 0, or number × 65,536 + place of a refusal in the published list, for a key of sizes s
 --   Asked qs r == r is 0 and every question of qs gets a yes, or r is number × 65,536 + place of the first that gets a
---     no; qs p has p for the place of 11
---   RefusedByEleven key x r == r is a refusal exactly when some equation of the key fails at x, and then its number is
---     11
+--     no
+--   RefusedByEleven key x r == r is a refusal exactly when some equation of the key fails at x, and then 11 × 65,536 + i
+--     with the lowest-numbered one that does
 --   TestTold, CommitWrites, HashWrites, BatchWrites, ProveWrites == the promises of mq_test, mq_commit, mq_hash,
 --     mq_batch, mq_prove: their inputs, the output before and after, the number
 --   VerifyTold == the promise of mq_verify, which writes nothing: its inputs, the number
@@ -12,7 +12,7 @@ use mathlib.Core.Path.{_≡_}
 use mathlib.Core.Logic.{_⊎_, _↔_, _≢_}
 use mathlib.Core.Bool.{true}
 use mathlib.Core.List.{List, [], _∷_, _++_}
-use Prim.Native.Nat.{ℕ, _+_, _*_, _/_, _<_}
+use Prim.Native.Nat.{ℕ, _+_, _*_, _<_}
 use lib.ListN.{length}
 use Rattle.protocol.specs.Strings.{bytes}
 use Rattle.protocol.specs.Binary.{bits256}
@@ -20,41 +20,41 @@ use Rattle.protocol.specs.Shape.{Shape, shapeOf}
 use Rattle.protocol.specs.Prover.{sectionsOf, commitBytes, hashBytes, batchBytes, proofOf}
 use Rattle.protocol.specs.Sections.{lengths}
 use Rattle.protocol.specs.Answers.{Answer, Question, allYes, word, Published}
-use Rattle.protocol.specs.Questions.{fails, consistentIn, productIn}
-use Rattle.protocol.specs.Calls.{hashQuestions, testPuts, commitPuts, batchPuts, provePuts, verifyPuts, hashAnswer, verifyAnswer}
-use Rattle.protocol.specs.Calls.{TestReply, CommitReply, BatchReply, ProveReply, testForm, commitForm, batchForm, proveForm, verifyForm}
+use Rattle.protocol.specs.Questions.{consistentIn, productIn}
+use Rattle.protocol.specs.Calls.{hashQuestions, testPuts, commitPuts, batchPuts, provePuts, verifyPuts, testAnswer, commitAnswer, hashAnswer, batchAnswer, proveAnswer, verifyAnswer}
+use Rattle.protocol.specs.Calls.{testForm, commitForm, batchForm, proveForm, verifyForm}
 use Rattle.protocol.specs.Counting.{opening}
-use Rattle.protocol.specs.Statements.{FirstNo, FirstFailing, SomeFails}
+use Rattle.protocol.specs.Statements.{FirstNo, FirstFailing, FirstFails, SomeFails}
 use Rattle.sections.specs.Reading.{Reads}
-use Rattle.solfadrus.specs.Told.{Told, Writes}
+use Rattle.solfadrus.specs.Told.{Writes}
 
 abbrev pub Listed : Shape → ℕ → Type 0
-Listed s = Told (Published s)
+Listed s r = (a : Answer) × (r ≡ word a) × Published s a
 
 module _ (key : List ℕ) where
   abbrev pub TestTold : List ℕ → ℕ → Type 0
-  TestTold x = Told (TestReply bits256 key x)
+  TestTold x r = r ≡ word (testAnswer bits256 key x)
 
   abbrev pub CommitWrites : List ℕ → List ℕ → List ℕ → List ℕ → ℕ → Type 0
-  CommitWrites leaves x before after = Writes (CommitReply bits256 key leaves x before) before after (commitBytes bits256 key leaves x)
+  CommitWrites leaves x before after = Writes (commitAnswer bits256 key leaves x before) before after (commitBytes bits256 key leaves x)
 
   abbrev pub HashWrites : List ℕ → List ℕ → List ℕ → List ℕ → ℕ → Type 0
-  HashWrites leaves H′ before after = Writes (λ a. a ≡ hashAnswer bits256 key leaves H′ before) before after (hashBytes bits256 key leaves H′)
+  HashWrites leaves H′ before after = Writes (hashAnswer bits256 key leaves H′ before) before after (hashBytes bits256 key leaves H′)
 
   abbrev pub BatchWrites : List ℕ → List ℕ → List ℕ → List ℕ → List ℕ → ℕ → Type 0
-  BatchWrites leaves x χ before after = Writes (BatchReply bits256 key leaves x χ before) before after (batchBytes bits256 key leaves x χ)
+  BatchWrites leaves x χ before after = Writes (batchAnswer bits256 key leaves x χ before) before after (batchBytes bits256 key leaves x χ)
 
   abbrev pub ProveWrites : List ℕ → List ℕ → List ℕ → List ℕ → List ℕ → List ℕ → ℕ → Type 0
-  ProveWrites leaves x H′ χ before after = Writes (ProveReply bits256 key leaves x H′ χ before) before after (proofOf bits256 key leaves x H′ χ)
+  ProveWrites leaves x H′ χ before after = Writes (proveAnswer bits256 key leaves x H′ χ before) before after (proofOf bits256 key leaves x H′ χ)
 
   abbrev pub VerifyTold : List ℕ → List ℕ → List ℕ → List ℕ → List ℕ → ℕ → Type 0
   VerifyTold Δ H′ χ opened proof r = r ≡ word (verifyAnswer bits256 key Δ H′ χ opened proof)
 
-abbrev pub Asked : (ℕ → List Question) → ℕ → Type 0
-Asked qs r = ((r ≡ 0) × (allYes (qs 0) ≡ true)) ⊎ ((r ≢ 0) × (i : ℕ) × (p : ℕ) × (p < 65536) × (r ≡ i * 65536 + p) × FirstNo (qs p) i p)
+abbrev pub Asked : List Question → ℕ → Type 0
+Asked qs r = ((r ≡ 0) × (allYes qs ≡ true)) ⊎ ((r ≢ 0) × (i : ℕ) × (p : ℕ) × (p < 65536) × (r ≡ i * 65536 + p) × FirstNo qs i p)
 
 abbrev pub RefusedByEleven : List ℕ → List ℕ → ℕ → Type 0
-RefusedByEleven key x r = ((r ≢ 0) ↔ SomeFails bits256 key x) × (r ≢ 0 → r / 65536 ≡ 11)
+RefusedByEleven key x r = ((r ≢ 0) ↔ SomeFails bits256 key x) × (r ≢ 0 → (i : ℕ) × FirstFails bits256 key x i × (r ≡ 11 * 65536 + i))
 
 -- "every input is taken or refused by a number and place from a published list"
 pub record EveryAnswerListed : Type 0 where
@@ -69,20 +69,19 @@ pub record EveryAnswerListed : Type 0 where
 pub record EveryQuestionPut : Type 0 where
   pub test-put : (key x : List ℕ) (r : ℕ) → TestTold key x r → Asked (testPuts bits256 key x) r
   pub commit-put : (key leaves x before after : List ℕ) (r : ℕ) → CommitWrites key leaves x before after r → Asked (commitPuts bits256 key leaves x before) r
-  pub hash-put : (key leaves H′ before after : List ℕ) (r : ℕ) → HashWrites key leaves H′ before after r → Asked (λ p. hashQuestions bits256 key leaves H′ before) r
+  pub hash-put : (key leaves H′ before after : List ℕ) (r : ℕ) → HashWrites key leaves H′ before after r → Asked (hashQuestions bits256 key leaves H′ before) r
   pub batch-put : (key leaves x χ before after : List ℕ) (r : ℕ) → BatchWrites key leaves x χ before after r → Asked (batchPuts bits256 key leaves x χ before) r
   pub prove-put : (key leaves x H′ χ before after : List ℕ) (r : ℕ) → ProveWrites key leaves x H′ χ before after r → Asked (provePuts bits256 key leaves x H′ χ before) r
-  pub verify-put : (key Δ H′ χ opened proof : List ℕ) (r : ℕ) → VerifyTold key Δ H′ χ opened proof r
-      → Asked (λ p. verifyPuts bits256 key Δ H′ χ opened proof) r
+  pub verify-put : (key Δ H′ χ opened proof : List ℕ) (r : ℕ) → VerifyTold key Δ H′ χ opened proof r → Asked (verifyPuts bits256 key Δ H′ χ opened proof) r
 
--- Each place of that list means what the list says: no call names an equation that holds or a repetition in which the
--- check holds.
+-- Each place of that list means what the list says, of any input: the first equation that fails, or the first
+-- repetition where the check fails.
 pub record PlacesNamed : Type 0 where
-  -- "11, with the number of some equation that fails"
-  pub test-names : (key x : List ℕ) (i : ℕ) → i < 65536 → TestTold key x (11 * 65536 + i) → fails bits256 (shapeOf key) key x i
-  pub commit-names : (key leaves x before after : List ℕ) (i : ℕ) → i < 65536 → CommitWrites key leaves x before after (11 * 65536 + i) → fails bits256 (shapeOf key) key x i
-  pub batch-names : (key leaves x χ before after : List ℕ) (i : ℕ) → i < 65536 → BatchWrites key leaves x χ before after (11 * 65536 + i) → fails bits256 (shapeOf key) key x i
-  pub prove-names : (key leaves x H′ χ before after : List ℕ) (i : ℕ) → i < 65536 → ProveWrites key leaves x H′ χ before after (11 * 65536 + i) → fails bits256 (shapeOf key) key x i
+  -- "11, with the number of some equation that fails", since request 2 the lowest-numbered
+  pub test-names : (key x : List ℕ) (i : ℕ) → i < 65536 → TestTold key x (11 * 65536 + i) → FirstFails bits256 key x i
+  pub commit-names : (key leaves x before after : List ℕ) (i : ℕ) → i < 65536 → CommitWrites key leaves x before after (11 * 65536 + i) → FirstFails bits256 key x i
+  pub batch-names : (key leaves x χ before after : List ℕ) (i : ℕ) → i < 65536 → BatchWrites key leaves x χ before after (11 * 65536 + i) → FirstFails bits256 key x i
+  pub prove-names : (key leaves x H′ χ before after : List ℕ) (i : ℕ) → i < 65536 → ProveWrites key leaves x H′ χ before after (11 * 65536 + i) → FirstFails bits256 key x i
   -- "14, with the first e where not"
   pub fourteen : (key Δ H′ χ opened proof : List ℕ) (e : ℕ) → e < 65536 → VerifyTold key Δ H′ χ opened proof (14 * 65536 + e)
       → FirstFailing (shapeOf key .τ) (consistentIn bits256 (shapeOf key) Δ H′ opened proof) e
@@ -93,8 +92,8 @@ pub record PlacesNamed : Type 0 where
 
 -- "a refused call changes no lent byte": of any export that writes. Inputs are lent for reading only, and mq_verify is
 -- lent nothing else.
-abbrev pub RefusedKeeps : Type 1
-RefusedKeeps = (reply : Answer → Type 0) (before after string : List ℕ) (r : ℕ) → Writes reply before after string r → r ≢ 0 → after ≡ before
+abbrev pub RefusedKeeps : Type 0
+RefusedKeeps = (answer : Answer) (before after string : List ℕ) (r : ℕ) → Writes answer before after string r → r ≢ 0 → after ≡ before
 
 -- An accepted call has written the definition's bytes.
 pub record AcceptedWrites : Type 0 where
@@ -103,8 +102,7 @@ pub record AcceptedWrites : Type 0 where
   pub batch-writes : (key leaves x χ before after : List ℕ) → BatchWrites key leaves x χ before after 0 → after ≡ batchBytes bits256 key leaves x χ
   pub prove-writes : (key leaves x H′ χ before after : List ℕ) → ProveWrites key leaves x H′ χ before after 0 → after ≡ proofOf bits256 key leaves x H′ χ
 
--- "a witness of right form is refused exactly when some equation fails": by the number 11, whose place `PlacesNamed`
--- speaks of
+-- "a witness of right form is refused exactly when some equation fails": by the number 11, with the first that does
 pub record RefusedWhenFails : Type 0 where
   pub test-fails : (key x : List ℕ) (r : ℕ) → testForm bits256 key x ≡ true → TestTold key x r → RefusedByEleven key x r
   pub commit-fails : (key leaves x before after : List ℕ) (r : ℕ) → commitForm bits256 key leaves x before ≡ true → CommitWrites key leaves x before after r → RefusedByEleven key x r

@@ -2,7 +2,7 @@
 // section is computed.
 ghost use mathlib.Core.Path.{_≡_};
 ghost use Rattle.protocol.specs.Binary.{bits256};
-ghost use Rattle.protocol.specs.Calls.{hashAnswer, TestReply, CommitReply, BatchReply, ProveReply};
+ghost use Rattle.protocol.specs.Calls.{testAnswer, commitAnswer, hashAnswer, batchAnswer, proveAnswer};
 ghost use Rattle.format.specs.Verdict.{answerOf};
 ghost use Rattle.solfadrus.specs.Told.{CommitOutput, HashOutput, BatchOutput, ProveOutput};
 use format::Verdict;
@@ -25,7 +25,7 @@ pub fn hash(key: &[u8], leaves: &[u8], matrix: &[u8], out: &mut [u8]) -> Verdict
 
 // The test of a key and a witness (01): questions 1 to 4, 9, 11.
 pub fn test(key: &[u8], witness: &[u8]) -> Verdict
-    ensures { λ r. ⌜ TestReply bits256 (now (key .entry)) (now (witness .entry)) (answerOf r) ⌝ }
+    ensures { λ r. ⌜ answerOf r ≡ testAnswer bits256 (now (key .entry)) (now (witness .entry)) ⌝ }
 {
     let s = sizes_of(key);
     let form = questions::calls::test_form(key, witness, s);
@@ -37,7 +37,7 @@ pub fn test(key: &[u8], witness: &[u8]) -> Verdict
 
 // The first step (01): commit. It takes the witness, and writes the sections C and d.
 pub fn commit(key: &[u8], leaves: &[u8], witness: &[u8], out: &mut [u8]) -> Verdict
-    ensures { λ r. ⌜ CommitReply bits256 (now (key .entry)) (now (leaves .entry)) (now (witness .entry)) (now (out .entry)) (answerOf r) ⌝ }
+    ensures { λ r. ⌜ answerOf r ≡ commitAnswer bits256 (now (key .entry)) (now (leaves .entry)) (now (witness .entry)) (now (out .entry)) ⌝ }
     ensures { λ r. ⌜ CommitOutput (now (key .entry)) (now (leaves .entry)) (now (witness .entry)) (now (out .entry)) (now (out .exit)) (answerOf r) ⌝ }
 {
     let s = sizes_of(key);
@@ -55,7 +55,7 @@ pub fn commit(key: &[u8], leaves: &[u8], witness: &[u8], out: &mut [u8]) -> Verd
 
 // The third step (01): batch. It takes the witness, and writes the sections QS0 and QS1.
 pub fn batch(key: &[u8], leaves: &[u8], witness: &[u8], batching: &[u8], out: &mut [u8]) -> Verdict
-    ensures { λ r. ⌜ BatchReply bits256 (now (key .entry)) (now (leaves .entry)) (now (witness .entry)) (now (batching .entry)) (now (out .entry)) (answerOf r) ⌝ }
+    ensures { λ r. ⌜ answerOf r ≡ batchAnswer bits256 (now (key .entry)) (now (leaves .entry)) (now (witness .entry)) (now (batching .entry)) (now (out .entry)) ⌝ }
     ensures { λ r. ⌜ BatchOutput (now (key .entry)) (now (leaves .entry)) (now (witness .entry)) (now (batching .entry)) (now (out .entry)) (now (out .exit)) (answerOf r) ⌝ }
 {
     let s = sizes_of(key);
@@ -80,7 +80,7 @@ pub fn prove(
     batching: &[u8],
     out: &mut [u8],
 ) -> Verdict
-    ensures { λ r. ⌜ ProveReply bits256 (now (key .entry)) (now (leaves .entry)) (now (witness .entry)) (now (matrix .entry)) (now (batching .entry)) (now (out .entry)) (answerOf r) ⌝ }
+    ensures { λ r. ⌜ answerOf r ≡ proveAnswer bits256 (now (key .entry)) (now (leaves .entry)) (now (witness .entry)) (now (matrix .entry)) (now (batching .entry)) (now (out .entry)) ⌝ }
     ensures { λ r. ⌜ ProveOutput (now (key .entry)) (now (leaves .entry)) (now (witness .entry)) (now (matrix .entry)) (now (batching .entry))
         (now (out .entry)) (now (out .exit)) (answerOf r) ⌝ }
 {

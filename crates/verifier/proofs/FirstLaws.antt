@@ -8,12 +8,6 @@ use native.Mathlib.Omega.{arith}
 use Rattle.protocol.specs.Lists.{allBelow, firstNot}
 use Rattle.protocol.proofs.TestLaws.{all-of, first-before}
 
-pub first-at : (n : ℕ) (p : ℕ → Bool) (i : ℕ) → i < n → ((k : ℕ) → k < i → p k ≡ true) → p i ≡ false → firstNot n p ≡ i
-unfolding firstNot
-first-at zero p i l before fails = absurd (omega arith)
-first-at (suc n) p zero l before fails = rw (fails, firstNot)
-first-at (suc n) p (suc i) l before fails = rw (before 0 (omega arith), firstNot) (ap suc (first-at n (λ k. p (suc k)) i (omega arith) (λ k h. before (suc k) (omega arith)) fails))
-
 pub first-none : (n : ℕ) (p : ℕ → Bool) → ((k : ℕ) → k < n → p k ≡ true) → firstNot n p ≡ n
 unfolding firstNot
 first-none zero p all = refl

@@ -1,4 +1,4 @@
--- `solfadrus::calls::commit` meets its contract: a refusal on form, then question 11's, is its reply; and else the
+-- `solfadrus::calls::commit` meets its contract: a refusal on form, then question 11's, is its answer; and else the
 -- step's bytes are written.
 -- Assumes nothing.
 use mathlib.Core.Path.{_≡_, refl, sym, ap, _∙_}
@@ -7,15 +7,16 @@ use denote.Ref.{now}
 use Rattle.protocol.specs.Frames.{frame}
 use Rattle.protocol.specs.Binary.{bits256}
 use Rattle.protocol.specs.Prover.{cSection, dSection, commitBytes}
-use Rattle.protocol.specs.Shape.{Shape}
+use Rattle.protocol.specs.Shape.{Shape, shapeOf}
+use Rattle.protocol.specs.Questions.{q11}
 use Rattle.protocol.specs.Answers.{accepted, ask}
-use Rattle.protocol.specs.Calls.{commitQuestions}
+use Rattle.protocol.specs.Calls.{commitQuestions, commitAnswer}
 use Rattle.format.specs.Sizes.{shapeFor}
 use Rattle.format.specs.Verdict.{answerOf}
+use Rattle.format.proofs.AskLaws.{then-ask, go-on, stop-at}
 use Rattle.questions.specs.Facts.{KeyFacts, CommitFacts}
 use Rattle.questions.proofs.KeyLaws.{by-sizes}
 use Rattle.solfadrus.proofs.FactLaws.{commit-facts}
-use Rattle.solfadrus.proofs.ReplyLaws.{refused-not, commit-form-reply, commit-solved-reply}
 use borrow.Author.Needs.{needs}
 use Rattle.solfadrus.proofs.calls.commit.Statement.{statement}
 use Rattle.solfadrus.proofs.calls.commit.Tie as tie
@@ -33,9 +34,10 @@ enum-told-2 : tie.Need-enum-told-2
 enum-told-2 c = search needs
 
 returns : tie.Need-returns
+unfolding commitAnswer
 returns c =
     let a = c .before .before .before .before .before .before .before .before .args in
-    (commit-form-reply (now (a .key)) (now (a .leaves)) (now (a .witness)) (now (a .out)) _ (c .before .before .commit-form .ensures (now (a .out)) refl) (rw (c .enum-told2 .given .1) (refused-not _ _)), rw (c .enum-told2 .given .1))
+    (then-ask (commitQuestions bits256 (now (a .key)) (now (a .leaves)) (now (a .witness)) (now (a .out))) (q11 bits256 (shapeOf (now (a .key))) (now (a .key)) (now (a .witness)) ∷ []) (c .before .before .commit-form .ensures (now (a .out)) refl) (stop-at _ (c .enum-told2 .given .1)), rw (c .enum-told2 .given .1))
 
 asked : (c : tie.After-enum-told) → ask (commitQuestions bits256 (now (c .before .before .before .before .before .before .before .before .args .key)) (now (c .before .before .before .before .before .before .before .before .args .leaves)) (now (c .before .before .before .before .before .before .before .before .args .witness)) (now (c .before .before .before .before .before .before .before .before .args .out))) ≡ accepted
 asked c = sym (c .before .before .commit-form .ensures (now (c .before .before .before .before .before .before .before .before .args .out)) refl) ∙ ap answerOf (c .enum-told .given .1)
@@ -56,9 +58,10 @@ enum-told-4 : tie.Need-enum-told-4
 enum-told-4 c = search needs
 
 returns-2 : tie.Need-returns-2
+unfolding commitAnswer
 returns-2 c =
     let a = c .before .before .before .before .before .before .before .before .before .before .before .args in
-    (commit-solved-reply (now (a .key)) (now (a .leaves)) (now (a .witness)) (now (a .out)) (asked (c .before .before .before)) _ (c .before .before .solved .ensures), rw (c .enum-told4 .given .1))
+    (then-ask (commitQuestions bits256 (now (a .key)) (now (a .leaves)) (now (a .witness)) (now (a .out))) (q11 bits256 (shapeOf (now (a .key))) (now (a .key)) (now (a .witness)) ∷ []) (c .before .before .before .before .before .commit-form .ensures (now (a .out)) refl) (go-on (c .before .before .before .enum-told .given .1) (c .before .before .solved .ensures)), rw (c .enum-told4 .given .1))
 
 commit-requires : tie.Need-commit-requires
 commit-requires c κs = facts (c .before .before .before .before) .1
@@ -67,11 +70,11 @@ same-length : tie.Need-same-length
 same-length c = search needs
 
 returns-3 : tie.Need-returns-3
-unfolding commitBytes
+unfolding commitAnswer commitBytes
 returns-3 c =
     let a = c .before .before .before .before .before .before .before .before .before .before .before .before .before .before .before .args in
     let e = c .before .before .before .before .before .before .before .before .before .before .sizes-of .ensures .0 (facts (c .before .before .before .before .before .before .before) .0 .header) in (
-      commit-solved-reply (now (a .key)) (now (a .leaves)) (now (a .witness)) (now (a .out)) (asked (c .before .before .before .before .before .before .before)) _ (c .before .before .before .before .before .before .solved .ensures),
+      then-ask (commitQuestions bits256 (now (a .key)) (now (a .leaves)) (now (a .witness)) (now (a .out))) (q11 bits256 (shapeOf (now (a .key))) (now (a .key)) (now (a .witness)) ∷ []) (c .before .before .before .before .before .before .before .before .before .commit-form .ensures (now (a .out)) refl) (go-on (c .before .before .before .before .before .before .before .enum-told .given .1) (c .before .before .before .before .before .before .solved .ensures)),
       rw (c .before .before .before .before .enum-told3 .given .1) (c .before .before .commit .ensures ∙ ap (λ (z : Shape). frame (cSection bits256 z (now (a .leaves)) ∷ dSection bits256 z (now (a .leaves)) (now (a .witness)) ∷ [])) e),
     )
 

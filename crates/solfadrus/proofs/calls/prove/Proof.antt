@@ -1,20 +1,22 @@
--- `solfadrus::calls::prove` meets its contract: a refusal on form, then question 11's, is its reply; and else the proof
+-- `solfadrus::calls::prove` meets its contract: a refusal on form, then question 11's, is its answer; and else the proof
 -- is written.
 -- Assumes nothing.
 use mathlib.Core.Path.{_≡_, refl, sym, ap, _∙_}
+use mathlib.Core.List.{[], _∷_}
 use denote.Ref.{now}
 use Rattle.protocol.specs.Binary.{bits256}
 use Rattle.protocol.specs.Prover.{sectionsOf, proofOf}
 use Rattle.protocol.specs.Sections.{bytesOf}
-use Rattle.protocol.specs.Shape.{Shape}
+use Rattle.protocol.specs.Shape.{Shape, shapeOf}
+use Rattle.protocol.specs.Questions.{q11}
 use Rattle.protocol.specs.Answers.{accepted, ask}
-use Rattle.protocol.specs.Calls.{proveQuestions}
+use Rattle.protocol.specs.Calls.{proveQuestions, proveAnswer}
 use Rattle.format.specs.Sizes.{shapeFor}
 use Rattle.format.specs.Verdict.{answerOf}
+use Rattle.format.proofs.AskLaws.{then-ask, go-on, stop-at}
 use Rattle.questions.specs.Facts.{ProveFacts}
 use Rattle.questions.proofs.KeyLaws.{by-sizes}
 use Rattle.solfadrus.proofs.FactLaws.{prove-facts}
-use Rattle.solfadrus.proofs.ReplyLaws.{refused-not, prove-form-reply, prove-solved-reply}
 use borrow.Author.Needs.{needs}
 use Rattle.solfadrus.proofs.calls.prove.Statement.{statement}
 use Rattle.solfadrus.proofs.calls.prove.Tie as tie
@@ -32,9 +34,10 @@ enum-told-2 : tie.Need-enum-told-2
 enum-told-2 c = search needs
 
 returns : tie.Need-returns
+unfolding proveAnswer
 returns c =
     let a = c .before .before .before .before .before .before .before .before .before .before .args in
-    (prove-form-reply (now (a .key)) (now (a .leaves)) (now (a .witness)) (now (a .matrix)) (now (a .batching)) (now (a .out)) _ (c .before .before .prove-form .ensures (now (a .out)) refl) (rw (c .enum-told2 .given .1) (refused-not _ _)), rw (c .enum-told2 .given .1))
+    (then-ask (proveQuestions bits256 (now (a .key)) (now (a .leaves)) (now (a .witness)) (now (a .matrix)) (now (a .batching)) (now (a .out))) (q11 bits256 (shapeOf (now (a .key))) (now (a .key)) (now (a .witness)) ∷ []) (c .before .before .prove-form .ensures (now (a .out)) refl) (stop-at _ (c .enum-told2 .given .1)), rw (c .enum-told2 .given .1))
 
 asked : (c : tie.After-enum-told) → ask (proveQuestions bits256 (now (c .before .before .before .before .before .before .before .before .before .before .args .key)) (now (c .before .before .before .before .before .before .before .before .before .before .args .leaves)) (now (c .before .before .before .before .before .before .before .before .before .before .args .witness)) (now (c .before .before .before .before .before .before .before .before .before .before .args .matrix)) (now (c .before .before .before .before .before .before .before .before .before .before .args .batching)) (now (c .before .before .before .before .before .before .before .before .before .before .args .out))) ≡ accepted
 asked c = sym (c .before .before .prove-form .ensures (now (c .before .before .before .before .before .before .before .before .before .before .args .out)) refl) ∙ ap answerOf (c .enum-told .given .1)
@@ -55,9 +58,10 @@ enum-told-4 : tie.Need-enum-told-4
 enum-told-4 c = search needs
 
 returns-2 : tie.Need-returns-2
+unfolding proveAnswer
 returns-2 c =
     let a = c .before .before .before .before .before .before .before .before .before .before .before .before .before .args in
-    (prove-solved-reply (now (a .key)) (now (a .leaves)) (now (a .witness)) (now (a .matrix)) (now (a .batching)) (now (a .out)) (asked (c .before .before .before)) _ (c .before .before .solved .ensures), rw (c .enum-told4 .given .1))
+    (then-ask (proveQuestions bits256 (now (a .key)) (now (a .leaves)) (now (a .witness)) (now (a .matrix)) (now (a .batching)) (now (a .out))) (q11 bits256 (shapeOf (now (a .key))) (now (a .key)) (now (a .witness)) ∷ []) (c .before .before .before .before .before .prove-form .ensures (now (a .out)) refl) (go-on (c .before .before .before .enum-told .given .1) (c .before .before .solved .ensures)), rw (c .enum-told4 .given .1))
 
 prove-requires : tie.Need-prove-requires
 prove-requires c κs = facts (c .before .before .before .before)
@@ -66,11 +70,11 @@ same-length : tie.Need-same-length
 same-length c = search needs
 
 returns-3 : tie.Need-returns-3
-unfolding proofOf
+unfolding proveAnswer proofOf
 returns-3 c =
     let a = c .before .before .before .before .before .before .before .before .before .before .before .before .before .before .before .before .before .args in
     let e = c .before .before .before .before .before .before .before .before .before .before .sizes-of .ensures .0 (facts (c .before .before .before .before .before .before .before) .of-key .header) in (
-      prove-solved-reply (now (a .key)) (now (a .leaves)) (now (a .witness)) (now (a .matrix)) (now (a .batching)) (now (a .out)) (asked (c .before .before .before .before .before .before .before)) _ (c .before .before .before .before .before .before .solved .ensures),
+      then-ask (proveQuestions bits256 (now (a .key)) (now (a .leaves)) (now (a .witness)) (now (a .matrix)) (now (a .batching)) (now (a .out))) (q11 bits256 (shapeOf (now (a .key))) (now (a .key)) (now (a .witness)) ∷ []) (c .before .before .before .before .before .before .before .before .before .prove-form .ensures (now (a .out)) refl) (go-on (c .before .before .before .before .before .before .before .enum-told .given .1) (c .before .before .before .before .before .before .solved .ensures)),
       rw (c .before .before .before .before .enum-told3 .given .1) (c .before .before .prove .ensures ∙ ap (λ (z : Shape). bytesOf (sectionsOf bits256 z (now (a .leaves)) (now (a .key)) (now (a .witness)) (now (a .matrix)) (now (a .batching)))) e),
     )
 

@@ -1,15 +1,18 @@
--- `solfadrus::calls::test` meets its contract: a refusal on form is its reply, and else question 11's.
+-- `solfadrus::calls::test` meets its contract: a refusal on form is its answer, and else question 11's.
 -- Assumes nothing.
 use mathlib.Core.Path.{_≡_, sym, ap, _∙_}
+use mathlib.Core.List.{[], _∷_}
 use denote.Ref.{now}
 use Rattle.protocol.specs.Binary.{bits256}
+use Rattle.protocol.specs.Shape.{shapeOf}
 use Rattle.protocol.specs.Answers.{accepted, ask}
-use Rattle.protocol.specs.Calls.{testQuestions}
+use Rattle.protocol.specs.Questions.{q11}
+use Rattle.protocol.specs.Calls.{testQuestions, testAnswer}
 use Rattle.format.specs.Verdict.{answerOf}
+use Rattle.format.proofs.AskLaws.{then-ask, go-on, stop-at}
 use Rattle.questions.specs.Facts.{TestFacts}
 use Rattle.questions.proofs.KeyLaws.{by-sizes}
 use Rattle.solfadrus.proofs.FactLaws.{test-facts}
-use Rattle.solfadrus.proofs.ReplyLaws.{refused-not, test-form-reply, test-solved-reply}
 use borrow.Author.Needs.{needs}
 use Rattle.solfadrus.proofs.calls.test.Statement.{statement}
 use Rattle.solfadrus.proofs.calls.test.Tie as tie
@@ -27,7 +30,10 @@ enum-told-2 : tie.Need-enum-told-2
 enum-told-2 c = search needs
 
 returns : tie.Need-returns
-returns c = test-form-reply (now (c .before .before .before .before .before .before .args .key)) (now (c .before .before .before .before .before .before .args .witness)) _ (c .before .before .test-form .ensures) (rw (c .enum-told2 .given .1) (refused-not _ _))
+unfolding testAnswer
+returns c =
+    let a = c .before .before .before .before .before .before .args in
+    then-ask (testQuestions bits256 (now (a .key)) (now (a .witness))) (q11 bits256 (shapeOf (now (a .key))) (now (a .key)) (now (a .witness)) ∷ []) (c .before .before .test-form .ensures) (stop-at _ (c .enum-told2 .given .1))
 
 asked : (c : tie.After-enum-told) → ask (testQuestions bits256 (now (c .before .before .before .before .before .before .args .key)) (now (c .before .before .before .before .before .before .args .witness))) ≡ accepted
 asked c = sym (c .before .before .test-form .ensures) ∙ ap answerOf (c .enum-told .given .1)
@@ -39,7 +45,10 @@ solved-requires c κs =
     (c .before .before .before .sizes-of .ensures, by-sizes (λ z. TestFacts bits256 z key (now (c .before .before .before .before .before .before .args .witness))) (c .before .before .before .sizes-of .result) key (c .before .before .before .sizes-of .ensures) (f .of-key .header) f)
 
 returns-2 : tie.Need-returns-2
-returns-2 c = test-solved-reply (now (c .before .before .before .before .before .before .before .args .key)) (now (c .before .before .before .before .before .before .before .args .witness)) (asked (c .before)) _ (c .solved .ensures)
+unfolding testAnswer
+returns-2 c =
+    let a = c .before .before .before .before .before .before .before .args in
+    then-ask (testQuestions bits256 (now (a .key)) (now (a .witness))) (q11 bits256 (shapeOf (now (a .key))) (now (a .key)) (now (a .witness)) ∷ []) (c .before .before .before .test-form .ensures) (go-on (c .before .enum-told .given .1) (c .solved .ensures))
 
 pub test-spec : {M : Type 1} → statement M
 test-spec = tie.close (tie.spec sizes-of-requires test-form-requires enum-told enum-told-2 returns solved-requires returns-2)

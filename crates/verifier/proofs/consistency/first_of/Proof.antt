@@ -14,8 +14,8 @@ use Rattle.protocol.specs.Lists.{blockAt}
 use Rattle.strings.specs.Sums.{byteAt}
 use Rattle.strings.proofs.Rows.{row-end}
 use Rattle.verifier.specs.Repetitions.{BitMasks, rowConsistent}
-use Rattle.protocol.proofs.TestLaws.{eqb-same, eqb-other}
-use Rattle.verifier.proofs.FirstLaws.{first-at, first-none}
+use Rattle.protocol.proofs.TestLaws.{eqb-same, eqb-other, first-at}
+use Rattle.verifier.proofs.FirstLaws.{first-none}
 use Rattle.verifier.proofs.consistency.first_of.Statement.{statement}
 use Rattle.verifier.proofs.consistency.first_of.Tie as tie
 

@@ -12,9 +12,9 @@ use lib.ListN.{length}
 use lib.Bits.{bitXor}
 use Rattle.algebra.specs.Coded.{mulByte}
 use Rattle.field.specs.Gf256.{gf256}
-use Rattle.protocol.proofs.TestLaws.{eqb-same, eqb-other}
+use Rattle.protocol.proofs.TestLaws.{eqb-same, eqb-other, first-at}
 use Rattle.strings.specs.Sums.{byteAt}
-use Rattle.verifier.proofs.FirstLaws.{first-at, first-none}
+use Rattle.verifier.proofs.FirstLaws.{first-none}
 use Rattle.verifier.proofs.product.first_differing.Statement.{statement}
 use Rattle.verifier.proofs.product.first_differing.Tie as tie
 
