@@ -90,6 +90,8 @@ for call in $calls; do
 done
 for call in test commit batch prove; do
     planted place "$call" 'DIFFERS: .* another word'
+    planted last-equation "$call" 'DIFFERS: .* answers 11 place .*, the rendering 11 place'
+    planted second-equation "$call" 'DIFFERS: .* answers 11 place .*, the rendering 11 place'
 done
 for call in commit hash batch prove; do
     planted output "$call" 'DIFFERS: .* not the rendering'

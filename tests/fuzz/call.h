@@ -2,8 +2,6 @@
 #ifndef CALL_H
 #define CALL_H
 
-#include <stdbool.h>
-
 #include "case.h"
 
 enum input { KEY, LEAVES, WITNESS, HASH_MATRIX, BATCHING, DELTA, OPENED, PROOF, INPUTS };
@@ -35,7 +33,6 @@ uint32_t rendering_prove(struct lent key, struct lent leaves, struct lent witnes
                          struct lent batching, struct lent out);
 uint32_t rendering_verify(struct lent key, struct lent delta, struct lent hash_matrix, struct lent batching,
                           struct lent opened, struct lent proof);
-bool rendering_fails(struct lent key, struct lent witness, size_t equation);
 
 /* The shapes to start from: those of tests/shapes with a size at a kernel's threshold. */
 size_t shape_count(void);

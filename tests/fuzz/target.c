@@ -32,6 +32,41 @@ static int plant(const char *fault)
     return 1;
 }
 
+/* The equations of a well-formed key that fail at the witness: how many, and of these the second and the last. */
+struct failing {
+    size_t count, second, last;
+};
+
+static struct failing failing(const uint8_t *key, const uint8_t *witness)
+{
+    const size_t n = key[0], m = key[2], row = MQ_STRING_SIZE(n);
+    const uint8_t *const a = key + 12, *const b = a + m * n * row + 4, *const y = b + m * row + 4;
+    struct failing found = { 0, 0, 0 };
+    for (size_t i = 0; i < m; i++)
+        if (left_side(a + i * n * row, b + i * row, witness, n) != bit(y, i)) {
+            found.count++;
+            found.last = i;
+            if (found.count == 2)
+                found.second = i;
+        }
+    return found;
+}
+
+/* The place of refusal 11, from a library that does not take the first: no equation at all, the last that fails, or
+ * one that is neither the first nor the last of them. */
+static uint32_t planted_place(const struct lent *in, uint32_t word)
+{
+    const uint32_t number = word & 0xFFFF0000;
+    const struct failing found = failing(in[KEY].at, in[WITNESS].at);
+    if (plant("place"))
+        return number | 0xFFFF;
+    if (found.count > 1 && plant("last-equation"))
+        return number | (uint32_t)found.last;
+    if (found.count > 2 && plant("second-equation"))
+        return number | (uint32_t)found.second;
+    return word;
+}
+
 /* The library, or what a faulty one would do. */
 static uint32_t ask_library(const struct lent *in, struct lent out, int upper)
 {
@@ -45,8 +80,8 @@ static uint32_t ask_library(const struct lent *in, struct lent out, int upper)
         ((volatile uint8_t *)key.at)[0] = key.at[0];
     if (plant("word"))
         word ^= 1u << 16;
-    if (word >> 16 == 11 && plant("place"))
-        word |= 0xFFFF; /* no key has such an equation */
+    if (planted && MQ_NUMBER(word) == MQ_REFUSED_EQUATION_FAILS)
+        word = planted_place(in, word);
     if (word == 0 && out.len && plant("output"))
         out.at[out.len - 1] ^= 0x10;
     if (word != 0 && out.len && plant("refused-output"))
@@ -67,14 +102,6 @@ static void differs(const char *what, uint32_t word, uint32_t expected)
            (unsigned)MQ_PLACE(expected));
     fflush(stdout);
     abort();
-}
-
-/* The word must be the rendering's, but that 11 may name any equation that fails. */
-static int right_word(const struct lent *in, uint32_t word, uint32_t expected)
-{
-    if (MQ_NUMBER(expected) != MQ_REFUSED_EQUATION_FAILS)
-        return word == expected;
-    return MQ_NUMBER(word) == MQ_REFUSED_EQUATION_FAILS && rendering_fails(in[KEY], in[WITNESS], MQ_PLACE(word));
 }
 
 static uint8_t filling(size_t i)
@@ -115,7 +142,7 @@ static void try_lent(const struct edited *now, int upper, const uint8_t *expecte
     if (out.len || upper)
         out.at = output.lent + place_in(out.len, upper);
     word = ask_library(lent, out, upper);
-    if (!right_word(now->in, word, right))
+    if (word != right)
         differs("another word", word, right);
     judge_output(out.len, upper, expected, word, right);
 }

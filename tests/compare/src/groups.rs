@@ -26,6 +26,8 @@ pub enum Group {
     Challenges(Sizes),
     /// Doctored proofs, at all 256 values of one repetition's Δ: see `forged`.
     Forged(Sizes),
+    /// Equations that fail: each of them the first, alone and with others after it.
+    Equations(Sizes),
     /// A shape and damages at random.
     Random,
 }
@@ -44,6 +46,9 @@ const CHALLENGED: [Sizes; 5] = [
 
 const FORGED: [Sizes; 3] = [shapes::SMALL, (3, 2, 3, 2), (66, 1, 1, 60)];
 
+/// With several bytes of y, and the most.
+const FAILING: [Sizes; 2] = [(9, 21, 2, 5), (3, 160, 1, 2)];
+
 /// Beside those of the thresholds: the set of 150 variables, and the limits together.
 const LARGE: [Sizes; 3] = [(160, 160, 1, 160), (150, 150, 19, 144), (160, 160, 48, 160)];
 
@@ -61,6 +66,7 @@ pub fn fixed() -> Vec<Group> {
     groups.extend(PAIRED.map(Group::Pairs));
     groups.extend(CHALLENGED.map(Group::Challenges));
     groups.extend(FORGED.map(Group::Forged));
+    groups.extend(FAILING.map(Group::Equations));
     groups.extend(shapes::single().into_iter().map(Group::Shape));
     groups.extend(shapes::joint().into_iter().map(Group::Kernels));
     groups.extend(LARGE.map(Group::Shape));
@@ -123,6 +129,7 @@ impl Run<'_> {
             Group::Kernels(sizes) => self.kernels(sizes),
             Group::Challenges(sizes) => self.challenges(sizes),
             Group::Forged(sizes) => self.forged(sizes),
+            Group::Equations(sizes) => self.equations(sizes),
             Group::Random => self.random_damages(),
         }
     }
@@ -273,6 +280,34 @@ impl Run<'_> {
         for first in &damages {
             for second in &damages {
                 self.damaged(&inputs, &[*first, *second])?;
+            }
+        }
+        Ok(())
+    }
+
+    /// Question 11 in every call that takes a witness: y is changed at one equation, and at some after it.
+    fn equations(&mut self, sizes: Sizes) -> Result<(), String> {
+        let honest = self.inputs(sizes);
+        let y = section_start(Name::Key, &honest.shape, 2) + 4;
+        let m = honest.shape.m;
+        for first in 0..m {
+            for others in [0, 1, m] {
+                let mut inputs = honest.clone();
+                let key = inputs.get_mut(Name::Key);
+                let change = |key: &mut Vec<u8>, i: usize| key[y + i / 8] ^= 1 << (i % 8);
+                change(key, first);
+                for other in first + 1..m {
+                    if self.random.below(m) < others {
+                        change(key, other);
+                    }
+                }
+                for call in CALLS.iter().filter(|c| c.takes.contains(&Name::Witness)) {
+                    self.put(call, &inputs, &[], None)?;
+                    if self.judge.word != 11 * 65_536 + first as u32 {
+                        let what = "the lowest failing equation is not named";
+                        return Err(describe(call, &inputs, &[], what));
+                    }
+                }
             }
         }
         Ok(())

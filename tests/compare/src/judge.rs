@@ -2,10 +2,10 @@
 
 use crate::calls::{Call, Lent, CALLS};
 use crate::damage::Damage;
-use crate::inputs::{Inputs, Name};
+use crate::inputs::Inputs;
 use crate::memory::{read, Memory};
 use reference::cases::Random;
-use reference::{failing, word, Answer};
+use reference::{word, Answer};
 use std::fmt::Write;
 
 /// What the self-test changes after the library has returned, to see that it is reported.
@@ -13,6 +13,8 @@ use std::fmt::Write;
 pub enum Tamper {
     /// Another word: its bits are changed by exclusive or.
     Word(u32),
+    /// Another place, the number staying.
+    Place(u32),
     /// The byte of the output at this place from its start, or from its end.
     Output(usize),
     OutputFromEnd(usize),
@@ -83,7 +85,7 @@ impl Judge {
             None => ask_rendering(call, &taken, before),
         };
         self.count(call, expected.answer);
-        judge(inputs, &seen, &expected)?;
+        judge(&seen, &expected)?;
         Ok(seen.after[seen.output].to_vec())
     }
 
@@ -129,6 +131,7 @@ impl Judge {
         let watched = self.memory.watched();
         match tamper {
             Tamper::Word(bits) => return word ^ bits,
+            Tamper::Place(place) => return word / 65_536 * 65_536 + place,
             Tamper::Output(at) => watched[output.start + at] ^= 0x10,
             Tamper::OutputFromEnd(at) => watched[output.end - 1 - at] ^= 0x10,
             Tamper::GuardBefore => watched[output.start - 1] ^= 0x10,
@@ -165,8 +168,15 @@ fn ask_rendering(call: &Call, taken: &[&[u8]], before: &[u8]) -> Expected {
     Expected { answer, output }
 }
 
-fn judge(inputs: &Inputs, seen: &Seen, expected: &Expected) -> Result<(), String> {
-    judge_word(inputs, seen.word, expected.answer)?;
+fn judge(seen: &Seen, expected: &Expected) -> Result<(), String> {
+    if seen.word != word(expected.answer) {
+        return Err(format!(
+            "the library answers {} place {}, the rendering {:?}",
+            seen.word / 65_536,
+            seen.word % 65_536,
+            expected.answer
+        ));
+    }
     if let Some(index) = seen.changed_input {
         return Err(format!("the library changed input {index}"));
     }
@@ -183,32 +193,6 @@ fn judge(inputs: &Inputs, seen: &Seen, expected: &Expected) -> Result<(), String
             seen.before[at]
         )),
     }
-}
-
-/// The word must be the rendering's, but that 11 may name any equation that fails.
-fn judge_word(inputs: &Inputs, seen: u32, expected: Answer) -> Result<(), String> {
-    let right = match expected {
-        Answer::Refused { number: 11, .. } => {
-            let named = (seen % 65_536) as usize;
-            seen / 65_536 == 11
-                && failing(inputs.get(Name::Key), inputs.get(Name::Witness)).contains(&named)
-        }
-        _ => seen == word(expected),
-    };
-    if right {
-        return Ok(());
-    }
-    Err(format!(
-        "the library answers {} place {}, the rendering {:?}{}",
-        seen / 65_536,
-        seen % 65_536,
-        expected,
-        if matches!(expected, Answer::Refused { number: 11, .. }) {
-            " or another equation that fails"
-        } else {
-            ""
-        }
-    ))
 }
 
 /// All that is needed to see a difference again.

@@ -12,13 +12,14 @@ pub fn run(seed: u64) -> Result<u64, String> {
     let mut random = Random::new(seed);
     let mut judge = Judge::new();
     let mut reported = 0;
-    for (name, call, inputs) in situations(&mut random)? {
+    for (name, call, inputs, places) in situations(&mut random)? {
         // Untouched, nothing may be reported.
         judge.tamper = None;
         judge
             .compare(call, &inputs, None, &mut random)
             .map_err(|what| format!("{name}, untouched: {what}"))?;
-        for tamper in tampers(call, &inputs) {
+        let places = places.into_iter().map(Tamper::Place);
+        for tamper in tampers(call, &inputs).into_iter().chain(places) {
             judge.tamper = Some(tamper);
             if judge.compare(call, &inputs, None, &mut random).is_ok() {
                 return Err(format!("{name}: {tamper:?} went unreported"));
@@ -32,8 +33,8 @@ pub fn run(seed: u64) -> Result<u64, String> {
     Ok(reported + 1)
 }
 
-/// A call on inputs, and what it shows.
-type Situation = (String, &'static Call, Inputs);
+/// A call on inputs, what it shows, and other places that must be reported.
+type Situation = (String, &'static Call, Inputs, Vec<u32>);
 
 /// Accepted and refused calls of each kind.
 fn situations(random: &mut Random) -> Result<Vec<Situation>, String> {
@@ -41,19 +42,25 @@ fn situations(random: &mut Random) -> Result<Vec<Situation>, String> {
     add_proof(&mut honest)?;
     let mut situations = Vec::new();
     for call in CALLS {
-        situations.push((format!("{} accepted", call.name), call, honest.clone()));
+        let what = format!("{} accepted", call.name);
+        situations.push((what, call, honest.clone(), vec![]));
     }
     for call in [&COMMIT, &HASH, &BATCH, &PROVE] {
         let mut inputs = honest.clone();
         inputs.output = Output::More(1);
-        situations.push((format!("{} refused 10", call.name), call, inputs));
+        situations.push((format!("{} refused 10", call.name), call, inputs, vec![]));
     }
-    // Only equation 0 fails, so that naming another is wrong.
+    // Where several equations fail, another that fails is as wrong as one that does not.
     for call in [&TEST, &COMMIT, &BATCH, &PROVE] {
-        let mut inputs = honest.clone();
-        let y = inputs.get(Name::Key).len() - 1;
-        inputs.get_mut(Name::Key)[y] ^= 1;
-        situations.push((format!("{} refused 11", call.name), call, inputs));
+        for errors in 1..1u8 << honest.shape.m {
+            let mut inputs = honest.clone();
+            let y = inputs.get(Name::Key).len() - 1;
+            inputs.get_mut(Name::Key)[y] ^= errors;
+            let first = errors.trailing_zeros();
+            let places = (0..honest.shape.m as u32).filter(|place| *place != first);
+            let what = format!("{} refused 11, errors {errors:03b}", call.name);
+            situations.push((what, call, inputs, places.collect()));
+        }
     }
     // One bit of the last byte of V~, and of QS1: the last repetition fails, at a Δ that is not 0.
     for (section, number) in [(4, 14), (6, 15)] {
@@ -61,7 +68,8 @@ fn situations(random: &mut Random) -> Result<Vec<Situation>, String> {
         open_at(&mut inputs, vec![0x35, 0xC2]);
         let last = section_start(Name::Proof, &inputs.shape, section) - 1;
         inputs.get_mut(Name::Proof)[last] ^= 1;
-        situations.push((format!("mq_verify refused {number}"), &VERIFY, inputs));
+        let what = format!("mq_verify refused {number}");
+        situations.push((what, &VERIFY, inputs, vec![]));
     }
     Ok(situations)
 }

@@ -109,12 +109,6 @@ pub unsafe extern "C" fn rendering_verify(
     ))
 }
 
-/// Whether this is an equation of the key that fails at the witness: refusal 11 may name any such.
-#[no_mangle]
-pub unsafe extern "C" fn rendering_fails(key: Lent, witness: Lent, equation: usize) -> bool {
-    reference::failing(key.input(), witness.input()).contains(&equation)
-}
-
 /// The sizes of a case. The fields are those of `struct sizes` in tests/case.h.
 #[repr(C)]
 pub struct Sizes {

@@ -90,14 +90,13 @@ fn question_10(out: &[u8], lengths: &[usize]) -> Result<(), Answer> {
     question(10, out.len() == to_be_written)
 }
 
-/// "11. Does the witness solve the system? 11, with the number of some equation that fails"
-///
-/// Any failing equation may be named; here it is the lowest.
+/// "11. Does the witness solve the system? 11", and from 02: "Refusal 11 now names the
+/// lowest-numbered failing equation, in the test call and every prover call that takes a witness."
 fn question_11(key: &Key, witness: &[u8]) -> Result<(), Answer> {
     let x = unpack(witness, key.shape.n);
-    match key.failing(&x).first() {
+    match key.first_failing(&x) {
         None => Ok(()),
-        Some(lowest) => question_with_place(11, false, *lowest),
+        Some(lowest) => question_with_place(11, false, lowest),
     }
 }
 
@@ -161,18 +160,6 @@ fn tested(key: &[u8], witness: &[u8]) -> Result<(), Answer> {
     let key = questions_1_to_4(key)?;
     question_9(&key.shape, witness)?;
     question_11(&key, witness)
-}
-
-/// All equations that refusal 11 may name for this key and witness: "it is an equation of the
-/// key, and it fails at the witness." Empty when one of the questions 1 to 4 and 9 gets a no.
-pub fn failing(key: &[u8], witness: &[u8]) -> Vec<usize> {
-    let Ok(key) = questions_1_to_4(key) else {
-        return Vec::new();
-    };
-    if question_9(&key.shape, witness).is_err() {
-        return Vec::new();
-    }
-    key.failing(&unpack(witness, key.shape.n))
 }
 
 /// The first step: "Three step calls write the first two ... sections. All take the key and full

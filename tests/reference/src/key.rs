@@ -196,15 +196,14 @@ impl Key<'_> {
         add(left_side, self.y_bit(i))
     }
 
-    /// The equations that fail at x, rising: "A candidate fails an equation when that equation's
-    /// error at it is not 0."
-    pub fn failing(&self, x: &[u8]) -> Vec<usize> {
-        let mut failing = Vec::new();
+    /// The lowest-numbered equation that fails at x, counted from 0; nothing where x solves all: "A
+    /// candidate fails an equation when that equation's error at it is not 0."
+    pub fn first_failing(&self, x: &[u8]) -> Option<usize> {
         for i in 0..self.shape.m {
             if self.error(i, x) != 0 {
-                failing.push(i);
+                return Some(i);
             }
         }
-        failing
+        None
     }
 }

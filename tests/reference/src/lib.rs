@@ -1,8 +1,10 @@
 //! Reference rendering of the MQ proof core.
 //!
-//! Written from `01-scope.md` alone (called 01 below), with the paper 003 where 01 leaves a doubt.
+//! Written from `01-scope.md` (called 01 below) and, where a request has landed, from
+//! `02-change-requests.md` (called 02), with the paper 003 where these leave a doubt.
 //! It is meant to be read next to 01, not to be fast: field products by shift and add, sums
-//! coordinate by coordinate. Text between quotation marks in the comments is 01's own.
+//! coordinate by coordinate. Text between quotation marks in the comments is 01's own, or 02's
+//! where that is named.
 //!
 //! A *string* is packed bytes as 01 lays them out; a *vector* here is a `Vec<u8>` holding one
 //! element of K for each coordinate. A bit is the element 0 or 1 of K.
@@ -21,5 +23,5 @@ pub mod prover;
 pub mod strings;
 pub mod verifier;
 
-pub use calls::{batch, commit, failing, hash, prove, test, verify, word, Answer};
+pub use calls::{batch, commit, hash, prove, test, verify, word, Answer};
 pub use leaves::open_leaves;

@@ -301,25 +301,45 @@ fn every_spare_bit() {
     }
 }
 
-/// Refusal 11 names the lowest failing equation; `failing` gives all that may be named.
+/// "Refusal 11 now names the lowest-numbered failing equation, in the test call and every prover
+/// call that takes a witness": every set of equations that fail.
 #[test]
-fn failing_equations() {
-    let (case, lent) = sitting();
+fn the_lowest_failing_equation() {
+    let (_, lent) = sitting();
     let last = lent.key.len() - 1;
     for errors in 1..8u8 {
-        let mut key = lent.key.clone();
-        key[last] ^= errors;
-        let expected: Vec<usize> = (0..3).filter(|i| (errors >> i) & 1 == 1).collect();
-        assert_eq!(failing(&key, &case.witness), expected);
-        assert_eq!(
-            test(&key, &case.witness),
-            Answer::Refused {
-                number: 11,
-                place: expected[0] as u32
-            }
-        );
+        let mut spoiled = lent.clone();
+        spoiled.key[last] ^= errors;
+        for call in ["test", "commit", "batch", "prove"] {
+            let answer = put(call, &spoiled, &lent.proof);
+            let place = errors.trailing_zeros();
+            assert_eq!(answer, Answer::Refused { number: 11, place }, "{call}");
+        }
     }
-    assert!(failing(&lent.key, &case.witness).is_empty());
+}
+
+/// The same where y has several bytes, by each first failing equation: alone, with all after it,
+/// and with the last.
+#[test]
+fn the_lowest_failing_equation_of_many() {
+    let case = case(32, 3, 21, 1, 2);
+    let y = case.key.len() - 3;
+    for first in 0..21 {
+        for others in [first..first, first + 1..21, first.max(20)..21] {
+            let mut key = case.key.clone();
+            key[y + first / 8] ^= 1 << (first % 8);
+            for other in others.filter(|other| *other != first) {
+                key[y + other / 8] ^= 1 << (other % 8);
+            }
+            assert_eq!(
+                test(&key, &case.witness),
+                Answer::Refused {
+                    number: 11,
+                    place: first as u32
+                }
+            );
+        }
+    }
 }
 
 /// "14 ... with the first e where not" and "15 ... with the first e where not"; 14 of all

@@ -114,7 +114,6 @@ fn the_verifier() {
 #[test]
 fn y_is_0() {
     assert_eq!(test(&key(0), &X), refused(11, 0));
-    assert_eq!(failing(&key(0), &X), [0]);
     let mut out = vec![0xEE; 29];
     assert_eq!(
         prove(&key(0), &leaves(), &X, &H, &CHI, &mut out),

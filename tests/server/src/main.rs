@@ -169,7 +169,7 @@ fn answers(server: &mut Server, pool: &[Request], order: &[usize]) -> Result<[Me
 /// Reads an answer, and compares it with the request's.
 fn compare(server: &mut Server, request: &Request) -> Result<(), String> {
     let word = server.word().ok_or("no answer")?;
-    if !request.is_answer(word) {
+    if word != request.word {
         return Err(format!(
             "{} place {}, the rendering answers {} place {}",
             word >> 16,

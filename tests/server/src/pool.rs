@@ -3,7 +3,7 @@
 use crate::calls::{honest, Call, Inputs, Sizes, CALLS};
 use crate::calls::{CHI, DELTA, H, KEY, LEAVES, OPENED, PROOF, WITNESS};
 use reference::cases::Random;
-use reference::{failing, word};
+use reference::word;
 
 /// A request as it is sent, and its answer.
 pub struct Request {
@@ -12,20 +12,8 @@ pub struct Request {
     pub call: usize,
     pub bytes: Vec<u8>,
     pub word: u32,
-    /// The equations that 11 may name.
-    failing: Vec<usize>,
     /// What an accepted call writes.
     pub output: Vec<u8>,
-}
-
-impl Request {
-    /// The rendering's word, but that 11 may name any equation that fails.
-    pub fn is_answer(&self, word: u32) -> bool {
-        if self.word >> 16 == 11 {
-            return word >> 16 == 11 && self.failing.contains(&(word as usize & 0xFFFF));
-        }
-        word == self.word
-    }
 }
 
 /// The first so many of the pool are large.
@@ -108,13 +96,17 @@ fn large(random: &mut Random) -> Vec<Request> {
     pool
 }
 
-/// A request for each number that the call can answer. With n=9, m=3, τ=2, t=5 every section has spare bits.
+/// Requests for each number that the call can answer; 11 also with several equations that fail. With n=9, m=3, τ=2, t=5
+/// every section has spare bits.
 fn one_of_each(random: &mut Random, call: usize) -> Vec<Request> {
     type Change = fn(&mut Inputs);
     fn spare(string: &mut [u8]) {
         *string.last_mut().unwrap() |= 0x80;
     }
-    let changes: [(u32, Change); 16] = [
+    fn change_y(inputs: &mut Inputs, bits: u8) {
+        *inputs.strings[KEY].last_mut().unwrap() ^= bits;
+    }
+    let changes: [(u32, Change); 18] = [
         (0, |_| {}),
         (1, |inputs| inputs.strings[KEY].truncate(7)),
         (2, |inputs| inputs.strings[KEY][4] = 49),
@@ -138,7 +130,9 @@ fn one_of_each(random: &mut Random, call: usize) -> Vec<Request> {
         }),
         (9, |inputs| spare(&mut inputs.strings[WITNESS])),
         (10, |inputs| inputs.output += 1),
-        (11, |inputs| *inputs.strings[KEY].last_mut().unwrap() ^= 1), // y
+        (11, |inputs| change_y(inputs, 0b001)),
+        (11, |inputs| change_y(inputs, 0b110)),
+        (11, |inputs| change_y(inputs, 0b111)),
         (12, |inputs| inputs.strings[PROOF].push(0)),
         (13, |inputs| inputs.strings[PROOF][12] |= 0x80), // the last byte of d
         (14, |inputs| {
@@ -215,11 +209,6 @@ fn request(what: String, number: usize, inputs: &Inputs) -> Request {
         call: number,
         bytes,
         word,
-        failing: if word >> 16 == 11 {
-            failing(&inputs.strings[KEY], &inputs.strings[WITNESS])
-        } else {
-            Vec::new()
-        },
         output,
     }
 }

@@ -82,10 +82,17 @@ pub fn change_proof(lent: &mut Lent, section: usize, byte: usize) {
     lent.proof[at] ^= 1;
 }
 
-/// Changes y of one equation, so that this one alone fails.
+/// Changes y of one equation, so that it fails.
 pub fn change_y(lent: &mut Lent, equation: usize) {
     let at = lent.key_section(2) + 4;
     lent.key[at + equation / 8] ^= 1 << (equation % 8);
+}
+
+/// Changes y of each of these equations.
+pub fn change_all_y(lent: &mut Lent, equations: &[usize]) {
+    for equation in equations {
+        change_y(lent, *equation);
+    }
 }
 
 /// The last byte of the first string of so many bits, highest bit set: a spare bit.
@@ -161,6 +168,9 @@ pub const DAMAGES: &[Damage] = &[
     placed(11, 0, "witness", "equation 0 fails", |l| change_y(l, 0)),
     placed(11, 1, "witness", "equation 1 fails", |l| change_y(l, 1)),
     placed(11, 2, "witness", "equation 2 fails", |l| change_y(l, 2)),
+    placed(11, 0, "witness", "equations 0 and 2 fail", |l| change_all_y(l, &[0, 2])),
+    placed(11, 1, "witness", "equations 1 and 2 fail", |l| change_all_y(l, &[1, 2])),
+    placed(11, 0, "witness", "all equations fail", |l| change_all_y(l, &[0, 1, 2])),
 
     damage(12, "proof", "the proof has one byte less", |l| { l.proof.pop(); }),
     damage(12, "proof", "the proof has one byte more", |l| l.proof.push(0)),
