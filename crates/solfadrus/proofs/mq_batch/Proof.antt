@@ -1,7 +1,7 @@
 -- `solfadrus::mq_batch` meets its contract: the answer's number is the call's.
 -- Assumes nothing.
 use mathlib.Core.Path.{ap, _∙_}
-use Rattle.protocol.specs.Answers.{Answer, word, written}
+use Rattle.protocol.specs.Answers.{word}
 use borrow.Author.Needs.{needs}
 use Rattle.solfadrus.proofs.mq_batch.Statement.{statement}
 use Rattle.solfadrus.proofs.mq_batch.Tie as tie
@@ -18,7 +18,7 @@ same-length c = search needs
 returns : tie.Need-returns
 returns c =
     let told = c .before .before .before .batch in
-    (c .word-of .ensures ∙ ap word (told .ensures .0), told .ensures .1 ∙ ap (λ (a : Answer). written a _ _) (told .ensures .0))
+    (c .word-of .ensures ∙ ap word (told .ensures .0), rw (told .ensures .0) at (told .ensures .1))
 
 pub mq-batch-spec : {M : Type 1} → statement M
 mq-batch-spec = tie.close (tie.spec batch-requires word-of-requires same-length returns)
