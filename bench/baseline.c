@@ -36,10 +36,10 @@
 #define NOINLINE __attribute__((noinline)) /* what it has on the stack goes with it */
 
 enum {
-    STRIDE = 48, /* a leaf has at most 41 bytes: three registers */
+    STRIDE = 96, /* a leaf has at most 88 bytes: six registers */
     LANES = MQ_MAX_REPETITIONS,
     MAX_ROW = MQ_STRING_SIZE(MQ_MAX_VARIABLES),
-    MAX_HASH_ROW = MQ_STRING_SIZE(MQ_MAX_VARIABLES + MQ_FIELD_DEGREE),
+    MAX_HASH_ROW = MQ_HASH_ROW_SIZE(MQ_MAX_VARIABLES, MQ_MAX_EQUATIONS, MQ_MAX_REPETITIONS, MQ_MAX_HASH_ROWS),
     PANELS = MQ_MAX_VARIABLES / 16,
     FIVES = MQ_MAX_EQUATIONS / 5,
     PRODUCTS = 27
@@ -321,7 +321,7 @@ static uint8_t *write_commit(const struct key *key, const struct work *work, con
     uint8_t one[STRIDE];
     out = put_count(out, (key->tau - 1) * key->w);
     for (size_t e = 1; e < key->tau; e++, out += key->w) {
-        for (size_t b = 0; b < STRIDE; b += 16)
+        for (size_t b = 0; b < key->w; b += 16)
             store(one + b, xor(load(sums[e].u + b), load(sums[0].u + b)));
         memcpy(out, one, key->w);
     }
@@ -945,12 +945,12 @@ static void put_lines(const struct key *key, const struct tried *tried, const ui
     }
 }
 
-/* The sum of alpha^s v[n + s]: bits n .. n + 7 of plane p are an element, which is taken times alpha^p. */
-static uint8_t mask_of_v(const struct key *key, const struct sums *sums)
+/* The sum of alpha^s v[n + 8e + s]: bits n + 8e .. n + 8e + 7 of plane p are an element, which is taken times alpha^p. */
+static uint8_t mask_of_v(const struct key *key, const struct sums *sums, size_t e)
 {
     unsigned sum = 0;
     for (int p = 7; p >= 0; p--)
-        sum = (sum << 1) ^ (-(sum >> 7) & MQ_FIELD_MODULUS) ^ mask_of_u(key, sums->plane[p]);
+        sum = (sum << 1) ^ (-(sum >> 7) & MQ_FIELD_MODULUS) ^ mask_of_u(key, sums->plane[p], e);
     return (uint8_t)sum;
 }
 
@@ -999,14 +999,14 @@ static NOINLINE void batch_forms(const struct key *key, const struct work *work,
     put_lines(key, tried, tried ? NULL : key->y, batch.cells);
     finish_forms(key, work, last, &batch, square, line);
     for (size_t e = 0; e < key->tau; e++)
-        square[e] ^= mask_of_v(key, &work->sums[e]);
+        square[e] ^= mask_of_v(key, &work->sums[e], e);
 }
 
 /* QS0 and QS1 of all repetitions, and question 11. */
 static uint32_t make_batch(const struct key *key, const struct work *work, const uint8_t *x, const uint8_t *batching,
                            struct batched *made)
 {
-    const uint8_t mask = mask_of_u(key, work->sums[0].u), none[MQ_MAX_REPETITIONS] = { 0 };
+    const uint8_t none[MQ_MAX_REPETITIONS] = { 0 };
     struct witness witness;
     struct tried tried;
     memset(&tried, 0, sizeof tried);
@@ -1021,7 +1021,7 @@ static uint32_t make_batch(const struct key *key, const struct work *work, const
             return MQ_REFUSED_EQUATION_FAILS * 65536 + (uint32_t)i;
     }
     for (size_t e = 0; e < key->tau; e++)
-        made->qs1[e] ^= mask;
+        made->qs1[e] ^= mask_of_u(key, work->sums[0].u, e);
     return MQ_ACCEPTED;
 }
 
@@ -1038,7 +1038,7 @@ static void sum_opened(const struct key *key, const struct claim *in, const stru
         memcpy(c, proof->c + (e - 1) * key->w, key->w);
     for (size_t b = 0; b < key->row; b++)
         c[b] ^= proof->d[b];
-    for (size_t b = 0; b < STRIDE; b += 16) {
+    for (size_t b = 0; b < key->w; b += 16) {
         const reg u = xor(load(sums->u + b), load(c + b));
         for (int p = 0; p < 8; p++)
             store(sums->plane[p] + b, xor(load(sums->plane[p] + b), and(u, _mm_set1_epi8((char)-(delta >> p & 1)))));
