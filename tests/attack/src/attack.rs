@@ -4,7 +4,7 @@
 
 use crate::case::View;
 use crate::field::product;
-use crate::format::{bit, sections, Key, Sizes};
+use crate::format::{bit, pack, sections, Key, Sizes};
 use crate::random::Random;
 use crate::verifier::evaluations;
 
@@ -44,11 +44,14 @@ pub fn forms(view: &View) -> Vec<Form> {
     (0..tau).map(form).collect()
 }
 
+/// The most bits that are tried, where the equations leave some free.
+const MOST_TRIED: usize = 10;
+
 /// The witness's bits, as the sums of QS1 of the first and each other repetition give them.
-pub fn guess(view: &View, coins: &mut Random) -> Vec<u8> {
-    let n = Key::read(view.key).sizes.n;
+pub fn guess(view: &View, forms: &[Form], coins: &mut Random) -> Vec<u8> {
+    let key = Key::read(view.key);
+    let n = key.sizes.n;
     let [.., qs1] = sections::<6>(view.proof);
-    let forms = forms(view);
     let mut equations = Vec::new();
     for e in 1..forms.len() {
         let mut sum: Vec<u8> = (0..n)
@@ -57,15 +60,29 @@ pub fn guess(view: &View, coins: &mut Random) -> Vec<u8> {
         sum.push(qs1[0] ^ qs1[e] ^ forms[0].constant ^ forms[e].constant);
         equations.extend((0..8).map(|s| sum.iter().map(|byte| byte >> s & 1).collect::<Vec<u8>>()));
     }
-    solve(equations, n, coins)
+    let solved = solve(equations, n);
+    let free: Vec<usize> = (0..n)
+        .filter(|c| solved.iter().all(|(own, _)| own != c))
+        .collect();
+    // The key tells which of few is right.
+    let tried = if free.len() <= MOST_TRIED {
+        1 << free.len()
+    } else {
+        0
+    };
+    (0..tried)
+        .map(|number: usize| completed(&solved, n, &free, |i| (number >> i & 1) as u8))
+        .find(|x| key.solved_by(&pack(x)))
+        .unwrap_or_else(|| completed(&solved, n, &free, |_| coins.bit()))
 }
 
-/// Solves the equations one after another, and leaves out those that contradict the ones before. An equation is n
-/// coefficients and the value of their sum. Bits that remain free are drawn.
-fn solve(equations: Vec<Vec<u8>>, n: usize, coins: &mut Random) -> Vec<u8> {
+/// An equation that is solved for a coordinate, which no other of them has: n coefficients, and the value of their sum.
+type Solved = (usize, Vec<u8>);
+
+/// Solves the equations one after another, and leaves out those that contradict the ones before.
+fn solve(equations: Vec<Vec<u8>>, n: usize) -> Vec<Solved> {
     let add = |to: &mut [u8], row: &[u8]| to.iter_mut().zip(row).for_each(|(to, bit)| *to ^= bit);
-    // Each has a coordinate that no other of them has.
-    let mut solved: Vec<(usize, Vec<u8>)> = Vec::new();
+    let mut solved: Vec<Solved> = Vec::new();
     for mut equation in equations {
         for (own, row) in &solved {
             if equation[*own] == 1 {
@@ -82,10 +99,20 @@ fn solve(equations: Vec<Vec<u8>>, n: usize, coins: &mut Random) -> Vec<u8> {
         }
         solved.push((own, equation));
     }
-    let mut x: Vec<u8> = (0..n).map(|_| coins.bit()).collect();
-    for (own, row) in &solved {
-        x[*own] = 0;
-        x[*own] = (0..n).fold(row[n], |sum, c| sum ^ row[c] & x[c]);
+    solved
+}
+
+/// The solution that has these bits at the free coordinates.
+fn completed(
+    solved: &[Solved],
+    n: usize,
+    free: &[usize],
+    mut bit: impl FnMut(usize) -> u8,
+) -> Vec<u8> {
+    let mut x = vec![0; n];
+    free.iter().enumerate().for_each(|(i, c)| x[*c] = bit(i));
+    for (own, row) in solved {
+        x[*own] = free.iter().fold(row[n], |sum, c| sum ^ row[*c] & x[*c]);
     }
     x
 }

@@ -1,6 +1,6 @@
 //! The inputs of an honest proof at random, and what is seen of it.
 
-use crate::format::{bit, pack, section, Key, Masks, Sizes};
+use crate::format::{pack, section, Key, Masks, Sizes};
 use crate::random::Random;
 
 /// What a verifier has, and with him all to whom the proof is shown.
@@ -66,18 +66,7 @@ fn solved_by(random: &mut Random, sizes: Sizes, witness: &[u8]) -> Vec<u8> {
     let (a, b) = (random.strings(m * n, n), random.strings(m, n));
     let key = |y: &[u8]| [&header[..], &section(&a), &section(&b), &section(y)].concat();
     let unsolved = key(&vec![0; m.div_ceil(8)]);
-    let ones: Vec<usize> = (0..n).filter(|c| bit(witness, *c) == 1).collect();
-    let left_side = |i: usize| {
-        let mut only = vec![0; m];
-        only[i] = 1;
-        let equation = Key::read(&unsolved).batched(&only);
-        let products = |row: &[u8]| ones.iter().fold(0, |sum, c| sum ^ row[*c]);
-        ones.iter().fold(products(&equation.linear), |sum, r| {
-            sum ^ products(&equation.matrix[*r])
-        })
-    };
-    let y: Vec<u8> = (0..m).map(left_side).collect();
-    key(&pack(&y))
+    key(&pack(&Key::read(&unsolved).left_sides(witness)))
 }
 
 /// All leaves but, in each repetition, the one at Δ.

@@ -59,11 +59,21 @@ const SPREAD: [u64; 256] = {
 
 /// Adds an element to the sums of those coordinates at which the string has a 1.
 pub fn add_at_ones(sums: &mut [u8], string: &[u8], element: u8) {
-    for (sums, byte) in sums.chunks_mut(8).zip(string) {
+    let add = |sums: &mut [u8], byte: &u8| {
         let terms = (SPREAD[*byte as usize] * element as u64).to_le_bytes();
         sums.iter_mut()
             .zip(terms)
             .for_each(|(sum, term)| *sum ^= term);
+    };
+    // By eights, whose loop the compiler then unrolls, and the rest.
+    let mut eights = sums.chunks_exact_mut(8);
+    let mut bytes = string.iter();
+    eights
+        .by_ref()
+        .zip(bytes.by_ref())
+        .for_each(|(sums, byte)| add(sums, byte));
+    if let Some(byte) = bytes.next() {
+        add(eights.into_remainder(), byte);
     }
 }
 
@@ -85,7 +95,7 @@ pub struct Key<'a> {
     pub sizes: Sizes,
     matrices: &'a [u8],
     linear: &'a [u8],
-    pub y: &'a [u8],
+    y: &'a [u8],
 }
 
 /// The equations of a key, each times its batching byte, added: Σ χᵢAᵢ by rows, Σ χᵢbᵢ and Σ χᵢyᵢ.
@@ -111,6 +121,27 @@ impl Key<'_> {
             linear,
             y,
         }
+    }
+
+    /// xᵀA_i·x + b_i·x, for each equation.
+    pub fn left_sides(&self, x: &[u8]) -> Vec<u8> {
+        let n = self.sizes.n;
+        let product = |row: &[u8]| row.iter().zip(x).fold(0, |sum, (row, x)| sum ^ row & x);
+        let left_side = |(matrix, linear): (&[u8], &[u8])| {
+            let rows = matrix.chunks(x.len()).enumerate();
+            let ones = rows.filter(|(r, _)| bit(x, *r) == 1);
+            let sum = ones.fold(product(linear), |sum, (_, row)| sum ^ product(row));
+            (sum.count_ones() % 2) as u8
+        };
+        let matrices = self.matrices.chunks(n * x.len());
+        matrices
+            .zip(self.linear.chunks(x.len()))
+            .map(left_side)
+            .collect()
+    }
+
+    pub fn solved_by(&self, x: &[u8]) -> bool {
+        pack(&self.left_sides(x)) == self.y
     }
 
     pub fn batched(&self, column: &[u8]) -> Batched {

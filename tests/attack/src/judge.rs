@@ -1,6 +1,6 @@
 //! What the attack has got out of many proofs, held against guessing. Unlike the attack, the judge knows the witnesses.
 
-use crate::attack::forms;
+use crate::attack::Form;
 use crate::case::View;
 use crate::format::{bit, sections};
 
@@ -22,7 +22,7 @@ pub struct Tally {
 }
 
 impl Tally {
-    pub fn add(&mut self, view: &View, witness: &[u8], guess: &[u8]) {
+    pub fn add(&mut self, view: &View, forms: &[Form], witness: &[u8], guess: &[u8]) {
         let agreeing = (0..guess.len())
             .filter(|c| guess[*c] == bit(witness, *c))
             .count();
@@ -31,8 +31,8 @@ impl Tally {
         self.bits += guess.len();
         self.agreeing += agreeing;
         let [.., qs1] = sections::<6>(view.proof);
-        let masks = forms(view)
-            .into_iter()
+        let masks = forms
+            .iter()
             .zip(qs1)
             .map(|(form, qs1)| form.mask(*qs1, witness));
         self.masks.push(

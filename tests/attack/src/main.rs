@@ -33,6 +33,17 @@ const SIZES: Sizes = Sizes {
 };
 const PROOFS: usize = 200;
 
+/// The usual sizes: 144 equations for 150 bits, and the key tells which of the 64 solutions, or a few more, is the
+/// witness.
+const USUAL_SIZES: Sizes = Sizes {
+    n: 150,
+    m: 150,
+    tau: 19,
+    t: 144,
+};
+const USUAL_PROOFS: usize = 60;
+const USUAL_CONTROLS: usize = 5;
+
 /// The most repetitions, since the library takes sixteen at a time.
 const MOST_SIZES: Sizes = Sizes { tau: 48, ..SIZES };
 const MOST_PROOFS: usize = 100;
@@ -66,8 +77,9 @@ fn attacked(
             Prover::Control => {}
             Prover::Library => library::verify(&view)?,
         }
-        let guess = attack::guess(&view, random);
-        tally.add(&view, &case.witness, &guess);
+        let forms = attack::forms(&view);
+        let guess = attack::guess(&view, &forms, random);
+        tally.add(&view, &forms, &case.witness, &guess);
     }
     Ok(tally)
 }
@@ -84,7 +96,10 @@ fn run(seed: u64, of_library: Masks) -> Result<(), String> {
             Masks::Shared => ("one mask", tally.all_recovered(), "every witness"),
             Masks::Own => ("own masks", tally.as_guessing(), "what a guess gives"),
         };
-        println!("{who}, {how}, {} repetitions: {tally}", sizes.tau);
+        println!(
+            "{who}, {how}, n = {}, tau = {}: {tally}",
+            sizes.n, sizes.tau
+        );
         match right {
             true => Ok(()),
             false => Err(format!(
@@ -93,8 +108,10 @@ fn run(seed: u64, of_library: Masks) -> Result<(), String> {
         }
     };
     judged(Prover::Control, Masks::Shared, SIZES, PROOFS)?;
+    judged(Prover::Control, Masks::Shared, USUAL_SIZES, USUAL_CONTROLS)?;
     judged(Prover::Control, Masks::Own, SIZES, PROOFS)?;
     judged(Prover::Library, of_library, SIZES, PROOFS)?;
+    judged(Prover::Library, of_library, USUAL_SIZES, USUAL_PROOFS)?;
     judged(Prover::Library, of_library, MOST_SIZES, MOST_PROOFS)
 }
 
