@@ -969,7 +969,7 @@ static void put_lines(const struct key *key, const struct tried *tried, const ui
     }
 }
 
-/* The sum of alpha^s v[n + 8e + s]: bits n + 8e .. n + 8e + 7 of plane p are an element, which is taken times alpha^p. */
+/* The sum of alpha^s v[n + 8e + s]: bits n + 8e .. n + 8e + 7 of plane p are an element, taken times alpha^p. */
 static uint8_t mask_of_v(const struct key *key, const struct sums *sums, size_t e)
 {
     unsigned sum = 0;

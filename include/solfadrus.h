@@ -230,8 +230,8 @@ extern "C" {
  *     MQ_BATCH_SIZE           mq_batch_size         what mq_batch writes, counts included
  *     MQ_PROOF_SIZE           mq_proof_size         what mq_prove writes, counts included
  *
- * With the largest sizes the key has 515240 bytes, the leaves 1081344, the opened leaves 1077120 and
- * the proof 11976.
+ * With the largest sizes the key has 515240 bytes, the leaves 1081344, the opened leaves 1077120
+ * and the proof 11976.
  */
 #define MQ_COUNT_SIZE 4
 #define MQ_HEADER_SIZE 8
