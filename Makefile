@@ -1,5 +1,5 @@
 # `make` or `make help` lists what can be made: the text after ## of each target. Words for a program go into ARGS.
-.PHONY: help demo lib test compare bench server soak secrets fuzz vectors bindings install uninstall clean
+.PHONY: help demo lib test compare attack bench server soak secrets fuzz vectors bindings install uninstall clean
 
 help: ## this list
 	@sed -n 's/^\([a-z ]*\):.*## /\1|/p' $(MAKEFILE_LIST) | while IFS='|' read -r name what; do \
@@ -16,6 +16,9 @@ test: ## every proof and every test, from nothing each time (about 25 minutes on
 
 compare: ## the library against the Rust rendering; words for the comparison in ARGS
 	@. tests/need.sh; lib=$$(library) && sh tests/compare.sh "$$lib" $(ARGS)
+
+attack: ## solves for the witness from proofs: with one mask it must succeed, against the library it must not
+	@sh tests/attack.sh $(ARGS)
 
 bench: ## times beside the same job in C and Rust, and stack; repetitions in ARGS; KEEP=1 adds to bench/history.tsv, BEFORE=ARCHIVE times that too
 	@BEFORE="$(BEFORE)" sh bench/run.sh $(if $(KEEP),--keep) $(ARGS)

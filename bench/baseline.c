@@ -9,7 +9,7 @@
  * two exclusive ors for a leaf. The elements of v, a byte for each coordinate, are the planes turned.
  *
  * Hash. A row of hash_matrix is public: four coordinates at a time are looked up in a table of their sixteen
- * sums, the bytes of all repetitions side by side.
+ * sums, the bytes of all repetitions side by side. The table is made for a block of the row at a time.
  *
  * Forms. The matrices are summed first: sum_i chi(e, i) v^T A_i v = v^T B v with B = sum_i chi(e, i) A_i. Each bit
  * plane of B is a sum of matrices that bits of chi choose, which are public: five equations at a time are
@@ -36,10 +36,10 @@
 #define NOINLINE __attribute__((noinline)) /* what it has on the stack goes with it */
 
 enum {
-    STRIDE = 48, /* a leaf has at most 41 bytes: three registers */
+    STRIDE = 96, /* a leaf has at most 88 bytes: six registers */
     LANES = MQ_MAX_REPETITIONS,
     MAX_ROW = MQ_STRING_SIZE(MQ_MAX_VARIABLES),
-    MAX_HASH_ROW = MQ_STRING_SIZE(MQ_MAX_VARIABLES + MQ_FIELD_DEGREE),
+    MAX_HASH_ROW = MQ_HASH_ROW_SIZE(MQ_MAX_VARIABLES, MQ_MAX_EQUATIONS, MQ_MAX_REPETITIONS, MQ_MAX_HASH_ROWS),
     PANELS = MQ_MAX_VARIABLES / 16,
     FIVES = MQ_MAX_EQUATIONS / 5,
     PRODUCTS = 27
@@ -321,7 +321,7 @@ static uint8_t *write_commit(const struct key *key, const struct work *work, con
     uint8_t one[STRIDE];
     out = put_count(out, (key->tau - 1) * key->w);
     for (size_t e = 1; e < key->tau; e++, out += key->w) {
-        for (size_t b = 0; b < STRIDE; b += 16)
+        for (size_t b = 0; b < key->w; b += 16)
             store(one + b, xor(load(sums[e].u + b), load(sums[0].u + b)));
         memcpy(out, one, key->w);
     }
@@ -332,15 +332,20 @@ static uint8_t *write_commit(const struct key *key, const struct work *work, con
     return out + key->row;
 }
 
-/* The vectors, their coordinates side by side for all repetitions, and for each four coordinates their sixteen
- * sums. */
+/* The sums of 48 bytes of a row for sixteen repetitions, of 24 for 32, of 16 for 48: 24 KiB, so that they stay in the
+ * first cache. */
+enum { BLOCK = 48 };
+
+/* The vectors, their coordinates side by side for all repetitions, for each four coordinates of a block their sixteen
+ * sums, and the hashes so far. */
 struct table {
     uint8_t vector[LANES][8 * STRIDE];
     uint8_t coordinate[8 * STRIDE][LANES];
-    reg sum[2 * MAX_HASH_ROW * 16 * LANES / 16];
+    reg sum[2 * BLOCK * 16];
+    reg hash[MQ_MAX_HASH_ROWS][LANES / 16];
 };
 
-INLINE void make_table(const struct key *key, const struct work *work, size_t groups, struct table *table)
+INLINE void make_coordinates(const struct key *key, const struct work *work, size_t groups, struct table *table)
 {
     for (size_t e = 0; e < key->tau; e++)
         for (size_t at = 0; at < key->w; at += 16) {
@@ -358,48 +363,67 @@ INLINE void make_table(const struct key *key, const struct work *work, size_t gr
             for (size_t i = 0; i < 16; i++)
                 store(table->coordinate[c + i] + 16 * g, r[i]);
         }
-    for (size_t q = 0; q < 2 * key->hash_row; q++)
+}
+
+/* The sums for so many bytes of a row, from the first one on. */
+INLINE void make_block(size_t first, size_t bytes, size_t groups, struct table *table)
+{
+    for (size_t q = 0; q < 2 * bytes; q++)
         for (size_t g = 0; g < groups; g++) {
             reg *sum = table->sum + 16 * q * groups + g;
             sum[0] = _mm_setzero_si128();
             for (size_t s = 0; s < 4; s++)
                 for (size_t v = 0; v < (size_t)1 << s; v++)
                     sum[(v + ((size_t)1 << s)) * groups] =
-                        xor(sum[v * groups], load(table->coordinate[4 * q + s] + 16 * g));
+                        xor(sum[v * groups], load(table->coordinate[8 * first + 4 * q + s] + 16 * g));
         }
+}
+
+/* Adds to the hashes what the block has of each row. */
+INLINE void add_block(const struct key *key, const uint8_t *h, size_t bytes, size_t groups, struct table *table)
+{
+    for (size_t r = 0; r < key->t; r++, h += key->hash_row) {
+        const uint8_t *at = (const uint8_t *)table->sum;
+        reg sum[LANES / 16];
+        for (size_t g = 0; g < groups; g++)
+            sum[g] = table->hash[r][g];
+        for (size_t b = 0; b < bytes; b++, at += 32 * 16 * groups) {
+            const size_t x = h[b];
+            const reg *low = (const reg *)(at + (x & 15) * 16 * groups);
+            const reg *high = (const reg *)(at + 16 * 16 * groups + (x & 0xF0) * groups);
+            for (size_t g = 0; g < groups; g++)
+                sum[g] = xor(sum[g], xor(low[g], high[g]));
+        }
+        for (size_t g = 0; g < groups; g++)
+            table->hash[r][g] = sum[g];
+    }
 }
 
 INLINE void hash_rows(const struct key *key, const struct work *work, const uint8_t *h, uint8_t *out, size_t groups)
 {
     struct table table;
-    make_table(key, work, groups, &table);
+    const size_t block = BLOCK / groups;
+    make_coordinates(key, work, groups, &table);
+    for (size_t r = 0; r < key->t; r++)
+        for (size_t g = 0; g < groups; g++)
+            table.hash[r][g] = load(table.coordinate[key->k + r] + 16 * g);
+    for (size_t first = 0; first < key->hash_row; first += block) {
+        const size_t left = key->hash_row - first, bytes = left < block ? left : block;
+        make_block(first, bytes, groups, &table);
+        add_block(key, h + first, bytes, groups, &table);
+    }
     for (size_t r = 0; r < key->t; r += 16) {
         const size_t rows = key->t - r < 16 ? key->t - r : 16;
-        reg hashed[LANES / 16][16];
-        for (size_t i = 0; i < rows; i++, h += key->hash_row) {
-            const uint8_t *at = (const uint8_t *)table.sum;
-            reg sum[LANES / 16];
-            for (size_t g = 0; g < groups; g++)
-                sum[g] = load(table.coordinate[key->k + r + i] + 16 * g);
-            for (size_t b = 0; b < key->hash_row; b++, at += 32 * 16 * groups) {
-                const size_t x = h[b];
-                const reg *low = (const reg *)(at + (x & 15) * 16 * groups);
-                const reg *high = (const reg *)(at + 16 * 16 * groups + (x & 0xF0) * groups);
-                for (size_t g = 0; g < groups; g++)
-                    sum[g] = xor(sum[g], xor(low[g], high[g]));
-            }
-            for (size_t g = 0; g < groups; g++)
-                hashed[g][i] = sum[g];
-        }
         for (size_t g = 0; g < groups; g++) {
-            for (size_t i = rows; i < 16; i++)
-                hashed[g][i] = _mm_setzero_si128();
-            transpose_bytes(hashed[g]);
+            reg hashed[16];
+            for (size_t i = 0; i < 16; i++)
+                hashed[i] = i < rows ? table.hash[r + i][g] : _mm_setzero_si128();
+            transpose_bytes(hashed);
             for (size_t e = 0; e < 16 && 16 * g + e < key->tau; e++)
                 if (rows == 16)
-                    store(out + (16 * g + e) * key->t + r, hashed[g][e]);
+                    store(out + (16 * g + e) * key->t + r, hashed[e]);
                 else
-                    memcpy(out + (16 * g + e) * key->t + r, &hashed[g][e], rows);
+                    memcpy(out + (16 * g + e) * key->t + r, &hashed[e], rows);
         }
     }
 }
@@ -945,12 +969,12 @@ static void put_lines(const struct key *key, const struct tried *tried, const ui
     }
 }
 
-/* The sum of alpha^s v[n + s]: bits n .. n + 7 of plane p are an element, which is taken times alpha^p. */
-static uint8_t mask_of_v(const struct key *key, const struct sums *sums)
+/* The sum of alpha^s v[n + 8e + s]: bits n + 8e .. n + 8e + 7 of plane p are an element, taken times alpha^p. */
+static uint8_t mask_of_v(const struct key *key, const struct sums *sums, size_t e)
 {
     unsigned sum = 0;
     for (int p = 7; p >= 0; p--)
-        sum = (sum << 1) ^ (-(sum >> 7) & MQ_FIELD_MODULUS) ^ mask_of_u(key, sums->plane[p]);
+        sum = (sum << 1) ^ (-(sum >> 7) & MQ_FIELD_MODULUS) ^ mask_of_u(key, sums->plane[p], e);
     return (uint8_t)sum;
 }
 
@@ -999,14 +1023,14 @@ static NOINLINE void batch_forms(const struct key *key, const struct work *work,
     put_lines(key, tried, tried ? NULL : key->y, batch.cells);
     finish_forms(key, work, last, &batch, square, line);
     for (size_t e = 0; e < key->tau; e++)
-        square[e] ^= mask_of_v(key, &work->sums[e]);
+        square[e] ^= mask_of_v(key, &work->sums[e], e);
 }
 
 /* QS0 and QS1 of all repetitions, and question 11. */
 static uint32_t make_batch(const struct key *key, const struct work *work, const uint8_t *x, const uint8_t *batching,
                            struct batched *made)
 {
-    const uint8_t mask = mask_of_u(key, work->sums[0].u), none[MQ_MAX_REPETITIONS] = { 0 };
+    const uint8_t none[MQ_MAX_REPETITIONS] = { 0 };
     struct witness witness;
     struct tried tried;
     memset(&tried, 0, sizeof tried);
@@ -1021,7 +1045,7 @@ static uint32_t make_batch(const struct key *key, const struct work *work, const
             return MQ_REFUSED_EQUATION_FAILS * 65536 + (uint32_t)i;
     }
     for (size_t e = 0; e < key->tau; e++)
-        made->qs1[e] ^= mask;
+        made->qs1[e] ^= mask_of_u(key, work->sums[0].u, e);
     return MQ_ACCEPTED;
 }
 
@@ -1038,7 +1062,7 @@ static void sum_opened(const struct key *key, const struct claim *in, const stru
         memcpy(c, proof->c + (e - 1) * key->w, key->w);
     for (size_t b = 0; b < key->row; b++)
         c[b] ^= proof->d[b];
-    for (size_t b = 0; b < STRIDE; b += 16) {
+    for (size_t b = 0; b < key->w; b += 16) {
         const reg u = xor(load(sums->u + b), load(c + b));
         for (int p = 0; p < 8; p++)
             store(sums->plane[p] + b, xor(load(sums->plane[p] + b), and(u, _mm_set1_epi8((char)-(delta >> p & 1)))));

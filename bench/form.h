@@ -30,7 +30,7 @@ struct text {
 struct key {
     size_t n, m, tau, t;
     size_t row;      /* bytes of a row of A or b */
-    size_t k, L, w;  /* coordinates with the mask, bits of a leaf, bytes of a leaf */
+    size_t k, L, w;  /* coordinates with the masks, bits of a leaf, bytes of a leaf */
     size_t hash_row; /* bytes of a row of hash_matrix */
     const uint8_t *a, *b, *y;
 };
@@ -103,7 +103,7 @@ static uint32_t ask_key(struct text lent, struct key *key)
         || !in_range(key->tau, MQ_MAX_REPETITIONS) || !in_range(key->t, MQ_MAX_HASH_ROWS))
         return MQ_REFUSED_SIZE_OUT_OF_RANGE;
     key->row = MQ_STRING_SIZE(key->n);
-    key->k = key->n + MQ_FIELD_DEGREE;
+    key->k = MQ_HASH_ROW_BITS(key->n, key->m, key->tau, key->t);
     key->L = key->k + key->t;
     key->w = MQ_STRING_SIZE(key->L);
     key->hash_row = MQ_STRING_SIZE(key->k);
@@ -253,10 +253,11 @@ static inline uint8_t parity(uint8_t x)
     return (x ^ x >> 1) & 1;
 }
 
-/* The bits n .. n + 7 of u: as an element, the sum of alpha^s u[n + s]. */
-static inline uint8_t mask_of_u(const struct key *key, const uint8_t *u)
+/* The bits n + 8e .. n + 8e + 7 of u, which are repetition e's: as an element, the sum of alpha^s u[n + 8e + s]. */
+static inline uint8_t mask_of_u(const struct key *key, const uint8_t *u, size_t e)
 {
-    const unsigned two = u[key->n / 8] | (unsigned)u[key->n / 8 + 1] << 8;
+    const uint8_t *at = u + key->n / 8 + e;
+    const unsigned two = at[0] | (unsigned)at[1] << 8;
     return (uint8_t)(two >> key->n % 8);
 }
 

@@ -15,8 +15,8 @@ enum {
     LANES = MQ_MAX_REPETITIONS,
     VECTORS = LANES / 16,
     MAX_ROW = MQ_STRING_SIZE(MQ_MAX_VARIABLES),
-    MAX_HASH_ROW = MQ_STRING_SIZE(MQ_MAX_VARIABLES + MQ_FIELD_DEGREE),
-    MAX_W = MQ_STRING_SIZE(MQ_MAX_VARIABLES + MQ_FIELD_DEGREE + MQ_MAX_HASH_ROWS)
+    MAX_HASH_ROW = MQ_HASH_ROW_SIZE(MQ_MAX_VARIABLES, MQ_MAX_EQUATIONS, MQ_MAX_REPETITIONS, MQ_MAX_HASH_ROWS),
+    MAX_W = MQ_LEAF_SIZE(MQ_MAX_VARIABLES, MQ_MAX_EQUATIONS, MQ_MAX_REPETITIONS, MQ_MAX_HASH_ROWS)
 };
 
 /* Sixteen bytes, in the vectors that gcc and clang share. */
@@ -219,22 +219,25 @@ static union lanes batching_lanes(const struct key *key, const uint8_t *batching
     return chi;
 }
 
-/* Adds the sum of alpha^s v[n + s]. */
-static void add_mask(const struct key *key, const struct work *work, union lanes *to)
+/* Adds the sum of alpha^s v[n + 8e + s]: each lane has its own coordinates. */
+static void add_masks(const struct key *key, const struct work *work, union lanes *to)
 {
     for (size_t s = 0; s < MQ_FIELD_DEGREE; s++) {
-        union lanes alpha;
+        union lanes alpha, own = { { { 0 } } };
         memset(&alpha, 1 << s, sizeof alpha);
-        add_products(to, &alpha, &work->v[key->n + s]);
+        for (size_t e = 0; e < key->tau; e++)
+            own.byte[e] = work->v[key->n + MQ_FIELD_DEGREE * e + s].byte[e];
+        add_products(to, &alpha, &own);
     }
 }
 
 static uint32_t make_batch(const struct key *key, const struct work *work, const uint8_t *x, const uint8_t *batching,
                            struct batched *made)
 {
-    union lanes qs0 = { { { 0 } } }, qs1;
-    memset(&qs1, mask_of_u(key, work->u[0]), sizeof qs1);
-    add_mask(key, work, &qs0);
+    union lanes qs0 = { { { 0 } } }, qs1 = { { { 0 } } };
+    for (size_t e = 0; e < key->tau; e++)
+        qs1.byte[e] = mask_of_u(key, work->u[0], e);
+    add_masks(key, work, &qs0);
     for (size_t i = 0; i < key->m; i++) {
         const union lanes chi = batching_lanes(key, batching, i);
         union lanes a0, a1;
@@ -355,7 +358,7 @@ static uint32_t check_products(const struct key *key, const struct claim *in, co
 {
     union lanes left = { { { 0 } } }, square = { { { 0 } } };
     add_products(&square, delta, delta);
-    add_mask(key, work, &left);
+    add_masks(key, work, &left);
     for (size_t i = 0; i < key->m; i++) {
         const union lanes chi = batching_lanes(key, in->batching.at, i);
         const union lanes one = form(key, work, i, delta, &square);

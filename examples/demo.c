@@ -143,7 +143,7 @@ static void prove_in_steps(void)
     show("mq_commit", word, commit, "corrections C and d");
     failures += word != MQ_ACCEPTED;
 
-    draw_strings(hash_matrix, T, N + MQ_FIELD_DEGREE); /* the verifier's, once it has C and d */
+    draw_strings(hash_matrix, T, MQ_HASH_ROW_BITS(N, M, TAU, T)); /* the verifier's, once it has C and d */
     out += commit;
     start();
     word = mq_hash(key, sizeof key, leaves, sizeof leaves, hash_matrix, sizeof hash_matrix, out, hash);
@@ -267,13 +267,13 @@ int main(void)
     printf("Solfadrus: a proof of knowing x that solves %d quadratic equations in %d variables over GF(2),\n", M, N);
     printf("in %d repetitions with %d hash rows.\n", TAU, T);
     printf("DEMO GENERATOR: leaves, challenges and key come from a small seeded generator, fit for show only.\n");
-    printf("NOT ZERO KNOWLEDGE: with more than one repetition a proof of this version tells of the witness.\n\n");
+    printf("NOT PROVED: that a proof keeps the witness. No theorem of this version says it.\n\n");
 
     printf("a key of %lu bytes, leaves of %lu bytes, of which %lu are opened, a witness of %lu bytes\n",
            (unsigned long)sizeof key, (unsigned long)sizeof leaves, (unsigned long)sizeof opened,
            (unsigned long)sizeof witness);
     make_key();
-    draw_strings(leaves, MQ_FIELD_SIZE * TAU, N + MQ_FIELD_DEGREE + T);
+    draw_strings(leaves, MQ_FIELD_SIZE * TAU, MQ_LEAF_BITS(N, M, TAU, T));
 
     start();
     word = mq_test(key, sizeof key, witness, sizeof witness);

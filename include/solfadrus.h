@@ -42,8 +42,8 @@
  *     tau   repetitions    1 .. MQ_MAX_REPETITIONS
  *     t     hash rows      1 .. MQ_MAX_HASH_ROWS
  *
- * and from them  k = n + 8  (8 mask coordinates),  L = k + t  (bits of a leaf),
- * w = ceil(L / 8)  (bytes of a leaf).
+ * and from them  k = n + 8 tau  (8 mask coordinates for each repetition: those of repetition e are
+ * n + 8e .. n + 8e + 7),  L = k + t  (bits of a leaf),  w = ceil(L / 8)  (bytes of a leaf).
  *
  * A string of c bits takes ceil(c / 8) bytes; coordinate i is bit i mod 8 (bit 0 the lowest) of
  * byte floor(i / 8). The bits past the last coordinate are spare, and must be 0. A count is four
@@ -140,11 +140,11 @@
  *              these: mq_burn_stack of solfadrus_util.h does it (tests/burn.c). It clears no
  *              registers.
  *
- * With tau > 1 a proof of this version is NOT ZERO KNOWLEDGE. The mask coordinates n .. n+7 of a
- * leaf serve every repetition, so that the masks of QS1 cancel between two of them. A proof with its
- * opened leaves then gives 8 linear equations in the witness for each repetition after the first.
- * Show none to anyone who must not learn the witness (SECURITY.md). A later version has a mask for
- * each repetition.
+ * Under these duties a proof and its opened leaves are to tell nothing of the witness: each
+ * repetition has mask coordinates of its own, so that its QS1 has a mask that no other has. That is
+ * the argument of the papers. NO THEOREM of this version says it (SECURITY.md). The attack that
+ * one mask for all repetitions would allow is mounted against the built library (tests/attack), and
+ * does no better than guessing.
  */
 
 #ifndef SOLFADRUS_H
@@ -229,8 +229,8 @@ extern "C" {
  *     MQ_BATCH_SIZE           mq_batch_size         what mq_batch writes, counts included
  *     MQ_PROOF_SIZE           mq_proof_size         what mq_prove writes, counts included
  *
- * With the largest sizes the key has 515240 bytes, the leaves 503808, the opened leaves 501840 and
- * the proof 9767.
+ * With the largest sizes the key has 515240 bytes, the leaves 1081344, the opened leaves 1077120
+ * and the proof 11976.
  */
 #define MQ_COUNT_SIZE 4
 #define MQ_HEADER_SIZE 8
@@ -238,9 +238,13 @@ extern "C" {
 /* Bytes of a string of so many bits. */
 #define MQ_STRING_SIZE(bits) (((bits) + 7) / 8)
 
-/* Bytes of one leaf (w), and of one row of hash_matrix. */
-#define MQ_LEAF_SIZE(n, m, tau, t) MQ_STRING_SIZE((n) + MQ_FIELD_DEGREE + (t))
-#define MQ_HASH_ROW_SIZE(n, m, tau, t) MQ_STRING_SIZE((n) + MQ_FIELD_DEGREE)
+/* Bits of one row of hash_matrix (k), and of one leaf (L). */
+#define MQ_HASH_ROW_BITS(n, m, tau, t) ((n) + MQ_FIELD_DEGREE * (tau))
+#define MQ_LEAF_BITS(n, m, tau, t) (MQ_HASH_ROW_BITS(n, m, tau, t) + (t))
+
+/* Bytes of one row of hash_matrix, and of one leaf (w). */
+#define MQ_HASH_ROW_SIZE(n, m, tau, t) MQ_STRING_SIZE(MQ_HASH_ROW_BITS(n, m, tau, t))
+#define MQ_LEAF_SIZE(n, m, tau, t) MQ_STRING_SIZE(MQ_LEAF_BITS(n, m, tau, t))
 
 #define MQ_KEY_SIZE(n, m, tau, t) \
     (MQ_HEADER_SIZE + 3 * MQ_COUNT_SIZE + (m) * (n) * MQ_STRING_SIZE(n) \
@@ -335,8 +339,8 @@ uint32_t mq_hash(const uint8_t *key, size_t key_len,
  * With a0 = v^T A_i v and a1 = v^T A_i x + x^T A_i v + b_i v, where v is the first n coordinates
  * of v_e, it writes for each repetition
  *
- *     QS0 = sum over i of chi(e, i) a0   + sum over s of alpha^s v_e[n + s]
- *     QS1 = sum over i of chi(e, i) a1   + sum over s of alpha^s u[n + s]
+ *     QS0 = sum over i of chi(e, i) a0   + sum over s of alpha^s v_e[n + 8e + s]
+ *     QS1 = sum over i of chi(e, i) a1   + sum over s of alpha^s u[n + 8e + s]
  *
  * with s = 0 .. 7 and alpha the element 02.
  *
@@ -376,7 +380,7 @@ uint32_t mq_prove(const uint8_t *key, size_t key_len,
  *
  *     14   H W_e = V~_e + delta[e] u~
  *     15   sum over i of chi(e, i) (K_e^T A_i K_e + delta[e] b_i K_e + delta[e]^2 y_i)
- *          + sum over s of alpha^s W_e[n + s]  =  QS0_e + delta[e] QS1_e
+ *          + sum over s of alpha^s W_e[n + 8e + s]  =  QS0_e + delta[e] QS1_e
  *
  * with s = 0 .. 7 and alpha the element 02. The place is the first repetition where 14 fails; where
  * it fails in none, the first where 15 fails.

@@ -71,7 +71,7 @@ static inline int mq_key_sizes(const uint8_t *key, size_t key_len, struct mq_siz
 /*
  * Clears the spare bits of so many rows of so many bits, which stand one after the other. For a key's A it
  * is m * n rows of n bits, for b it is m of n, for y 1 of m, for a witness 1 of n, for hash_matrix t of
- * n + 8, for leaves 256 * tau of n + 8 + t. No branch and no address goes by what the rows hold.
+ * MQ_HASH_ROW_BITS, for leaves 256 * tau of MQ_LEAF_BITS. No branch and no address goes by what the rows hold.
  */
 static inline void mq_clear_spare(uint8_t *rows, size_t count, size_t bits)
 {

@@ -51,6 +51,9 @@ echo "the comparison with the Rust rendering"
 sh tests/compare.sh "$lib" --selftest
 sh tests/compare.sh "$lib"
 
+echo "the linear attack"
+sh tests/attack.sh
+
 echo "the example"
 sh tests/demo.sh
 

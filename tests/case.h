@@ -20,6 +20,16 @@ struct sizes {
     size_t n, m, tau, t;
 };
 
+static inline size_t hash_row_bits(struct sizes s)
+{
+    return MQ_HASH_ROW_BITS(s.n, s.m, s.tau, s.t);
+}
+
+static inline size_t leaf_bits(struct sizes s)
+{
+    return MQ_LEAF_BITS(s.n, s.m, s.tau, s.t);
+}
+
 struct made {
     struct sizes sizes;
     struct lent key, witness, leaves, hash_matrix, batching, delta, opened, proof;
@@ -133,8 +143,8 @@ static struct made make_case(uint64_t seed, struct sizes sizes)
     struct made made = lend_case(sizes);
     draw_strings(&seed, made.witness.at, 1, sizes.n);
     make_key(&seed, &made);
-    draw_strings(&seed, made.leaves.at, MQ_FIELD_SIZE * sizes.tau, sizes.n + MQ_FIELD_DEGREE + sizes.t);
-    draw_strings(&seed, made.hash_matrix.at, sizes.t, sizes.n + MQ_FIELD_DEGREE);
+    draw_strings(&seed, made.leaves.at, MQ_FIELD_SIZE * sizes.tau, leaf_bits(sizes));
+    draw_strings(&seed, made.hash_matrix.at, sizes.t, hash_row_bits(sizes));
     draw_strings(&seed, made.batching.at, sizes.tau * sizes.m, 8);
     draw_strings(&seed, made.delta.at, sizes.tau, 8);
     open_leaves(&made);

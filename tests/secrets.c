@@ -94,7 +94,7 @@ static struct made make_variant(struct sizes sizes, unsigned variant)
     if (variant)
         memcpy(c.witness.at, other.at, other.len);
     state = 3 + variant;
-    draw_strings(&state, c.leaves.at, MQ_FIELD_SIZE * sizes.tau, sizes.n + MQ_FIELD_DEGREE + sizes.t);
+    draw_strings(&state, c.leaves.at, MQ_FIELD_SIZE * sizes.tau, leaf_bits(sizes));
     free(other.at);
     return c;
 }
@@ -135,12 +135,12 @@ struct section {
 static struct section section_of(struct sizes s, int which)
 {
     const struct section sections[] = {
-        { s.tau - 1, s.n + MQ_FIELD_DEGREE + s.t }, /* C */
-        { 1, s.n },                                 /* d */
-        { 1, s.t },                                 /* u~ */
-        { s.tau * s.t, MQ_FIELD_DEGREE },           /* V~ */
-        { s.tau, MQ_FIELD_DEGREE },                 /* QS0 */
-        { s.tau, MQ_FIELD_DEGREE },                 /* QS1 */
+        { s.tau - 1, leaf_bits(s) },      /* C */
+        { 1, s.n },                       /* d */
+        { 1, s.t },                       /* u~ */
+        { s.tau * s.t, MQ_FIELD_DEGREE }, /* V~ */
+        { s.tau, MQ_FIELD_DEGREE },       /* QS0 */
+        { s.tau, MQ_FIELD_DEGREE },       /* QS1 */
     };
     return sections[which];
 }
@@ -321,7 +321,7 @@ static int mark_and_call(struct sizes s, struct words words, int fails)
     if (fails)
         section_y(&c)[(s.m - 1) / 8] ^= (uint8_t)(1 << (s.m - 1) % 8);
     if (words.leaves)
-        mark(c.leaves.at, MQ_FIELD_SIZE * s.tau, s.n + MQ_FIELD_DEGREE + s.t);
+        mark(c.leaves.at, MQ_FIELD_SIZE * s.tau, leaf_bits(s));
     if (words.witness)
         mark(c.witness.at, 1, s.n);
     if (words.y)

@@ -53,6 +53,9 @@ enum { LENGTHS = sizeof lengths / sizeof lengths[0] };
  * where the macros are constant expressions, for the compiler and for the preprocessor. */
 typedef char toy_key_has_24_bytes[MQ_KEY_SIZE(2, 1, 1, 1) == 24 ? 1 : -1];
 typedef char toy_proof_has_29_bytes[MQ_PROOF_SIZE(2, 1, 1, 1) == 29 ? 1 : -1];
+/* Each repetition has eight mask coordinates of its own. */
+typedef char row_has_544_bits[MQ_HASH_ROW_BITS(160, 160, 48, 160) == 544 ? 1 : -1];
+typedef char leaf_has_88_bytes[MQ_LEAF_SIZE(160, 160, 48, 160) == 88 ? 1 : -1];
 #if MQ_LEAVES_SIZE(2, 1, 1, 1) != 512 || MQ_OPENED_SIZE(2, 1, 1, 1) != 510
 #error "the leaves of the toy have 256 strings of 2 bytes"
 #endif

@@ -76,8 +76,8 @@ static struct made draw_case(uint64_t seed, struct sizes s)
     draw_rows(&seed, key + AT(B), s.m, s.n, s);
     draw_rows(&seed, key + AT(Y), 1, s.m, s); /* to be written over */
     draw_rows(&seed, made.witness.at, 1, s.n, s);
-    draw_rows(&seed, made.leaves.at, MQ_FIELD_SIZE * s.tau, s.n + MQ_FIELD_DEGREE + s.t, s);
-    draw_rows(&seed, made.hash_matrix.at, s.t, s.n + MQ_FIELD_DEGREE, s);
+    draw_rows(&seed, made.leaves.at, MQ_FIELD_SIZE * s.tau, leaf_bits(s), s);
+    draw_rows(&seed, made.hash_matrix.at, s.t, hash_row_bits(s), s);
     draw_bytes(&seed, made.batching);
     draw_bytes(&seed, made.delta);
     made.delta.at[0] = 0xFF; /* the edges, where there is a second repetition both */
@@ -298,8 +298,8 @@ static void test_spare(struct made *made)
         { made->key.at + AT(A), s.m * s.n, s.n, MQ_REFUSED_KEY_SPARE_BIT },
         { made->key.at + AT(B), s.m, s.n, MQ_REFUSED_KEY_SPARE_BIT },
         { made->key.at + AT(Y), 1, s.m, MQ_REFUSED_KEY_SPARE_BIT },
-        { made->hash_matrix.at, s.t, s.n + MQ_FIELD_DEGREE, MQ_REFUSED_HASH_SPARE_BIT },
-        { made->leaves.at, MQ_FIELD_SIZE * s.tau, s.n + MQ_FIELD_DEGREE + s.t, MQ_REFUSED_LEAF_SPARE_BIT },
+        { made->hash_matrix.at, s.t, hash_row_bits(s), MQ_REFUSED_HASH_SPARE_BIT },
+        { made->leaves.at, MQ_FIELD_SIZE * s.tau, leaf_bits(s), MQ_REFUSED_LEAF_SPARE_BIT },
         { made->witness.at, 1, s.n, MQ_REFUSED_WITNESS_FORM },
     };
     for (size_t i = 0; i < sizeof all / sizeof all[0]; i++) {
@@ -369,9 +369,9 @@ static int run_marked(void)
         const struct sizes s = shapes[i];
         struct made made = draw_case(i, s);
         mark(made.witness.at, 1, s.n);
-        mark(made.leaves.at, MQ_FIELD_SIZE * s.tau, s.n + MQ_FIELD_DEGREE + s.t);
+        mark(made.leaves.at, MQ_FIELD_SIZE * s.tau, leaf_bits(s));
         mq_clear_spare(made.witness.at, 1, s.n);
-        mq_clear_spare(made.leaves.at, MQ_FIELD_SIZE * s.tau, s.n + MQ_FIELD_DEGREE + s.t);
+        mq_clear_spare(made.leaves.at, MQ_FIELD_SIZE * s.tau, leaf_bits(s));
         right &= mq_make_y(made.key.at, made.key.len, made.witness.at, made.witness.len);
         right &= mq_open_leaves(made.key.at, made.key.len, made.delta.at, made.delta.len, made.leaves.at,
                                 made.leaves.len, made.opened.at, made.opened.len);

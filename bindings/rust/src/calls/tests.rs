@@ -149,7 +149,7 @@ fn a_refused_call_leaves_the_output_as_it_was() {
 #[test]
 fn out_of_range_a_length_is_0() {
     assert_eq!(size::key(2, 1, 1, 1), KEY.len());
-    assert_eq!(size::proof(160, 160, 48, 160), 9767);
+    assert_eq!(size::proof(160, 160, 48, 160), 11976);
     assert_eq!(size::proof(161, 160, 48, 160), 0);
     assert_eq!(size::proof(160, 160, 49, 160), 0);
     assert_eq!(size::key(0, 1, 1, 1), 0);

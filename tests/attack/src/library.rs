@@ -1,0 +1,108 @@
+//! The prover that is attacked: the library's.
+
+use crate::case::{Case, View};
+use crate::format::Sizes;
+
+type SizeFunction = unsafe extern "C" fn(usize, usize, usize, usize) -> usize;
+
+extern "C" {
+    fn mq_leaves_size(n: usize, m: usize, tau: usize, t: usize) -> usize;
+    fn mq_opened_size(n: usize, m: usize, tau: usize, t: usize) -> usize;
+    fn mq_hash_matrix_size(n: usize, m: usize, tau: usize, t: usize) -> usize;
+    fn mq_proof_size(n: usize, m: usize, tau: usize, t: usize) -> usize;
+
+    fn mq_prove(
+        key: *const u8,
+        key_len: usize,
+        leaves: *const u8,
+        leaves_len: usize,
+        witness: *const u8,
+        witness_len: usize,
+        hash_matrix: *const u8,
+        hash_matrix_len: usize,
+        batching: *const u8,
+        batching_len: usize,
+        out: *mut u8,
+        out_len: usize,
+    ) -> u32;
+
+    fn mq_verify(
+        key: *const u8,
+        key_len: usize,
+        delta: *const u8,
+        delta_len: usize,
+        hash_matrix: *const u8,
+        hash_matrix_len: usize,
+        batching: *const u8,
+        batching_len: usize,
+        opened: *const u8,
+        opened_len: usize,
+        proof: *const u8,
+        proof_len: usize,
+    ) -> u32;
+}
+
+/// The library's proof. The lengths that its header gives must be those of the masks that the case is made for.
+pub fn prove(case: &Case) -> Result<Vec<u8>, String> {
+    let Sizes { n, m, tau, t } = case.sizes;
+    // Safe: these take numbers.
+    let size = |function: SizeFunction| unsafe { function(n, m, tau, t) };
+    let lengths = [
+        (size(mq_leaves_size), case.leaves.len()),
+        (size(mq_opened_size), case.opened.len()),
+        (size(mq_hash_matrix_size), case.hash_matrix.len()),
+    ];
+    if let Some((library, own)) = lengths.iter().find(|(library, own)| library != own) {
+        return Err(format!(
+            "an input of the library has {library} bytes, and with masks {:?} it has {own}",
+            case.masks
+        ));
+    }
+    let mut proof = vec![0; size(mq_proof_size)];
+    // Safe: each pointer is valid for the length beside it, and the output overlaps no input.
+    let word = unsafe {
+        mq_prove(
+            case.key.as_ptr(),
+            case.key.len(),
+            case.leaves.as_ptr(),
+            case.leaves.len(),
+            case.witness.as_ptr(),
+            case.witness.len(),
+            case.hash_matrix.as_ptr(),
+            case.hash_matrix.len(),
+            case.batching.as_ptr(),
+            case.batching.len(),
+            proof.as_mut_ptr(),
+            proof.len(),
+        )
+    };
+    accepted("mq_prove", word).map(|()| proof)
+}
+
+pub fn verify(view: &View) -> Result<(), String> {
+    // Safe: each pointer is valid for the length beside it.
+    let word = unsafe {
+        mq_verify(
+            view.key.as_ptr(),
+            view.key.len(),
+            view.delta.as_ptr(),
+            view.delta.len(),
+            view.hash_matrix.as_ptr(),
+            view.hash_matrix.len(),
+            view.batching.as_ptr(),
+            view.batching.len(),
+            view.opened.as_ptr(),
+            view.opened.len(),
+            view.proof.as_ptr(),
+            view.proof.len(),
+        )
+    };
+    accepted("mq_verify", word)
+}
+
+fn accepted(call: &str, word: u32) -> Result<(), String> {
+    match word {
+        0 => Ok(()),
+        word => Err(format!("{call} refuses: {} {}", word >> 16, word & 0xFFFF)),
+    }
+}

@@ -1,0 +1,137 @@
+//! Mounts the linear attack on proofs in which one mask serves every repetition, and shows that it gains nothing where
+//! each repetition has its own.
+//!
+//! attack [SEED] [--shared]
+//!
+//! The controls are a small prover in this crate: with one mask the attack must recover every witness, with own masks
+//! none. Then the library's proofs are attacked, and the attack must do no better than guessing. With `--shared` the
+//! library is one of the versions that had one mask, and the attack must recover every witness.
+
+mod attack;
+mod case;
+mod field;
+mod format;
+mod judge;
+mod library;
+mod prover;
+mod random;
+mod verifier;
+
+use case::Case;
+use format::{Masks, Sizes};
+use judge::Tally;
+use random::Random;
+use std::process::exit;
+use std::time::{SystemTime, UNIX_EPOCH};
+
+/// 88 equations for 64 bits: 24 more than unknowns, so that a rank below 64 is met once in some 16 million proofs.
+const SIZES: Sizes = Sizes {
+    n: 64,
+    m: 16,
+    tau: 12,
+    t: 16,
+};
+const PROOFS: usize = 200;
+
+/// The usual sizes: 144 equations for 150 bits, and the key tells which of the 64 solutions, or a few more, is the
+/// witness.
+const USUAL_SIZES: Sizes = Sizes {
+    n: 150,
+    m: 150,
+    tau: 19,
+    t: 144,
+};
+const USUAL_PROOFS: usize = 60;
+const USUAL_CONTROLS: usize = 5;
+
+/// The most repetitions, since the library takes sixteen at a time.
+const MOST_SIZES: Sizes = Sizes { tau: 48, ..SIZES };
+const MOST_PROOFS: usize = 100;
+
+#[derive(Clone, Copy, PartialEq, Eq)]
+enum Prover {
+    Control,
+    Library,
+}
+
+/// The attack on so many proofs.
+fn attacked(
+    random: &mut Random,
+    prover: Prover,
+    masks: Masks,
+    sizes: Sizes,
+    proofs: usize,
+) -> Result<Tally, String> {
+    let mut tally = Tally::default();
+    for _ in 0..proofs {
+        let case = Case::new(random, sizes, masks);
+        let proof = match prover {
+            Prover::Control => prover::prove(&case),
+            Prover::Library => library::prove(&case)?,
+        };
+        let view = case.view(&proof);
+        match prover {
+            Prover::Control if !verifier::accepts(&view, masks) => {
+                return Err("a proof of the control is none".to_string());
+            }
+            Prover::Control => {}
+            Prover::Library => library::verify(&view)?,
+        }
+        let forms = attack::forms(&view);
+        let guess = attack::guess(&view, &forms, random);
+        tally.add(&view, &forms, &case.witness, &guess);
+    }
+    Ok(tally)
+}
+
+fn run(seed: u64, of_library: Masks) -> Result<(), String> {
+    let mut random = Random::new(seed);
+    let mut judged = |prover, masks, sizes: Sizes, proofs| {
+        let tally = attacked(&mut random, prover, masks, sizes, proofs)?;
+        let who = match prover {
+            Prover::Control => "control",
+            Prover::Library => "library",
+        };
+        let (how, right, expected) = match masks {
+            Masks::Shared => ("one mask", tally.all_recovered(), "every witness"),
+            Masks::Own => ("own masks", tally.as_guessing(), "what a guess gives"),
+        };
+        println!(
+            "{who}, {how}, n = {}, tau = {}: {tally}",
+            sizes.n, sizes.tau
+        );
+        match right {
+            true => Ok(()),
+            false => Err(format!(
+                "the attack on the {who} with {how} does not get {expected}"
+            )),
+        }
+    };
+    judged(Prover::Control, Masks::Shared, SIZES, PROOFS)?;
+    judged(Prover::Control, Masks::Shared, USUAL_SIZES, USUAL_CONTROLS)?;
+    judged(Prover::Control, Masks::Own, SIZES, PROOFS)?;
+    judged(Prover::Library, of_library, SIZES, PROOFS)?;
+    judged(Prover::Library, of_library, USUAL_SIZES, USUAL_PROOFS)?;
+    judged(Prover::Library, of_library, MOST_SIZES, MOST_PROOFS)
+}
+
+fn main() {
+    let now = SystemTime::now().duration_since(UNIX_EPOCH);
+    let mut seed = now.map_or(0, |now| now.as_micros() as u64);
+    let mut of_library = Masks::Own;
+    for word in std::env::args().skip(1) {
+        match (word.as_str(), word.parse()) {
+            ("--shared", _) => of_library = Masks::Shared,
+            (_, Ok(number)) => seed = number,
+            _ => {
+                eprintln!("usage: attack [SEED] [--shared]");
+                exit(2);
+            }
+        }
+    }
+    println!("seed {seed}");
+    if let Err(said) = run(seed, of_library) {
+        println!("FAILED: {said}");
+        exit(1);
+    }
+}
