@@ -22,9 +22,14 @@ impl Shape {
             && (1..=160).contains(&self.t)
     }
 
-    /// "Put k = n+8" (n plus the field's degree).
+    /// From 02: "there are now r coordinates for each repetition, r the degree: k = n+rτ".
     pub fn k(&self) -> usize {
-        self.n + self.field.degree
+        self.n + self.field.degree * self.tau
+    }
+
+    /// Where the mask coordinates of repetition e start: "repetition e uses n+re up to n+re+r−1" (02).
+    pub fn mask_start(&self, e: usize) -> usize {
+        self.n + self.field.degree * e
     }
 
     /// "L = k+t".
