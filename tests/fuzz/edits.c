@@ -2,7 +2,7 @@
 
 #include <stdio.h>
 
-enum { MOST_CASES = 255, NOTHING = 255 /* the first byte that names the case of empty strings */, LONGEST = 1 << 16 };
+enum { MOST_CASES = 255, NOTHING = 255 /* the first byte that names the case of empty strings */, LONGEST = 1 << 20 };
 
 static struct made cases[MOST_CASES];
 static size_t case_count;
@@ -71,9 +71,12 @@ static void grow(struct lent *string, size_t count)
     string->len += count;
 }
 
-/* From the start, or where the highest bit is set from the end; at most the length. */
+/* From the start, or where the highest bit is set from the end; at most the length. Of a string that is too long for
+ * that the middle is gone over in steps. */
 static size_t place_of(unsigned where, size_t len)
 {
+    if (len >= 0x10000 && where >= 0x4000 && where < 0xC000)
+        return 0x4000 + (where - 0x4000) * (len - 0x8000) / 0x8000;
     if (where < 0x8000)
         return where % (len + 1);
     return len - (0x10000 - where) % (len + 1);

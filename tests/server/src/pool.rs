@@ -81,9 +81,9 @@ fn large(random: &mut Random) -> Vec<Request> {
     for (call, input, len) in [
         (verify, KEY, 600_000),
         (verify, DELTA, 49),
-        (verify, OPENED, 600_000),
-        (verify, PROOF, 9_768),
-        (verify - 1, LEAVES, 600_000),
+        (verify, OPENED, 1_100_000),
+        (verify, PROOF, 11_977),
+        (verify - 1, LEAVES, 1_100_000),
     ] {
         let mut long = honest(random, (2, 1, 1, 1), &CALLS[call]);
         long.strings[input].resize(len, 0);
