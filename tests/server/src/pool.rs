@@ -134,7 +134,7 @@ fn one_of_each(random: &mut Random, call: usize) -> Vec<Request> {
         (11, |inputs| change_y(inputs, 0b110)),
         (11, |inputs| change_y(inputs, 0b111)),
         (12, |inputs| inputs.strings[PROOF].push(0)),
-        (13, |inputs| inputs.strings[PROOF][12] |= 0x80), // the last byte of d
+        (13, |inputs| inputs.strings[PROOF][13] |= 0x80), // the last byte of d
         (14, |inputs| {
             *inputs.strings[PROOF].iter_mut().nth_back(12).unwrap() ^= 1 // that of Ṽ
         }),
