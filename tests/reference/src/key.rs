@@ -204,11 +204,6 @@ impl Key<'_> {
     /// The lowest-numbered equation that fails at x, counted from 0; nothing where x solves all: "A
     /// candidate fails an equation when that equation's error at it is not 0."
     pub fn first_failing(&self, x: &[u8]) -> Option<usize> {
-        for i in 0..self.shape.m {
-            if self.error(i, x) != 0 {
-                return Some(i);
-            }
-        }
-        None
+        (0..self.shape.m).find(|i| self.error(*i, x) != 0)
     }
 }

@@ -185,7 +185,6 @@ fn checks_differ(sitting: &Case) -> bool {
 }
 
 /// Whether each change is refused: the first of C by the product check, the second by consistency.
-
 fn changes_are_refused(sitting: &Case) -> bool {
     let proof = proof_of(sitting);
     let number = |changes: &[Change]| reply(sitting, &changed(sitting, &proof, changes)) / 65_536;
