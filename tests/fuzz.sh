@@ -50,7 +50,7 @@ grep -v '^#' tests/fuzz/seeds.txt | while read -r name bytes; do
         byte "0x$hex"
     done >"$seeds/$name"
 done
-# One for each case as it is, by its number; and the last case, of the longest leaves, opened at other challenges.
+# One for each case as it is, by its number; and the last case, of long leaves, opened at other challenges.
 cargo build --quiet --release --offline -j1 --manifest-path tests/shapes/Cargo.toml --target-dir "$work/shapes"
 cases=$("$work/shapes/release/shapes" | wc -l)
 [ "$cases" -gt 1 ] || { echo "no shapes" >&2 && exit 1; }

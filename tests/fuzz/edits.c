@@ -2,9 +2,10 @@
 
 #include <stdio.h>
 
-enum { MOST_CASES = 255, NOTHING = 255 /* the first byte that names the case of empty strings */, LONGEST = 1 << 16 };
+enum { MOST_CASES = 255, NOTHING = 255 /* the first byte that names the case of empty strings */, LONGEST = 1 << 20 };
 
 static struct made cases[MOST_CASES];
+static int proved[MOST_CASES];
 static size_t case_count;
 static uint8_t space[INPUTS][LONGEST];
 
@@ -37,11 +38,19 @@ void make_cases(void)
                 fprintf(stderr, "case %zu: a string is longer than there is room for\n", i);
                 exit(2);
             }
-        if (rendering_prove(c->key, c->leaves, c->witness, c->hash_matrix, c->batching, c->proof) != 0) {
-            fprintf(stderr, "the rendering refuses honest inputs\n");
-            exit(2);
-        }
     }
+}
+
+/* The case of this number. Its proof is made when it is first asked for, since the rendering is slow. */
+static struct made *case_of(size_t number)
+{
+    struct made *const c = &cases[number];
+    if (!proved[number] && rendering_prove(c->key, c->leaves, c->witness, c->hash_matrix, c->batching, c->proof) != 0) {
+        fprintf(stderr, "the rendering refuses honest inputs\n");
+        exit(2);
+    }
+    proved[number] = 1;
+    return c;
 }
 
 /* ---- Edits -------------------------------------------------------------------------------- */
@@ -71,9 +80,12 @@ static void grow(struct lent *string, size_t count)
     string->len += count;
 }
 
-/* From the start, or where the highest bit is set from the end; at most the length. */
+/* From the start, or where the highest bit is set from the end; at most the length. Of a string that is too long for
+ * that the middle is gone over in steps. */
 static size_t place_of(unsigned where, size_t len)
 {
+    if (len >= 0x10000 && where >= 0x4000 && where < 0xC000)
+        return 0x4000 + (where - 0x4000) * (len - 0x8000) / 0x8000;
     if (where < 0x8000)
         return where % (len + 1);
     return len - (0x10000 - where) % (len + 1);
@@ -152,7 +164,7 @@ struct edited edited(const uint8_t *bytes, size_t len)
     struct reader rest = { bytes, len };
     struct edited now = { .out_len = 0 };
     const size_t first = len ? bytes[0] : NOTHING;
-    struct made *const start = first == NOTHING ? &nothing : &cases[first % case_count];
+    struct made *const start = first == NOTHING ? &nothing : case_of(first % case_count);
     for (size_t i = 0; i < INPUTS; i++) {
         const struct lent string = string_of(start, i);
         now.in[i] = (struct lent){ space[i], string.len };

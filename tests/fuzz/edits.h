@@ -6,7 +6,8 @@
  * the bytes that it takes:
  *
  *     what    low three bits: the edit; the others: the string (enum input, then the output)
- *     where   two bytes, lowest first: a place in the string; FFFF is its last byte, FFFE the one before
+ *     where   two bytes, lowest first: a place in the string; FFFF is its last byte, FFFE the one before; in one of
+ *             65,536 bytes or more, 4000 to BFFF are its middle, in steps
  *     value   what to put there, or how much
  *
  * So few bytes reach the last question, and a string can still be any bytes at all (EDIT_ALL).

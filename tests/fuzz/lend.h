@@ -16,7 +16,7 @@ struct arena {
     uint8_t *written, *lent;
 };
 
-enum { ROOM = 1 << 17 /* of an arena; no string is longer */ };
+enum { ROOM = 1 << 21 /* of an arena; no string is longer */ };
 
 /* Pages to lend an input from, or an output. */
 struct arena open_input(void);

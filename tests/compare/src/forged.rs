@@ -158,22 +158,14 @@ impl Run<'_> {
         *inputs.get_mut(Name::Key) = key;
     }
 
-    /// A coordinate below n of C_e is changed, and the identity part of H so that every row's sum stays. For
-    /// repetition 0, which has no correction, d is changed.
+    /// A coordinate below n of C_e is changed, so that the hash does not see it. For repetition 0, which has no
+    /// correction, d is changed.
     fn unseen_correction(&mut self, inputs: &mut Inputs, e: usize) {
-        let shape = inputs.shape;
-        let c = self.random.below(shape.n);
+        let c = self.random.below(inputs.shape.n);
         if e == 0 {
             return flip(inputs, 1, c);
         }
-        let start = 8 * (e - 1) * shape.w();
-        let row_length = shape.h_length() / shape.t;
-        flip(inputs, 0, start + c);
-        for r in 0..shape.t {
-            if inputs.get(Name::HashMatrix)[r * row_length + c / 8] >> (c % 8) & 1 == 1 {
-                flip(inputs, 0, start + shape.k() + r);
-            }
-        }
+        flip_unseen(inputs, e, c);
     }
 
     /// Puts all values of Δ_e, the other repetitions being at values that pass where there are any. Gives the
@@ -208,6 +200,19 @@ impl Run<'_> {
     }
 }
 
+/// Changes a coordinate below k of C_e, and the identity part of H so that every row's sum stays.
+pub fn flip_unseen(inputs: &mut Inputs, e: usize, c: usize) {
+    let shape = inputs.shape;
+    let start = 8 * (e - 1) * shape.w();
+    let row_length = shape.h_length() / shape.t;
+    flip(inputs, 0, start + c);
+    for r in 0..shape.t {
+        if inputs.get(Name::HashMatrix)[r * row_length + c / 8] >> (c % 8) & 1 == 1 {
+            flip(inputs, 0, start + shape.k() + r);
+        }
+    }
+}
+
 /// For each repetition the values of Δ that the rendering counts in its factor.
 fn passing_sets(inputs: &Inputs) -> Vec<Vec<u8>> {
     let shape = inputs.shape;
@@ -225,7 +230,7 @@ fn passing_sets(inputs: &Inputs) -> Vec<Vec<u8>> {
 }
 
 /// Changes one bit of a section of the proof.
-fn flip(inputs: &mut Inputs, section: usize, bit: usize) {
+pub fn flip(inputs: &mut Inputs, section: usize, bit: usize) {
     let start = section_start(Name::Proof, &inputs.shape, section) + 4;
     inputs.get_mut(Name::Proof)[start + bit / 8] ^= 1 << (bit % 8);
 }

@@ -6,6 +6,7 @@ use crate::damage::{all, layout_agrees, Damage};
 use crate::inputs::{section_start, Inputs, Name, Output};
 use crate::judge::{describe, Expected, Judge};
 use reference::cases::Random;
+use reference::key::Shape;
 use reference::{open_leaves, Answer};
 
 pub use shapes::Sizes;
@@ -26,6 +27,8 @@ pub enum Group {
     Challenges(Sizes),
     /// Doctored proofs, at all 256 values of one repetition's Δ: see `forged`.
     Forged(Sizes),
+    /// Each repetition's mask, and the refusals that name it: see `repetitions`.
+    Repetitions(Sizes),
     /// Equations that fail: each of them the first, alone and with others after it.
     Equations(Sizes),
     /// A shape and damages at random.
@@ -45,6 +48,9 @@ const CHALLENGED: [Sizes; 5] = [
 ];
 
 const FORGED: [Sizes; 3] = [shapes::SMALL, (3, 2, 3, 2), (66, 1, 1, 60)];
+
+/// Two, three, a register of sixteen and one more, and the most.
+const REPEATED: [Sizes; 4] = [shapes::SMALL, (5, 2, 3, 4), (3, 2, 17, 2), (1, 1, 48, 1)];
 
 /// With several bytes of y, and the most.
 const FAILING: [Sizes; 2] = [(9, 21, 2, 5), (3, 160, 1, 2)];
@@ -66,6 +72,7 @@ pub fn fixed() -> Vec<Group> {
     groups.extend(PAIRED.map(Group::Pairs));
     groups.extend(CHALLENGED.map(Group::Challenges));
     groups.extend(FORGED.map(Group::Forged));
+    groups.extend(REPEATED.map(Group::Repetitions));
     groups.extend(FAILING.map(Group::Equations));
     groups.extend(shapes::single().into_iter().map(Group::Shape));
     groups.extend(shapes::joint().into_iter().map(Group::Kernels));
@@ -74,7 +81,7 @@ pub fn fixed() -> Vec<Group> {
 }
 
 /// Steps of the rendering, roughly: each repetition puts two quadratic forms of n² terms to each equation.
-fn cost(shape: &reference::key::Shape) -> usize {
+fn cost(shape: &Shape) -> usize {
     let forms = shape.tau * shape.m * shape.n * shape.n * 10;
     let hashes = shape.tau * shape.t * shape.k();
     let leaves = shape.tau * 256 * shape.l() * 6;
@@ -83,6 +90,10 @@ fn cost(shape: &reference::key::Shape) -> usize {
 
 /// Above this the rendering is asked once for the whole proof, and no more.
 const DEAR: usize = 4_000_000;
+
+pub fn dear(shape: &Shape) -> bool {
+    cost(shape) > DEAR
+}
 
 /// Adds the rendering's proof to honest inputs.
 pub fn add_proof(inputs: &mut Inputs) -> Result<(), String> {
@@ -129,6 +140,7 @@ impl Run<'_> {
             Group::Kernels(sizes) => self.kernels(sizes),
             Group::Challenges(sizes) => self.challenges(sizes),
             Group::Forged(sizes) => self.forged(sizes),
+            Group::Repetitions(sizes) => self.repetitions(sizes),
             Group::Equations(sizes) => self.equations(sizes),
             Group::Random => self.random_damages(),
         }
@@ -157,7 +169,7 @@ impl Run<'_> {
     /// the inputs.
     fn honest(&mut self, inputs: &mut Inputs) -> Result<(), String> {
         add_proof(inputs)?;
-        let dear = cost(&inputs.shape) > DEAR;
+        let dear = dear(&inputs.shape);
         let known = |call: &Call| Expected {
             answer: Answer::Accepted,
             output: inputs.get(Name::Proof)[call.writes.part(&inputs.shape)].to_vec(),
@@ -215,7 +227,7 @@ impl Run<'_> {
             .map(|call| call.writes.length(&inputs.shape))
             .collect();
         let mut damages = all(&names, &lengths, &inputs.shape);
-        if cost(&inputs.shape) > DEAR {
+        if dear(&inputs.shape) {
             damages.retain(|damage| !damage.keeps_form());
         }
         damages
@@ -227,7 +239,7 @@ impl Run<'_> {
         for damage in self.damages(&inputs) {
             self.damaged(&inputs, &[damage])?;
         }
-        if cost(&inputs.shape) > DEAR {
+        if dear(&inputs.shape) {
             self.dear_flips(&inputs)?;
         }
         Ok(())
@@ -354,7 +366,7 @@ impl Run<'_> {
             output: Vec::new(),
         };
         self.put(&VERIFY, inputs, &[], Some(&accepted))?;
-        if cost(&inputs.shape) <= DEAR {
+        if !dear(&inputs.shape) {
             self.put(&VERIFY, inputs, &[], None)?;
         }
         Ok(())

@@ -12,6 +12,7 @@ mod groups;
 mod inputs;
 mod judge;
 mod memory;
+mod repetitions;
 mod selftest;
 mod sizes;
 mod watch;

@@ -118,15 +118,15 @@ pub struct Sizes {
     t: usize,
 }
 
-/// How many cases there are to start from: one for each shape with a size at a kernel's threshold.
+/// How many cases there are to start from: one for each of the light shapes with a size at a kernel's threshold.
 #[no_mangle]
 pub extern "C" fn shape_count() -> usize {
-    shapes::single().len()
+    shapes::light().len()
 }
 
 /// The sizes of one of them. The first is small, with spare bits in every section.
 #[no_mangle]
 pub extern "C" fn shape_sizes(which: usize) -> Sizes {
-    let (n, m, tau, t) = shapes::single()[which];
+    let (n, m, tau, t) = shapes::light()[which];
     Sizes { n, m, tau, t }
 }

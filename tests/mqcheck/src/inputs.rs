@@ -234,26 +234,29 @@ fn honest(case: &Case) -> [Vec<u8>; 6] {
     ]
 }
 
-/// Honest cases at the largest numbers that an input has room for.
+/// Honest cases at the largest numbers that an input has room for, and some past it: the leaves of sixteen repetitions
+/// alone have more bytes.
 pub fn limits() -> Vec<Input> {
     [
-        (160, 1, 1, 1),
-        (160, 10, 2, 3),
-        (1, 160, 1, 1),
-        (8, 160, 3, 9),
-        (1, 1, 48, 1),
-        (9, 5, 48, 20),
-        (1, 1, 1, 160),
-        (160, 2, 1, 160),
+        (160, 1, 1, 1, "accepted 0 0"),
+        (160, 10, 2, 3, "accepted 0 0"),
+        (1, 160, 1, 1, "accepted 0 0"),
+        (8, 160, 3, 9, "accepted 0 0"),
+        (1, 1, 15, 1, "accepted 0 0"),
+        (1, 1, 16, 1, "unread 0 0"),
+        (9, 3, 14, 16, "accepted 0 0"),
+        (9, 3, 48, 16, "unread 0 0"),
+        (1, 1, 1, 160, "accepted 0 0"),
+        (160, 2, 1, 160, "accepted 0 0"),
     ]
     .iter()
-    .map(|&(n, m, tau, t)| {
+    .map(|&(n, m, tau, t, line)| {
         let bytes = framed(&honest(&case(1, n, m, tau, t)));
-        assert!(bytes.len() <= MOST);
+        assert_eq!(bytes.len() <= MOST, line != "unread 0 0");
         input(
             format!("honest, n = {n}, m = {m}, τ = {tau}, t = {t}"),
             bytes,
-            Some("accepted 0 0"),
+            Some(line),
         )
     })
     .collect()
@@ -276,7 +279,7 @@ fn total(n: usize, m: usize, tau: usize, t: usize) -> usize {
 
 /// An honest case whose input is of exactly this length.
 fn of_length(length: usize) -> Case {
-    for tau in (1..=48).rev() {
+    for tau in (1..=48).rev().filter(|tau| total(1, 1, *tau, 1) <= length) {
         for n in 1..=160 {
             for t in 1..=160 {
                 for m in 1..=160 {

@@ -1,8 +1,17 @@
-//! The examples over GF(256) of the rendering's file of vectors: each at its Δ, and with each of its changes.
+//! The examples over GF(256) of the rendering's files of vectors: each at its Δ, and with each of its changes.
 
 use crate::inputs::{framed, input, Input};
 
-const EXAMPLES: &str = include_str!("../../reference/tests/vectors/sittings-degree8.rsp");
+const FILES: [(&str, &str); 2] = [
+    (
+        "one repetition",
+        include_str!("../../reference/tests/vectors/sittings-degree8.rsp"),
+    ),
+    (
+        "masks",
+        include_str!("../../reference/tests/vectors/masks-degree8.rsp"),
+    ),
+];
 
 fn hex(text: &str) -> Vec<u8> {
     (0..text.len() / 2)
@@ -29,16 +38,20 @@ fn value<'a>(example: &'a str, name: &str) -> &'a str {
 }
 
 pub fn all() -> Vec<Input> {
+    FILES
+        .iter()
+        .flat_map(|(name, examples)| of_file(name, examples))
+        .collect()
+}
+
+fn of_file(file: &str, examples: &str) -> Vec<Input> {
     let mut inputs = Vec::new();
-    for (number, example) in EXAMPLES.split("# sitting ").skip(1).enumerate() {
+    for (number, example) in examples.split("# sitting ").skip(1).enumerate() {
         let sections = ["key", "delta", "hprime", "chi", "opened", "proof"]
             .map(|name| hex(value(example, name)));
         let reply = line(value(example, "reply"));
-        inputs.push(input(
-            format!("example {number}"),
-            framed(&sections),
-            Some(&reply),
-        ));
+        let name = format!("{file}, example {number}");
+        inputs.push(input(name.clone(), framed(&sections), Some(&reply)));
         // changed = d byte 10 xor 1: reply 983040 factors 1 1
         for changed in example
             .lines()
@@ -50,7 +63,7 @@ pub fn all() -> Vec<Input> {
             let mut other = sections.clone();
             other[5][at] ^= xor;
             inputs.push(input(
-                format!("example {number}, {changed}"),
+                format!("{name}, {changed}"),
                 framed(&other),
                 Some(&line(words[6])),
             ));

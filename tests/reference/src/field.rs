@@ -19,7 +19,7 @@ pub const GF256: Field = Field {
     degree: 8,
 };
 
-/// GF(16) with the modulus X^4+X+1. Not in 01; only the second file of vectors uses it.
+/// GF(16) with the modulus X^4+X+1. Not in 01; only vectors use it.
 pub const GF16: Field = Field {
     size: 16,
     modulus: 0b1_0011,
@@ -73,13 +73,13 @@ impl Field {
         power
     }
 
-    /// The mask element of a vector z, Σ α^s·z[n+s], with u, v_e or W_e put for z: "A*₁ = Σ α^s·u[n+s],
-    /// A*₀,e = Σ α^s·v_e[n+s], s = 0..7"; "Σ α^s·W_e[n+s], s = 0..7". In any field, s is below its
-    /// degree.
-    pub fn mask(&self, n: usize, z: &[u8]) -> u8 {
+    /// The mask element of a vector z from the coordinate `start` on, Σ α^s·z[start+s] with s below
+    /// the degree. u, v_e or W_e is put for z, and for `start` what 02 puts in place of 01's n: the
+    /// first mask coordinate of the repetition. 003 calls it lift_r.
+    pub fn mask(&self, start: usize, z: &[u8]) -> u8 {
         let mut sum = 0;
         for s in 0..self.degree {
-            sum = add(sum, self.mul(self.alpha_to(s), z[n + s]));
+            sum = add(sum, self.mul(self.alpha_to(s), z[start + s]));
         }
         sum
     }

@@ -22,9 +22,14 @@ impl Shape {
             && (1..=160).contains(&self.t)
     }
 
-    /// "Put k = n+8" (n plus the field's degree).
+    /// From 02: "there are now r coordinates for each repetition, r the degree: k = n+rτ".
     pub fn k(&self) -> usize {
-        self.n + self.field.degree
+        self.n + self.field.degree * self.tau
+    }
+
+    /// Where the mask coordinates of repetition e start: "repetition e uses n+re up to n+re+r−1" (02).
+    pub fn mask_start(&self, e: usize) -> usize {
+        self.n + self.field.degree * e
     }
 
     /// "L = k+t".
@@ -199,11 +204,6 @@ impl Key<'_> {
     /// The lowest-numbered equation that fails at x, counted from 0; nothing where x solves all: "A
     /// candidate fails an equation when that equation's error at it is not 0."
     pub fn first_failing(&self, x: &[u8]) -> Option<usize> {
-        for i in 0..self.shape.m {
-            if self.error(i, x) != 0 {
-                return Some(i);
-            }
-        }
-        None
+        (0..self.shape.m).find(|i| self.error(*i, x) != 0)
     }
 }

@@ -20,6 +20,7 @@ pub mod field;
 pub mod key;
 pub mod leaves;
 pub mod prover;
+pub mod sittings;
 pub mod strings;
 pub mod verifier;
 

@@ -64,7 +64,8 @@ pub fn coefficients(key: &Key, i: usize, v_e: &[u8], x: &[u8]) -> [u8; 3] {
     [a_0, a_1, a_2]
 }
 
-/// "QS0_e = Σ χ(e,i)·a₀ + A*₀,e", with "A*₀,e = Σ α^s·v_e[n+s]". "by repetition, rising".
+/// "QS0_e = Σ χ(e,i)·a₀ + A*₀,e", where A*₀,e takes v_e at the mask coordinates of e (02). "by
+/// repetition, rising".
 pub fn section_qs0(key: &Key, leaves: &[u8], x: &[u8], chi: &[u8]) -> Vec<u8> {
     let shape = &key.shape;
     let field = &shape.field;
@@ -76,14 +77,14 @@ pub fn section_qs0(key: &Key, leaves: &[u8], x: &[u8], chi: &[u8]) -> Vec<u8> {
             let a_0 = coefficients(key, i, &v_e, x)[0];
             sum = add(sum, field.mul(shape.column(chi, e)[i], a_0));
         }
-        let mask_0 = field.mask(shape.n, &v_e);
+        let mask_0 = field.mask(shape.mask_start(e), &v_e);
         section.push(add(sum, mask_0));
     }
     section
 }
 
-/// "QS1_e = Σ χ(e,i)·a₁ + A*₁", with "A*₁ = Σ α^s·u[n+s]" ("coordinates n..n+7 serve every
-/// repetition"). "by repetition, rising".
+/// "QS1_e = Σ χ(e,i)·a₁ + A*₁", but that A*₁ is now one of e: it takes u, which is u_0, at the mask
+/// coordinates of e (02). "by repetition, rising".
 pub fn section_qs1(key: &Key, leaves: &[u8], x: &[u8], chi: &[u8]) -> Vec<u8> {
     let shape = &key.shape;
     let field = &shape.field;
@@ -96,7 +97,7 @@ pub fn section_qs1(key: &Key, leaves: &[u8], x: &[u8], chi: &[u8]) -> Vec<u8> {
             let a_1 = coefficients(key, i, &v_e, x)[1];
             sum = add(sum, field.mul(shape.column(chi, e)[i], a_1));
         }
-        let mask_1 = field.mask(shape.n, &u_0);
+        let mask_1 = field.mask(shape.mask_start(e), &u_0);
         section.push(add(sum, mask_1));
     }
     section

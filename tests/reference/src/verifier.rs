@@ -100,8 +100,8 @@ pub fn consistency(
     true
 }
 
-/// "Product check: Σ χ(e,i)·(K_eᵀA_i·K_e + Δ_e·(b_i·K_e) + y_i·Δ_e²) + Σ α^s·W_e[n+s], s = 0..7,
-/// equals QS0_e + QS1_e·Δ_e."
+/// "Product check: Σ χ(e,i)·(K_eᵀA_i·K_e + Δ_e·(b_i·K_e) + y_i·Δ_e²) + Σ α^s·W_e[n+s] ... equals
+/// QS0_e + QS1_e·Δ_e", but that the mask takes W_e at the mask coordinates of e (02).
 pub fn product_check(
     key: &Key,
     e: usize,
@@ -124,7 +124,7 @@ pub fn product_check(
         let bracket = add(add(quadratic, linear), constant);
         left = add(left, field.mul(shape.column(chi, e)[i], bracket));
     }
-    left = add(left, field.mask(shape.n, &w_e));
+    left = add(left, field.mask(shape.mask_start(e), &w_e));
 
     let right = add(proof.qs0[e], field.mul(proof.qs1[e], delta_e));
     left == right

@@ -179,6 +179,91 @@ fn honest_over_gf16() {
     }
 }
 
+/// "repetition e uses n+re up to n+re+r−1" (02): one mask coordinate of one leaf is changed, and QS0 and QS1 change
+/// exactly where the equations say. A leaf of repetition 0 counts in u, which every A*₁ is taken from, and in v_0; any
+/// other leaf in its own v_e alone.
+#[test]
+fn every_repetition_has_its_own_mask() {
+    let case = case_over(GF256, 41, 4, 2, 3, 2);
+    own_masks(&case);
+    let case = case_over(GF16, 42, 4, 2, 3, 2);
+    own_masks(&case);
+}
+
+fn own_masks(case: &Case) {
+    let (shape, field) = (case.shape, case.shape.field);
+    let key = case.read_key();
+    let checks = |leaves: &[u8]| {
+        let proof = whole(&key, leaves, &case.witness, &case.h, &case.chi);
+        let read = sections(&shape, &proof).unwrap();
+        [read.qs0.to_vec(), read.qs1.to_vec()]
+    };
+    let before = checks(&case.leaves);
+    for of in 0..shape.tau {
+        for s in 0..field.degree {
+            let c = 4 + field.degree * of + s;
+            for e in 0..shape.tau {
+                for j in [0, 1, 6, field.size - 1] {
+                    let mut leaves = case.leaves.clone();
+                    leaves[(e * field.size + j) * shape.w() + c / 8] ^= 1 << (c % 8);
+                    let [qs0, qs1] = checks(&leaves);
+                    let mut expected = before.clone();
+                    if of == e {
+                        expected[0][e] ^= field.mul(field.alpha_to(s), j as u8);
+                    }
+                    if e == 0 {
+                        expected[1][of] ^= field.alpha_to(s);
+                    }
+                    assert_eq!([qs0, qs1], expected);
+                }
+            }
+        }
+    }
+}
+
+/// The lengths of 02: "k = n+rτ", and what follows from it.
+#[test]
+fn lengths_with_own_masks() {
+    let largest = case_over(GF256, 1, 160, 1, 48, 160).shape;
+    assert_eq!([largest.k(), largest.l(), largest.w()], [544, 704, 88]);
+    assert_eq!(largest.leaves_length(), 48 * 256 * 88);
+    assert_eq!(largest.opened_length(), 48 * 255 * 88);
+    assert_eq!(largest.h_length(), 160 * 68);
+    assert_eq!(
+        largest.proof_sections(),
+        [47 * 88, 20, 20, 48 * 160, 48, 48]
+    );
+    let toy = case_over(GF256, 1, 2, 1, 1, 1).shape;
+    assert_eq!([toy.k(), toy.l(), toy.w()], [10, 11, 2]);
+}
+
+/// A correction in a mask that is not the repetition's own is seen by consistency alone: where H′ is 0 there, by nothing.
+#[test]
+fn corrections_in_the_masks() {
+    let mut case = case(43, 4, 2, 3, 2);
+    case.h.fill(0);
+    case.delta = vec![0x35, 0xC2, 0x01];
+    let proof = proof_of(&case);
+    for e in 1..3 {
+        for of in 0..3 {
+            for s in 0..8 {
+                let c = 4 + 8 * of + s;
+                let at = 4 + (e - 1) * case.shape.w() + c / 8;
+                let changed = flip(&proof, at, 1 << (c % 8));
+                let expected = if of == e {
+                    Answer::Refused {
+                        number: 15,
+                        place: e as u32,
+                    }
+                } else {
+                    Answer::Accepted
+                };
+                assert_eq!(verify_at(&case, &case.delta, &changed), expected);
+            }
+        }
+    }
+}
+
 fn flip(proof: &[u8], at: usize, with: u8) -> Vec<u8> {
     let mut changed = proof.to_vec();
     changed[at] ^= with;

@@ -19,7 +19,7 @@ struct Lent {
 }
 
 fn sitting() -> (Case, Lent) {
-    // n, m, L and t leave spare bits; k = 13, L = 17.
+    // n, m, k, L and t leave spare bits; k = 29, L = 33.
     let case = case(31, 5, 3, 3, 4);
     let lengths = case.shape.proof_sections();
     let mut proof = vec![0; case.proof_length()];
@@ -116,14 +116,14 @@ fn spoil(number: u32, call: &str, lent: &mut Lent) {
             "prove" => lent.chi.truncate(1),
             _ => lent.delta.push(0),
         },
-        6 => lent.h[1] |= 0x80,
+        6 => lent.h[3] |= 0x80,
         7 => {
             lent.leaves.push(0);
             lent.opened.push(0);
         }
         8 => {
-            lent.leaves[2] |= 0x80;
-            lent.opened[2] |= 0x80;
+            lent.leaves[4] |= 0x80;
+            lent.opened[4] |= 0x80;
         }
         9 => lent.witness[0] |= 0x80,
         10 => lent.out = lent.out.map(|length| length + 1),
@@ -133,7 +133,7 @@ fn spoil(number: u32, call: &str, lent: &mut Lent) {
             lent.key[last] ^= 0b10;
         }
         12 => lent.proof.push(0),
-        13 => lent.proof[6] |= 0x80,
+        13 => lent.proof[8] |= 0x80,
         14 => {
             // Ṽ of repetition 2, hash row 3.
             let at = lent.out[0] + 4 + 1 + 4 + 2 * 4 + 3;
@@ -225,7 +225,7 @@ fn question_5_is_one_question() {
         // Wrong χ before the spare bits of H′.
         let both = |lent: &mut Lent| {
             change(&mut lent.chi);
-            lent.h[1] |= 0x80;
+            lent.h[3] |= 0x80;
         };
         assert_eq!(number_of("prove", &both), 5);
         assert_eq!(number_of("verify", &both), 5);

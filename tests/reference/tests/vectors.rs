@@ -1,4 +1,5 @@
-//! All sittings of both files of vectors.
+//! All sittings of the files of vectors: of the two older files, made by other hands, those with one repetition; and of
+//! the rendering's own two, with a mask for each repetition.
 
 use reference::calls::questions_14_and_15;
 use reference::check::line;
@@ -6,12 +7,14 @@ use reference::factors::factors;
 use reference::field::{Field, GF16, GF256};
 use reference::key::{has_header, header, sections, Key};
 use reference::prover::whole;
-use reference::strings::write_section;
+use reference::strings::{pack, write_section};
 use reference::verifier;
 use reference::*;
 
 const DEGREE_8: &str = include_str!("vectors/sittings-degree8.rsp");
 const DEGREE_4: &str = include_str!("vectors/sittings-degree4.rsp");
+const MASKS_8: &str = include_str!("vectors/masks-degree8.rsp");
+const MASKS_4: &str = include_str!("vectors/masks-degree4.rsp");
 
 /// "changed = d byte 10 xor 1: reply 983040 factors 1 1"
 #[derive(Debug)]
@@ -21,6 +24,21 @@ struct Changed {
     xor: u8,
     reply: u32,
     factors: Vec<usize>,
+}
+
+/// "several = Vt byte 22 xor 1, Vt byte 24 xor 1: reply 917504"
+#[derive(Debug)]
+struct Several {
+    changes: Vec<(usize, u8)>,
+    reply: u32,
+}
+
+/// "exchanged = C bytes 4 to 6 with bytes 7 to 9: reply 917505"
+#[derive(Debug)]
+struct Exchanged {
+    first: (usize, usize),
+    second: (usize, usize),
+    reply: u32,
 }
 
 #[derive(Debug, Default)]
@@ -36,6 +54,13 @@ struct Sitting {
     opened: Vec<u8>,
     reply: u32,
     changed: Vec<Changed>,
+    several: Vec<Several>,
+    exchanged: Vec<Exchanged>,
+    /// commit, hash and batch.
+    steps: Vec<Vec<u8>>,
+    /// u_e by e, and v_e by e.
+    u: Vec<Vec<u8>>,
+    v: Vec<Vec<u8>>,
 }
 
 fn hex(text: &str) -> Vec<u8> {
@@ -61,6 +86,30 @@ fn changed(text: &str) -> Changed {
     }
 }
 
+fn several(text: &str) -> Several {
+    let (changes, reply) = text.split_once(": reply ").unwrap();
+    let change = |text: &str| {
+        let words: Vec<&str> = text.split_whitespace().collect();
+        assert_eq!([words[1], words[3]], ["byte", "xor"]);
+        (words[2].parse().unwrap(), words[4].parse().unwrap())
+    };
+    Several {
+        changes: changes.split(", ").map(change).collect(),
+        reply: reply.parse().unwrap(),
+    }
+}
+
+fn exchanged(text: &str) -> Exchanged {
+    let words: Vec<&str> = text.split_whitespace().collect();
+    assert_eq!([words[1], words[6], words[10]], ["bytes", "bytes", "reply"]);
+    let number = |at: usize| -> usize { words[at].trim_end_matches(':').parse().unwrap() };
+    Exchanged {
+        first: (number(2), number(4)),
+        second: (number(7), number(9)),
+        reply: words[11].parse().unwrap(),
+    }
+}
+
 /// Every line of a file: a line of no known kind is an error.
 fn read(text: &str) -> Vec<Sitting> {
     let mut sittings: Vec<Sitting> = Vec::new();
@@ -83,6 +132,11 @@ fn read(text: &str) -> Vec<Sitting> {
                 "opened" => sitting.opened = hex(value),
                 "reply" => sitting.reply = value.parse().unwrap(),
                 "changed" => sitting.changed.push(changed(value)),
+                "several" => sitting.several.push(several(value)),
+                "exchanged" => sitting.exchanged.push(exchanged(value)),
+                "commit" | "hash" | "batch" => sitting.steps.push(hex(value)),
+                "u_0" | "u_1" | "u_2" => sitting.u.push(hex(value)),
+                "v_0" | "v_1" | "v_2" => sitting.v.push(hex(value)),
                 _ => {
                     let name = name.strip_prefix('[').unwrap().to_string();
                     let value = value.strip_suffix(']').unwrap().parse().unwrap();
@@ -142,9 +196,48 @@ fn equations(field: Field, sitting: &Sitting) {
     }
 }
 
+/// What the rendering's own files have besides: changes of several bytes, rows of C exchanged, the steps' bytes and the
+/// sums of the leaves.
+fn more_equations(field: Field, sitting: &Sitting) {
+    let shape = header(field, &sitting.key);
+    let key = sections(shape, &sitting.key).unwrap();
+    for several in &sitting.several {
+        let mut proof = sitting.proof.clone();
+        for (byte, xor) in &several.changes {
+            proof[*byte] ^= xor;
+        }
+        assert_eq!(reply(&key, sitting, &proof), several.reply, "{several:?}");
+    }
+    for exchanged in &sitting.exchanged {
+        let ((first, first_end), (second, second_end)) = (exchanged.first, exchanged.second);
+        let [width, other] = [first_end + 1 - first, second_end + 1 - second];
+        assert_eq!(
+            [width, other, second],
+            [shape.w(), shape.w(), first + width]
+        );
+        let mut proof = sitting.proof.clone();
+        for at in 0..width {
+            proof.swap(first + at, second + at);
+        }
+        let replied = reply(&key, sitting, &proof);
+        assert_eq!(replied, exchanged.reply, "{exchanged:?}");
+    }
+    if !sitting.steps.is_empty() {
+        assert_eq!(sitting.steps.concat(), sitting.proof);
+        assert_eq!([sitting.u.len(), sitting.v.len()], [shape.tau; 2]);
+        for e in 0..shape.tau {
+            assert_eq!(pack(&leaves::u(&shape, &sitting.leaves, e)), sitting.u[e]);
+            assert_eq!(leaves::v(&shape, &sitting.leaves, e), sitting.v[e]);
+        }
+    }
+}
+
+/// A proof of the right form: questions 13 to 15.
 fn reply(key: &Key, sitting: &Sitting, proof: &[u8]) -> u32 {
     let proof = verifier::sections(&key.shape, proof).unwrap();
-    assert!(proof.spare_bits_are_0(&key.shape));
+    if !proof.spare_bits_are_0(&key.shape) {
+        return 13 * 65_536;
+    }
     match questions_14_and_15(
         key,
         &sitting.delta,
@@ -247,12 +340,20 @@ fn verified(sitting: &Sitting, proof: &[u8], reply: u32) {
     );
 }
 
+/// How many sittings, changed lines, and other changes there are.
+fn counted(sittings: &[Sitting]) -> [usize; 3] {
+    let lines = sittings.iter().map(|sitting| sitting.changed.len()).sum();
+    let others = sittings
+        .iter()
+        .map(|sitting| sitting.several.len() + sitting.exchanged.len())
+        .sum();
+    [sittings.len(), lines, others]
+}
+
 #[test]
 fn degree_8() {
     let sittings = read(DEGREE_8);
-    assert_eq!(sittings.len(), 5);
-    let lines: usize = sittings.iter().map(|sitting| sitting.changed.len()).sum();
-    assert_eq!(lines, 53);
+    assert_eq!(counted(&sittings), [1, 5, 0]);
     for sitting in &sittings {
         equations(GF256, sitting);
         calls(sitting);
@@ -262,10 +363,32 @@ fn degree_8() {
 #[test]
 fn degree_4() {
     let sittings = read(DEGREE_4);
-    assert_eq!(sittings.len(), 3);
-    let lines: usize = sittings.iter().map(|sitting| sitting.changed.len()).sum();
-    assert_eq!(lines, 32);
+    assert_eq!(counted(&sittings), [1, 8, 0]);
     for sitting in &sittings {
         equations(GF16, sitting);
     }
+}
+
+#[test]
+fn masks_of_degree_8() {
+    let sittings = read(MASKS_8);
+    assert_eq!(counted(&sittings), [2, 24, 1]);
+    for sitting in &sittings {
+        assert!(!sitting.steps.is_empty());
+        equations(GF256, sitting);
+        more_equations(GF256, sitting);
+        calls(sitting);
+    }
+    assert_eq!(MASKS_8, reference::sittings::degree_8());
+}
+
+#[test]
+fn masks_of_degree_4() {
+    let sittings = read(MASKS_4);
+    assert_eq!(counted(&sittings), [2, 24, 5]);
+    for sitting in &sittings {
+        equations(GF16, sitting);
+        more_equations(GF16, sitting);
+    }
+    assert_eq!(MASKS_4, reference::sittings::degree_4());
 }

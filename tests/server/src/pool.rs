@@ -81,9 +81,9 @@ fn large(random: &mut Random) -> Vec<Request> {
     for (call, input, len) in [
         (verify, KEY, 600_000),
         (verify, DELTA, 49),
-        (verify, OPENED, 600_000),
-        (verify, PROOF, 9_768),
-        (verify - 1, LEAVES, 600_000),
+        (verify, OPENED, 1_100_000),
+        (verify, PROOF, 11_977),
+        (verify - 1, LEAVES, 1_100_000),
     ] {
         let mut long = honest(random, (2, 1, 1, 1), &CALLS[call]);
         long.strings[input].resize(len, 0);
@@ -134,7 +134,7 @@ fn one_of_each(random: &mut Random, call: usize) -> Vec<Request> {
         (11, |inputs| change_y(inputs, 0b110)),
         (11, |inputs| change_y(inputs, 0b111)),
         (12, |inputs| inputs.strings[PROOF].push(0)),
-        (13, |inputs| inputs.strings[PROOF][12] |= 0x80), // the last byte of d
+        (13, |inputs| inputs.strings[PROOF][13] |= 0x80), // the last byte of d
         (14, |inputs| {
             *inputs.strings[PROOF].iter_mut().nth_back(12).unwrap() ^= 1 // that of Ṽ
         }),

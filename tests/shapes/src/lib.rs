@@ -34,7 +34,7 @@ const fn at(of: Of, at: usize, kernel: &'static str) -> Threshold {
 pub const THRESHOLDS: &[Threshold] = &[
     at(Of::Variables, 8, "strings: the bits of a byte of x, A and b"),
     at(Of::Variables, 16, "the fold: a panel of sixteen columns; sixteen rows of it are a chunk of 32 bytes"),
-    at(Of::Variables, 49, "the row product: a row of H′, of k = n + 8 bits, is as long as a word of eight bytes"),
+    at(Of::Variables, 41, "the row product: a row of H′, of k = n + 16 bits, is as long as a word of eight bytes"),
     at(Of::Variables, 57, "the row product: a row of A is as long as a word of eight bytes, and is taken by words"),
     at(Of::Variables, 64, "the fold: a set of four panels; the row product: past it the last word overlaps"),
     at(Of::Variables, 128, "the fold: two sets of four panels; the turn: sixteen bytes of each of eight rows"),
@@ -53,6 +53,9 @@ pub const THRESHOLDS: &[Threshold] = &[
     at(Of::HashRows, 160, "the limit"),
     at(Of::LeafBytes, 16, "the leaf sums: a chunk of sixteen bytes; past it the last sixteen overlap those before"),
     at(Of::LeafBytes, 32, "the leaf sums: two chunks"),
+    at(Of::LeafBytes, 48, "the leaf sums: three chunks"),
+    at(Of::LeafBytes, 64, "the leaf sums: four chunks"),
+    at(Of::LeafBytes, 80, "the leaf sums: five chunks; the most bytes are 88"),
 ];
 
 /// Leaves are added four at a time, but for the four that hold the one left out (the leaf sums).
@@ -60,6 +63,9 @@ const FOUR: usize = 4;
 
 /// The leaves of a tree.
 const LEAVES: usize = 256;
+
+/// The degree of the field: the mask coordinates of a repetition.
+const DEGREE: usize = 8;
 
 /// Small, and with spare bits in every section.
 pub const SMALL: Sizes = (9, 3, 2, 5);
@@ -81,9 +87,23 @@ fn with(of: Of, size: usize) -> Sizes {
         Of::Equations => (n, size, tau, t),
         Of::Repetitions => (n, m, size, t),
         Of::HashRows => (n, m, tau, size),
-        // About half of the bits are variables; three of the last byte are spare.
-        Of::LeafBytes => (4 * size - 8, m, tau, 4 * size - 3),
+        Of::LeafBytes => with_leaf_bytes(size),
     }
+}
+
+/// Three bits of a leaf's last byte are spare. As few repetitions as the limits of n and t leave room for, since leaves
+/// are long by them in two ways: there are more, and each has more mask coordinates.
+fn with_leaf_bytes(size: usize) -> Sizes {
+    let (_, m, fewest, _) = SMALL;
+    let bits = 8 * size - 3;
+    let tau = fewest.max(bits.saturating_sub(LIMITS[0] + LIMITS[3]).div_ceil(DEGREE));
+    let n = (bits - DEGREE * tau) / 2;
+    (n, m, tau, bits - DEGREE * tau - n)
+}
+
+/// The bits L of a leaf: n and t, and the mask coordinates of each repetition.
+pub fn leaf_bits((n, _, tau, t): Sizes) -> usize {
+    n + DEGREE * tau + t
 }
 
 /// Each threshold with its neighbours, one at a time, the other sizes small. The first is the small shape itself.
@@ -98,6 +118,16 @@ pub fn single() -> Vec<Sizes> {
         }
     }
     shapes
+}
+
+/// Those of the above for the fuzzer, which asks the rendering thousands of times: where the leaves have at most so many
+/// bytes; and the most repetitions.
+pub fn light() -> Vec<Sizes> {
+    let bytes = |shape: Sizes| LEAVES * shape.2 * leaf_bits(shape).div_ceil(8);
+    single()
+        .into_iter()
+        .filter(|shape| bytes(*shape) <= 1 << 17 || shape.2 == LIMITS[2])
+        .collect()
 }
 
 /// All values of a size that some threshold asks for.
@@ -138,8 +168,8 @@ mod tests {
     use super::*;
 
     /// The bytes of a leaf.
-    fn width((n, _, _, t): Sizes) -> usize {
-        (n + 8 + t).div_ceil(8)
+    fn width(shape: Sizes) -> usize {
+        leaf_bits(shape).div_ceil(8)
     }
 
     #[test]
@@ -169,6 +199,21 @@ mod tests {
                 assert!((1..=limit).contains(&size));
             }
         }
+    }
+
+    #[test]
+    fn the_longest_leaf() {
+        let [n, m, tau, t] = LIMITS;
+        assert_eq!(width((n, m, tau, t)), 88);
+    }
+
+    /// The fuzzer opens the last of its cases at many challenges: its leaves go past three chunks. Few shapes are left
+    /// out.
+    #[test]
+    fn light_shapes() {
+        assert_eq!(width(*light().last().unwrap()), 49);
+        assert!(light().iter().any(|shape| shape.2 == LIMITS[2]));
+        assert!(light().len() + 7 >= single().len());
     }
 
     #[test]

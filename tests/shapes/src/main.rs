@@ -1,5 +1,5 @@
-//! Prints the shapes with one size at a threshold, one to a line: n, m, τ, t. The fuzzer has a case for each, in this
-//! order. `shapes challenges` prints the challenges at which the leaf that is left out stands otherwise among its four.
+//! Prints the fuzzer's shapes, one to a line: n, m, τ, t. It has a case for each, in this order. `shapes challenges`
+//! prints the challenges at which the leaf that is left out stands otherwise among its four.
 
 fn main() {
     if std::env::args().nth(1).as_deref() == Some("challenges") {
@@ -8,7 +8,7 @@ fn main() {
         }
         return;
     }
-    for (n, m, tau, t) in shapes::single() {
+    for (n, m, tau, t) in shapes::light() {
         println!("{n} {m} {tau} {t}");
     }
 }

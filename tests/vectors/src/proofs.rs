@@ -4,8 +4,11 @@ use crate::calls::{Call, CALLS};
 use crate::lent::{honest, toy, Lent};
 use crate::rsp::File;
 
-/// The sizes at the edges of a byte.
+/// Sizes of n, m and t: the edges of a byte.
 const EDGES: [usize; 4] = [1, 7, 8, 9];
+
+/// Sizes of tau, whose coordinates always fill whole bytes.
+const REPETITIONS: [usize; 4] = [1, 2, 3, 9];
 
 /// Sizes of every case: n, m, tau, t.
 fn shapes() -> Vec<[usize; 4]> {
@@ -14,16 +17,12 @@ fn shapes() -> Vec<[usize; 4]> {
     // pair of values comes once.
     for a in 0..4 {
         for (b, double) in [(0, 0), (1, 2), (2, 3), (3, 1)] {
-            shapes.push([a, b, a ^ b, a ^ double].map(|index| EDGES[index]));
+            shapes.push([EDGES[a], EDGES[b], REPETITIONS[a ^ b], EDGES[a ^ double]]);
         }
     }
-    // Each limit once, the other sizes small; and one with several words to each string.
-    shapes.extend([
-        [160, 2, 1, 3],
-        [2, 160, 1, 3],
-        [1, 1, 48, 1],
-        [3, 2, 1, 160],
-    ]);
+    // The limits of n, m and t, the other sizes small; of tau only five, since at its limit the leaves would have more
+    // than half a megabyte. And one with several words to each string.
+    shapes.extend([[160, 2, 1, 3], [2, 160, 1, 3], [3, 2, 5, 4], [3, 2, 1, 160]]);
     shapes.push([70, 17, 3, 65]);
     shapes
 }
