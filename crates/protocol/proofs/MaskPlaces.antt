@@ -1,7 +1,7 @@
 -- The places of the masks, from their definition.
 -- Assumes nothing.
-use mathlib.Core.Path.{_≡_, refl, ap, _∙_}
-use Prim.Native.Nat.{ℕ, suc, _+_, _*_}
+use mathlib.Core.Path.{refl, ap, _∙_}
+use Prim.Native.Nat.{ℕ, _+_, _*_}
 use native.Mathlib.Nat.{suc-mul, zero-mul, one-mul}
 use native.Mathlib.Omega.{arith}
 use Rattle.protocol.specs.Alphabet.{Alphabet}
