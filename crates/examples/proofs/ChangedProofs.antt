@@ -18,46 +18,46 @@ C-1 : Small 4 1 983041 16 2
 unfolding computing key leaves H′ χ Δ opened proof
 C-1 = record { reply-is = refl; factors-are = both bits16 key leaves H′ χ refl (lit< tt) (changed proof 4 1) 16 2 refl refl }
 
-d-1 : Small 10 1 983040 2 2
+d-1 : Small 11 1 983040 2 2
 unfolding computing key leaves H′ χ Δ opened proof
-d-1 = record { reply-is = refl; factors-are = both bits16 key leaves H′ χ refl (lit< tt) (changed proof 10 1) 2 2 refl refl }
+d-1 = record { reply-is = refl; factors-are = both bits16 key leaves H′ χ refl (lit< tt) (changed proof 11 1) 2 2 refl refl }
 
-well-formed : wellFormed bits16 key leaves H′ χ (changed proof 10 1) ≡ true
+well-formed : wellFormed bits16 key leaves H′ χ (changed proof 11 1) ≡ true
 unfolding computing key leaves H′ χ proof
 well-formed = refl
 
 -- the product of the two factors
-d-1-count : acceptedCount bits16 key leaves H′ χ (changed proof 10 1) ≡ 4
+d-1-count : acceptedCount bits16 key leaves H′ χ (changed proof 11 1) ≡ 4
 unfolding num2 key
-d-1-count = forgery-count bits16 key leaves H′ χ (changed proof 10 1) well-formed .count-is-product ∙ ap (λ l. getD l 0 0 * (getD l 1 0 * 1)) (d-1 .factors-are)
+d-1-count = forgery-count bits16 key leaves H′ χ (changed proof 11 1) well-formed .count-is-product ∙ ap (λ l. getD l 0 0 * (getD l 1 0 * 1)) (d-1 .factors-are)
 
-ũ-1 : Small 16 1 917504 1 1
+ũ-1 : Small 17 1 917504 1 1
 unfolding computing key leaves H′ χ Δ opened proof
-ũ-1 = record { reply-is = refl; factors-are = both bits16 key leaves H′ χ refl (lit< tt) (changed proof 16 1) 1 1 refl refl }
+ũ-1 = record { reply-is = refl; factors-are = both bits16 key leaves H′ χ refl (lit< tt) (changed proof 17 1) 1 1 refl refl }
 
-Ṽ-1 : Small 21 1 917504 0 16
+Ṽ-1 : Small 22 1 917504 0 16
 unfolding computing key leaves H′ χ Δ opened proof
-Ṽ-1 = record { reply-is = refl; factors-are = both bits16 key leaves H′ χ refl (lit< tt) (changed proof 21 1) 0 16 refl refl }
+Ṽ-1 = record { reply-is = refl; factors-are = both bits16 key leaves H′ χ refl (lit< tt) (changed proof 22 1) 0 16 refl refl }
 
-Ṽ-2 : Small 22 2 917504 0 16
+Ṽ-2 : Small 23 2 917504 0 16
 unfolding computing key leaves H′ χ Δ opened proof
-Ṽ-2 = record { reply-is = refl; factors-are = both bits16 key leaves H′ χ refl (lit< tt) (changed proof 22 2) 0 16 refl refl }
+Ṽ-2 = record { reply-is = refl; factors-are = both bits16 key leaves H′ χ refl (lit< tt) (changed proof 23 2) 0 16 refl refl }
 
-qs0-1 : Small 29 1 983040 0 16
+qs0-1 : Small 30 1 983040 0 16
 unfolding computing key leaves H′ χ Δ opened proof
-qs0-1 = record { reply-is = refl; factors-are = both bits16 key leaves H′ χ refl (lit< tt) (changed proof 29 1) 0 16 refl refl }
+qs0-1 = record { reply-is = refl; factors-are = both bits16 key leaves H′ χ refl (lit< tt) (changed proof 30 1) 0 16 refl refl }
 
-qs0-2 : Small 30 2 983041 16 0
+qs0-2 : Small 31 2 983041 16 0
 unfolding computing key leaves H′ χ Δ opened proof
-qs0-2 = record { reply-is = refl; factors-are = both bits16 key leaves H′ χ refl (lit< tt) (changed proof 30 2) 16 0 refl refl }
+qs0-2 = record { reply-is = refl; factors-are = both bits16 key leaves H′ χ refl (lit< tt) (changed proof 31 2) 16 0 refl refl }
 
-qs1-1 : Small 35 1 983040 1 16
+qs1-1 : Small 36 1 983040 1 16
 unfolding computing key leaves H′ χ Δ opened proof
-qs1-1 = record { reply-is = refl; factors-are = both bits16 key leaves H′ χ refl (lit< tt) (changed proof 35 1) 1 16 refl refl }
+qs1-1 = record { reply-is = refl; factors-are = both bits16 key leaves H′ χ refl (lit< tt) (changed proof 36 1) 1 16 refl refl }
 
-qs1-2 : Small 36 2 983041 16 1
+qs1-2 : Small 37 2 983041 16 1
 unfolding computing key leaves H′ χ Δ opened proof
-qs1-2 = record { reply-is = refl; factors-are = both bits16 key leaves H′ χ refl (lit< tt) (changed proof 36 2) 16 1 refl refl }
+qs1-2 = record { reply-is = refl; factors-are = both bits16 key leaves H′ χ refl (lit< tt) (changed proof 37 2) 16 1 refl refl }
 
 pub changed-proofs : ChangedProofs
 changed-proofs = record {

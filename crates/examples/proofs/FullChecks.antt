@@ -29,10 +29,10 @@ unfolding computing leaves Δ opened
 full-opening = refl
 
 unfoldable w-0 : List ℕ
-w-0 = 0x71 ∷ 0xB8 ∷ 0x83 ∷ 0x89 ∷ 0x8F ∷ 0x20 ∷ 0x6E ∷ 0xF9 ∷ 0x15 ∷ 0xDF ∷ 0xEF ∷ 0xA0 ∷ 0x9F ∷ 0x4E ∷ 0x22 ∷ 0x27 ∷ 0x37 ∷ 0x31 ∷ 0xA3 ∷ 0x9D ∷ 0x78 ∷ 0x01 ∷ []
+w-0 = 0x61 ∷ 0xAF ∷ 0xE8 ∷ 0x09 ∷ 0x0D ∷ 0x71 ∷ 0x3E ∷ 0x08 ∷ 0x4A ∷ 0x08 ∷ 0x6C ∷ 0xE3 ∷ 0x7B ∷ 0x36 ∷ 0xBE ∷ 0xDD ∷ 0xEA ∷ 0xAD ∷ 0x11 ∷ 0x9F ∷ 0x55 ∷ 0x65 ∷ 0x7E ∷ 0x5B ∷ 0x7C ∷ 0x72 ∷ 0xDE ∷ 0x27 ∷ 0x55 ∷ 0x9D ∷ []
 
 unfoldable w-1 : List ℕ
-w-1 = 0xFE ∷ 0xE0 ∷ 0x78 ∷ 0x1E ∷ 0x42 ∷ 0xB7 ∷ 0x71 ∷ 0xD3 ∷ 0x33 ∷ 0x02 ∷ 0xEE ∷ 0xAE ∷ 0x4D ∷ 0xC0 ∷ 0x27 ∷ 0x49 ∷ 0x4B ∷ 0x9B ∷ 0x09 ∷ 0x11 ∷ 0xFD ∷ 0x3B ∷ []
+w-1 = 0x38 ∷ 0xB7 ∷ 0xED ∷ 0x9C ∷ 0xD3 ∷ 0x62 ∷ 0x9E ∷ 0x15 ∷ 0xAD ∷ 0x6D ∷ 0xC2 ∷ 0x1C ∷ 0x6A ∷ 0x41 ∷ 0x95 ∷ 0xCA ∷ 0xFA ∷ 0x78 ∷ 0x0F ∷ 0xC7 ∷ 0xB7 ∷ 0x1A ∷ 0x69 ∷ 0xB9 ∷ 0x23 ∷ 0xC5 ∷ 0xE7 ∷ 0xED ∷ 0x0A ∷ 0x8D ∷ []
 
 abbrev p : Sections
 p = sectionsIn bits256 sizes proof
@@ -69,13 +69,13 @@ checks-1 : Checks 1 0xC6 (entry gf256 sizes w-1)
 unfolding computing key H′ χ proof w-1
 checks-1 = (refl, refl)
 
-from-table : (e δ : ℕ) (f g : ℕ → gf256 .base .R .F) → Near gf256 sizes f g → Checks e δ g → Checks e δ f
-from-table e δ f g n k = (consistent-is gf256 sizes H′ p e (gf256 .elem δ) f g n ∙ k .0, product-is gf256 sizes key χ p e (gf256 .elem δ) f g n ∙ k .1)
+from-table : (e δ : ℕ) (f g : ℕ → gf256 .base .R .F) → e < 2 → Near gf256 sizes f g → Checks e δ g → Checks e δ f
+from-table e δ f g l n k = (consistent-is gf256 sizes H′ p e (gf256 .elem δ) f g n ∙ k .0, product-is gf256 sizes key χ p e (gf256 .elem δ) f g l n ∙ k .1)
 
 checks : (e : ℕ) → e < 2 → (consistentIn bits256 sizes Δ H′ opened proof e ≡ true) × (productIn bits256 sizes key Δ χ opened proof e ≡ true)
 unfolding consistentIn productIn consistentAt productAt Δ
-checks zero l = from-table 0 0xCB _ (entry gf256 sizes w-0) (near gf256 sizes _ w-0 w-0-is) checks-0
-checks (suc zero) l = from-table 1 0xC6 _ (entry gf256 sizes w-1) (near gf256 sizes _ w-1 w-1-is) checks-1
+checks zero l = from-table 0 0xCB _ (entry gf256 sizes w-0) l (near gf256 sizes _ w-0 w-0-is) checks-0
+checks (suc zero) l = from-table 1 0xC6 _ (entry gf256 sizes w-1) l (near gf256 sizes _ w-1 w-1-is) checks-1
 checks (suc (suc e)) l = absurd (omega arith)
 
 pub full-accepts : FullAccepts

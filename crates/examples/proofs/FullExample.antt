@@ -36,27 +36,27 @@ near-v zero l = near gf256 sizes (v bits256 sizes leaves 0) v-0 (full-sums .v-0-
 near-v (suc zero) l = near gf256 sizes (v bits256 sizes leaves 1) v-1 (full-sums .v-1-is)
 near-v (suc (suc e)) l = absurd (omega arith)
 
-c-computed : cOf gf256 sizes leaves û v̂ ≡ 0xE2 ∷ 0x3C ∷ 0x09 ∷ []
+c-computed : cOf gf256 sizes leaves û v̂ ≡ 0x48 ∷ 0xE6 ∷ 0xEE ∷ 0x2F ∷ []
 unfolding computing u-0 u-1
 c-computed = refl
 
-d-computed : maskedOf gf256 sizes leaves û v̂ witness ≡ 0x82 ∷ 0x00 ∷ []
+d-computed : maskedOf gf256 sizes leaves û v̂ witness ≡ 0x0B ∷ 0x01 ∷ []
 unfolding computing u-0 witness
 d-computed = refl
 
-ũ-computed : ũOf gf256 sizes leaves û v̂ H′ ≡ 0x16 ∷ []
+ũ-computed : ũOf gf256 sizes leaves û v̂ H′ ≡ 0x19 ∷ []
 unfolding computing u-0 H′
 ũ-computed = refl
 
-Ṽ-computed : ṼOf gf256 sizes leaves û v̂ H′ ≡ 0x55 ∷ 0xA1 ∷ 0x59 ∷ 0xF2 ∷ 0x81 ∷ 0x07 ∷ 0xB0 ∷ 0xB6 ∷ 0x3D ∷ 0x4A ∷ []
+Ṽ-computed : ṼOf gf256 sizes leaves û v̂ H′ ≡ 0x6F ∷ 0xCE ∷ 0x20 ∷ 0x8C ∷ 0x96 ∷ 0x17 ∷ 0xA6 ∷ 0x62 ∷ 0x52 ∷ 0x5B ∷ []
 unfolding computing v-0 v-1 H′
 Ṽ-computed = refl
 
-qs0-computed : qs0Of gf256 sizes leaves û v̂ key χ ≡ 0xB7 ∷ 0x9B ∷ []
+qs0-computed : qs0Of gf256 sizes leaves û v̂ key χ ≡ 0x67 ∷ 0xCE ∷ []
 unfolding computing v-0 v-1 key χ
 qs0-computed = refl
 
-qs1-computed : qs1Of gf256 sizes leaves û v̂ key witness χ ≡ 0x86 ∷ 0x42 ∷ []
+qs1-computed : qs1Of gf256 sizes leaves û v̂ key witness χ ≡ 0x52 ∷ 0x56 ∷ []
 unfolding computing u-0 v-0 v-1 key witness χ
 qs1-computed = refl
 

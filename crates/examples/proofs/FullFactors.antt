@@ -1,28 +1,22 @@
 -- The factors of the full example's changed proofs: the coefficients of the conditions are computed from the tables of
 -- u and v.
 -- Assumes nothing.
-use mathlib.Core.Path.{_≡_, refl, sym, ap, ap₂, _∙_, subst}
+use mathlib.Core.Path.{_≡_, refl, ap₂, _∙_}
 use mathlib.Core.Bool.{true}
 use mathlib.Core.List.{List, [], _∷_}
 use Prim.Native.Nat.{ℕ, _<_}
 use lib.Dec.{lit<}
-use Rattle.algebra.specs.Ring.{Ring}
 use Rattle.algebra.specs.Field.{Field}
 use Rattle.algebra.specs.Coded.{Coded}
-use Rattle.algebra.specs.Count.{count}
-use Rattle.algebra.specs.Roots.{Conditions, passing}
 use Rattle.field.specs.Gf256.{gf256}
 use Rattle.protocol.specs.Binary.{bits256}
 use Rattle.protocol.specs.Shape.{Shape, shapeOf, perTree}
-use Rattle.protocol.specs.Sections.{Sections, sectionsIn}
 use Rattle.protocol.specs.Questions.{leavesExact}
 use Rattle.protocol.specs.Counting.{factor}
-use Rattle.protocol.specs.Coefficients.{conditions}
 use Rattle.protocol.specs.SmallExample.{changed}
 use Rattle.protocol.proofs.Computing.{computing}
-use Rattle.protocol.proofs.Theorems.{factor-is}
 use Rattle.examples.specs.FullExample.{sizes, key, leaves, H′, χ, proof, u-0, u-1, v-0, v-1, factors, FullFactors}
-use Rattle.examples.proofs.TableLaws.{conditionsOf, conditions-is}
+use Rattle.examples.proofs.ExampleFactors.{passedFrom, factor-from}
 use Rattle.examples.proofs.FullSums.{full-sums}
 use Rattle.examples.proofs.FullExample.{û, v̂, near-u, near-v}
 
@@ -31,13 +25,10 @@ unfolding computing key leaves
 exact = refl
 
 abbrev passed : List ℕ → ℕ → ℕ
-passed p e = count (passing (gf256 .base) (conditionsOf gf256 sizes key leaves H′ χ (sectionsIn bits256 sizes p) e (û e) (v̂ e))) (gf256 .base .elements)
+passed p e = passedFrom gf256 sizes key leaves H′ χ (full-sums .header-is) exact p e (û e) (v̂ e)
 
 factor-passed : (p : List ℕ) (e : ℕ) → e < 2 → factor bits256 key leaves H′ χ p e ≡ passed p e
-factor-passed p e l =
-    factor-is bits256 key leaves H′ χ p exact e (subst (λ s. e < s .τ) (sym (full-sums .header-is)) l)
-    ∙ ap (λ s. count (passing (gf256 .base) (conditions bits256 s key leaves H′ χ (sectionsIn bits256 s p) e)) (gf256 .base .elements)) (full-sums .header-is)
-    ∙ ap (λ c. count (passing (gf256 .base) c) (gf256 .base .elements)) (conditions-is gf256 sizes key leaves H′ χ (sectionsIn bits256 sizes p) e (û e) (v̂ e) (near-u e l) (near-v e l))
+factor-passed p e l = factor-from gf256 sizes key leaves H′ χ (full-sums .header-is) exact p e (û e) (v̂ e) l (near-u e l) (near-v e l)
 
 both : (p : List ℕ) (a b : ℕ) → passed p 0 ≡ a → passed p 1 ≡ b → factors p ≡ a ∷ b ∷ []
 both p a b f g = ap₂ (λ x y. x ∷ y ∷ []) (factor-passed p 0 (lit< tt) ∙ f) (factor-passed p 1 (lit< tt) ∙ g)
@@ -46,9 +37,9 @@ c-factors : factors (changed proof 4 1) ≡ 256 ∷ 1 ∷ []
 unfolding computing key H′ χ proof u-0 u-1 v-0 v-1
 c-factors = both (changed proof 4 1) 256 1 refl refl
 
-d-factors : factors (changed proof 11 1) ≡ 2 ∷ 2 ∷ []
+d-factors : factors (changed proof 12 1) ≡ 2 ∷ 1 ∷ []
 unfolding computing key H′ χ proof u-0 u-1 v-0 v-1
-d-factors = both (changed proof 11 1) 2 2 refl refl
+d-factors = both (changed proof 12 1) 2 1 refl refl
 
 pub full-factors : FullFactors
 full-factors = record { C-factors = c-factors; d-factors = d-factors }

@@ -17,3 +17,5 @@ pub mod FullSums
 pub mod FullExample
 pub mod FullChecks
 pub mod FullFactors
+pub mod ThreeSums
+pub mod FullThree

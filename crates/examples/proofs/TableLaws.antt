@@ -91,7 +91,7 @@ module _ (K : Coded) (s : Shape) where
       qs0-is key χ =
           table-congr (s .τ) _ _
           (λ e l. let n : (c : ℕ) → c < s .n → v A s leaves e c ≡ v̂ e c = λ c k. hv e l c (n-below A s c k) in
-          ap₂ (λ x y. byte (x ⊕ y)) (ap (batch A s χ e) (λ j i. quad-congr A s key i _ (v̂ e) _ (v̂ e) n n j)) (mask-congr A s e _ (v̂ e) (hv e l)))
+          ap₂ (λ x y. byte (x ⊕ y)) (ap (batch A s χ e) (λ j i. quad-congr A s key i _ (v̂ e) _ (v̂ e) n n j)) (mask-congr A s e _ (v̂ e) l (hv e l)))
 
       pub qs1-is : (key x χ : List ℕ) → qs1Section (binary K) s leaves key x χ ≡ qs1Of key x χ
       unfolding qs1Section qs1 a₁ middle
@@ -101,7 +101,7 @@ module _ (K : Coded) (s : Shape) where
           let w = symbol A x in
           let m : (i : ℕ) → middle A s key i (v A s leaves e) w ≡ middle A s key i (v̂ e) w = λ i.
           ap₂ _⊕_ (ap₂ _⊕_ (quad-congr A s key i _ (v̂ e) w w n (λ c k. refl)) (quad-congr A s key i w w _ (v̂ e) (λ c k. refl) n)) (lin-congr A s key i _ (v̂ e) n) in
-          ap₂ (λ x y. byte (x ⊕ y)) (ap (batch A s χ e) (λ j i. m i j)) (mask-congr A s e _ (û 0) (hu 0 one)))
+          ap₂ (λ x y. byte (x ⊕ y)) (ap (batch A s χ e) (λ j i. m i j)) (mask-congr A s e _ (û 0) l (hu 0 one)))
 
   -- ---- the verifier's checks, with any vector for W
 
@@ -114,12 +114,12 @@ module _ (K : Coded) (s : Shape) where
   unfolding keyAt
   key-congr p δ f g k c l = ap (λ z. z ⊕ δ ⊗ symbol A (p .d) c) (k c (n-below A s c l))
 
-  pub product-is : (key χ : List ℕ) (p : Sections) (e : ℕ) (δ : F) (f g : ℕ → F) → Near f g → productHolds (binary K) s key χ p e δ f ≡ productHolds (binary K) s key χ p e δ g
+  pub product-is : (key χ : List ℕ) (p : Sections) (e : ℕ) (δ : F) (f g : ℕ → F) → e < s .τ → Near f g → productHolds (binary K) s key χ p e δ f ≡ productHolds (binary K) s key χ p e δ g
   unfolding productHolds productLeft
-  product-is key χ p e δ f g k =
+  product-is key χ p e δ f g le k =
       let n = key-congr p δ f g k in
       ap₂ (λ x y. same? (batch A s χ e x ⊕ y) (elemAt A (p .QS0) e ⊕ elemAt A (p .QS1) e ⊗ δ))
-      (λ j i. ap₂ (λ x y. x ⊕ δ ⊗ y ⊕ yOf A s key i ⊗ (δ ⊗ δ)) (quad-congr A s key i _ _ _ _ n n) (lin-congr A s key i _ _ n) j) (mask-congr A s e f g k)
+      (λ j i. ap₂ (λ x y. x ⊕ δ ⊗ y ⊕ yOf A s key i ⊗ (δ ⊗ δ)) (quad-congr A s key i _ _ _ _ n n) (lin-congr A s key i _ _ n) j) (mask-congr A s e f g le k)
 
   -- ---- the conditions of a repetition, with any vectors for u_e and v_e
 
@@ -138,7 +138,7 @@ module _ (K : Coded) (s : Shape) where
       c2 = batch (binary K) s χ e (λ i. error (binary K) s key i candidateOf);
     }
 
-    module _ (hu : Near (u (binary K) s leaves e) û) (hv : Near (v (binary K) s leaves e) v̂) where
+    module _ (le : e < s .τ) (hu : Near (u (binary K) s leaves e) û) (hv : Near (v (binary K) s leaves e) v̂) where
       near-shift : Near (shift A s key leaves H′ χ p e) shiftOf
       near-shift c l = ap (λ z. z ⊕ correctionAt A s p e c) (hu c l)
 
@@ -156,10 +156,10 @@ module _ (K : Coded) (s : Shape) where
           a = hash-congr A s H′ ρ _ v̂ hv j ⊕ elemAt A (p .Ṽ) (e * s .t + ρ);
           b = hash-congr A s H′ ρ _ shiftOf near-shift j ⊕ symbol A (p .ũ) ρ;
         });
-        c0 = batch A s χ e (λ i. quad-congr A s key i _ v̂ _ v̂ n-v n-v j) ⊕ mask-congr A s e _ v̂ hv j ⊕ elemAt A (p .QS0) e;
+        c0 = batch A s χ e (λ i. quad-congr A s key i _ v̂ _ v̂ n-v n-v j) ⊕ mask-congr A s e _ v̂ le hv j ⊕ elemAt A (p .QS0) e;
         c1 =
             batch A s χ e (λ i. quad-congr A s key i _ v̂ _ candidateOf n-v near-candidate j ⊕ quad-congr A s key i _ candidateOf _ v̂ near-candidate n-v j
-            ⊕ lin-congr A s key i _ v̂ n-v j) ⊕ mask-congr A s e _ shiftOf near-shift j ⊕ elemAt A (p .QS1) e;
+            ⊕ lin-congr A s key i _ v̂ n-v j) ⊕ mask-congr A s e _ shiftOf le near-shift j ⊕ elemAt A (p .QS1) e;
         c2 =
             batch A s χ e (λ i. quad-congr A s key i _ candidateOf _ candidateOf near-candidate near-candidate j ⊕ lin-congr A s key i _ candidateOf near-candidate j ⊕ yOf A s key i);
       }

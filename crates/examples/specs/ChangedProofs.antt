@@ -1,6 +1,6 @@
 -- Proofs of SmallExample with one byte changed: the verifier's reply, and the factors of both repetitions.
--- proofs/ChangedProofs computes each statement. They are changed lines of entry 0 of the vectors sittings-degree4.rsp,
--- made from the papers by other hands.
+-- proofs/ChangedProofs computes each statement. They are changed lines of sitting 0 of the vectors masks-degree4.rsp
+-- (tests/reference), made from the papers by other hands.
 --   factors p == the factors of both repetitions of SmallExample's key, leaves, H′ and χ with the proof p
 --   Small i x r f g == of SmallExample's proof with byte i xor x, the reply is r and the factors are f and g
 -- Assumes nothing.
@@ -19,13 +19,13 @@ pub record Small (i x r f g : ℕ) : Type 0 where
 
 pub record ChangedProofs : Type 0 where
   pub C-1 : Small 4 1 983041 16 2
-  pub d-1 : Small 10 1 983040 2 2
+  pub d-1 : Small 11 1 983040 2 2
   -- in each repetition two challenges still pass, so that four strings are accepted
-  pub d-1-count : acceptedCount bits16 key leaves H′ χ (changed proof 10 1) ≡ 4
-  pub ũ-1 : Small 16 1 917504 1 1
-  pub Ṽ-1 : Small 21 1 917504 0 16
-  pub Ṽ-2 : Small 22 2 917504 0 16
-  pub QS0-1 : Small 29 1 983040 0 16
-  pub QS0-2 : Small 30 2 983041 16 0
-  pub QS1-1 : Small 35 1 983040 1 16
-  pub QS1-2 : Small 36 2 983041 16 1
+  pub d-1-count : acceptedCount bits16 key leaves H′ χ (changed proof 11 1) ≡ 4
+  pub ũ-1 : Small 17 1 917504 1 1
+  pub Ṽ-1 : Small 22 1 917504 0 16
+  pub Ṽ-2 : Small 23 2 917504 0 16
+  pub QS0-1 : Small 30 1 983040 0 16
+  pub QS0-2 : Small 31 2 983041 16 0
+  pub QS1-1 : Small 36 1 983040 1 16
+  pub QS1-2 : Small 37 2 983041 16 1

@@ -5,3 +5,4 @@ pub mod CheckLine
 pub mod ChangedProofs
 pub mod CountedExample
 pub mod FullExample
+pub mod FullThree

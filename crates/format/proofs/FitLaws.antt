@@ -36,10 +36,10 @@ module _ (s : Shape) where
   unfolding maskAt kOf
   mask-below e h = omega arith
 
-  -- the mask coordinates are in a leaf
-  pub mask-fits : s .n + gf256 .degree ≤ 8 * wOf bits256 s
+  -- the variables' coordinates are in a leaf
+  pub variables-fit : s .n ≤ 8 * wOf bits256 s
   unfolding wOf lOf kOf bytesFor
-  mask-fits = omega arith
+  variables-fit = omega arith
 
   -- and so is each of the first k among all
   pub k-below : (c : ℕ) → c < kOf bits256 s → c < lOf bits256 s

@@ -17,7 +17,7 @@ use Rattle.protocol.specs.Frames.{framedLength}
 use Rattle.protocol.specs.Key.{keyLengths}
 use Rattle.protocol.specs.Sections.{lengths, commitLengths, hashLengths, batchLengths}
 use Rattle.protocol.specs.Shape.{Shape, within, mostVariables, mostEquations, mostRepetitions, mostHashRows, limits, kOf, lOf, wOf}
-use Rattle.format.specs.Limits.{mostHashed, mostLeaf, mostRow}
+use Rattle.format.specs.Limits.{mostHashed, mostLeaf, mostRow, mostWitness}
 use Rattle.protocol.proofs.TestLaws.{leb-le, all-true}
 use Rattle.protocol.proofs.LimitLaws.{within-le}
 
@@ -84,16 +84,16 @@ module _ (s : Shape) (h : limits s ≡ true) where
   pub hashed-most : s .τ * s .t ≤ mostRepetitions * mostHashRows
   hashed-most = mul-le-mul (in-limits s h .τ-most) (in-limits s h .t-most)
 
-  pub row-most : bytesFor (s .n) ≤ mostRow
-  row-most = let b = in-limits s h in bytes-most (s .n) (omega arith)
+  pub row-most : bytesFor (s .n) ≤ mostWitness
+  row-most = bytes-up-to mostVariables (s .n) (in-limits s h .n-most)
 
   pub matrix-rows-most : s .m * s .n ≤ mostEquations * mostVariables
   matrix-rows-most = mul-le-mul (in-limits s h .m-most) (in-limits s h .n-most)
 
-  pub matrices-most : s .m * s .n * bytesFor (s .n) ≤ mostEquations * mostVariables * mostRow
+  pub matrices-most : s .m * s .n * bytesFor (s .n) ≤ mostEquations * mostVariables * mostWitness
   matrices-most = mul-le-mul matrix-rows-most row-most
 
-  pub linear-most : s .m * bytesFor (s .n) ≤ mostEquations * mostRow
+  pub linear-most : s .m * bytesFor (s .n) ≤ mostEquations * mostWitness
   linear-most = mul-le-mul (in-limits s h .m-most) row-most
 
   -- a tree has at most as many leaves as the field has elements
@@ -104,7 +104,7 @@ module _ (s : Shape) (h : limits s ≡ true) where
   leaves-most per l = mul-le-mul (trees-most per l) w-most
 
   -- strings of sections, each after its count of four bytes
-  pub commit-most : framedLength (commitLengths bits256 s) ≤ 2 * 4 + (mostRepetitions - 1) * mostLeaf + mostRow
+  pub commit-most : framedLength (commitLengths bits256 s) ≤ 2 * 4 + (mostRepetitions - 1) * mostLeaf + mostWitness
   unfolding framedLength commitLengths
   commit-most = omega (arith, corrections-most, row-most)
 
@@ -118,10 +118,10 @@ module _ (s : Shape) (h : limits s ≡ true) where
 
   pub proof-most
       : framedLength (lengths bits256 s)
-      ≤ 6 * 4 + (mostRepetitions - 1) * mostLeaf + mostRow + (mostHashRows + 7) / 8 + mostRepetitions * mostHashRows + 2 * mostRepetitions
+      ≤ 6 * 4 + (mostRepetitions - 1) * mostLeaf + mostWitness + (mostHashRows + 7) / 8 + mostRepetitions * mostHashRows + 2 * mostRepetitions
   unfolding framedLength lengths
   proof-most = let b = in-limits s h in omega (arith, corrections-most, row-most, bytes-up-to mostHashRows (s .t) (b .t-most), hashed-most)
 
-  pub key-most : framedLength (keyLengths bits256 s) ≤ 3 * 4 + mostEquations * mostVariables * mostRow + mostEquations * mostRow + (mostEquations + 7) / 8
+  pub key-most : framedLength (keyLengths bits256 s) ≤ 3 * 4 + mostEquations * mostVariables * mostWitness + mostEquations * mostWitness + (mostEquations + 7) / 8
   unfolding framedLength keyLengths
   key-most = let b = in-limits s h in omega (arith, matrices-most, linear-most, bytes-up-to mostEquations (s .m) (b .m-most))

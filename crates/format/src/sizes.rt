@@ -36,7 +36,7 @@ pub const MOST_REPETITIONS: usize = 48;
 pub const MOST_HASH_ROWS: usize = 160;
 
 // What the largest key has: the coordinates that a row of H′ covers, and the bytes of a leaf.
-pub const MOST_HASHED: usize = MOST_VARIABLES + Gf256::DEGREE;
+pub const MOST_HASHED: usize = MOST_VARIABLES + MOST_REPETITIONS * Gf256::DEGREE;
 
 pub const MOST_LEAF: usize = (MOST_HASHED + MOST_HASH_ROWS + 7) / BITS;
 
@@ -102,19 +102,21 @@ pub fn degree_of(s: Sizes) -> usize
     Gf256::DEGREE
 }
 
-// The first mask coordinate of repetition e. The mask coordinates serve every repetition.
+// The first mask coordinate of repetition e. Each repetition has its own mask, as many coordinates as the degree, and
+// they stand one after another.
 pub fn mask_at(s: Sizes, e: usize) -> usize
+    requires { ⌜ maskAt (alphabetFor s) (shapeFor s) e < 2 ^ 64 ⌝ }
     ensures { λ r. ⌜ r ≡ maskAt (alphabetFor s) (shapeFor s) e ⌝ }
 {
-    s.n
+    s.n + e * Gf256::DEGREE
 }
 
-// k = n + the degree: the coordinates that a row of H′ covers.
+// k = n + the masks of all repetitions: the coordinates that a row of H′ covers.
 pub fn hashed_bits(s: Sizes) -> usize
     requires { ⌜ limits (shapeFor s) ≡ true ⌝ }
     ensures { λ r. ⌜ r ≡ kOf (alphabetFor s) (shapeFor s) ⌝ }
 {
-    s.n + Gf256::DEGREE
+    s.n + s.tau * Gf256::DEGREE
 }
 
 // L = k + t: the coordinates of a leaf.

@@ -2,11 +2,13 @@
 -- No theorem is used, so that an edit of the definitions meets a value.
 -- Assumes nothing.
 use Rattle.protocol.specs.Binary.{bits256}
+use Rattle.protocol.specs.MaskPlaces.{MaskPlaces}
 use Rattle.protocol.specs.SmallExample.{SmallKey, SmallColumns, SmallBytes, SmallProof, SmallReplies}
 use Rattle.protocol.specs.ThreeRepetitions.{ThreeRepetitions}
 use Rattle.protocol.specs.QuestionNumbers.{QuestionNumbers}
 use Rattle.protocol.specs.Edges.{Limits, Forms, Numbers, Lengths, Order, Derived, Extents, Words}
 use Rattle.protocol.specs.Refusals.{Refusals, Taken}
+use Rattle.protocol.proofs.MaskPlaces.{mask-places}
 use Rattle.protocol.proofs.SmallExample.{small-key, small-columns, small-bytes, small-proof, small-replies}
 use Rattle.protocol.proofs.ThreeRepetitions.{three-repetitions}
 use Rattle.protocol.proofs.QuestionNumbers.{question-numbers}
@@ -21,6 +23,9 @@ edges = (limits-are, forms-are, numbers-are, lengths-are, order-is, derived-are,
 
 pub calls : Refusals × Taken
 calls = (refusals-are, all-taken)
+
+pub masks-placed : MaskPlaces bits256
+masks-placed = mask-places bits256
 
 pub questions-put : QuestionNumbers bits256
 questions-put = question-numbers bits256

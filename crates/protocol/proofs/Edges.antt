@@ -53,6 +53,7 @@ forms-are = record {
   witness-last = refl;
   proof-spare = refl;
   C-spare-set = refl;
+  C-last = refl;
   d-spare-set = refl;
   d-last = refl;
   ũ-spare-set = refl;
@@ -111,6 +112,13 @@ derived-are = record {
   w-is = refl;
   tree-is = refl;
   opened-is = refl;
+  k-largest = refl;
+  L-largest = refl;
+  w-largest = refl;
+  mask-second = refl;
+  mask-last = refl;
+  k-sixteen = refl;
+  mask-sixteen = refl;
 }
 
 pub extents-are : Extents

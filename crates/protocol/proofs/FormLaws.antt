@@ -16,6 +16,7 @@ use Rattle.protocol.specs.Alphabet.{Alphabet}
 use Rattle.protocol.specs.Shape.{Shape, maskAt, kOf, lOf}
 use Rattle.protocol.specs.Key.{aSym, bSym}
 use Rattle.protocol.specs.Forms.{α, quad, lin, yOf, middle, error, h, hash, maskOf, χAt, batch}
+use Rattle.protocol.proofs.ListLaws.{row-end}
 
 module _ (A : Alphabet) (s : Shape) where
   open Alphabet A using (K, masks)
@@ -29,9 +30,14 @@ module _ (A : Alphabet) (s : Shape) where
   unfolding hash
   hash-congr H′ ρ f g e = sum-congr R (lOf A s) _ _ (λ c l. ap (λ z. h A s H′ ρ c ⊗ z) (e c l))
 
-  pub mask-congr : (e : ℕ) (f g : ℕ → F) → ((c : ℕ) → c < lOf A s → f c ≡ g c) → maskOf A s e f ≡ maskOf A s e g
-  unfolding maskOf maskAt lOf kOf
-  mask-congr e f g k = sum-congr R masks _ _ (λ i l. ap (λ z. power R (α A) i ⊗ z) (k (s .n + i) (omega arith)))
+  -- the mask coordinates of a repetition are among the first k
+  pub mask-in : (e i : ℕ) → e < s .τ → i < masks → maskAt A s e + i < kOf A s
+  unfolding maskAt kOf
+  mask-in e i le l = omega (arith, row-end e (s .τ) masks le)
+
+  pub mask-congr : (e : ℕ) (f g : ℕ → F) → e < s .τ → ((c : ℕ) → c < lOf A s → f c ≡ g c) → maskOf A s e f ≡ maskOf A s e g
+  unfolding maskOf lOf
+  mask-congr e f g le k = sum-congr R masks _ _ (λ i l. ap (λ z. power R (α A) i ⊗ z) (k (maskAt A s e + i) (omega (arith, mask-in e i le l))))
 
   pub quad-congr : (key : List ℕ) (i : ℕ) (f f′ g g′ : ℕ → F) → ((c : ℕ) → c < s .n → f c ≡ f′ c) → ((c : ℕ) → c < s .n → g c ≡ g′ c) → quad A s key i f g ≡ quad A s key i f′ g′
   unfolding quad form

@@ -146,7 +146,7 @@ module _ (A : Alphabet) (laws : Lawful A) where
         c1-zero : conditions A s key leaves H′ χ P e .c1 ≡ 𝟘
         unfolding qs1
         c1-zero =
-            ap₂ _⊕_ (ap₂ _⊕_ (batch-congr A s χ e _ (a₁ A s leaves key x e) (λ i l. middle-is i)) (mask-congr A s e (shift A s key leaves H′ χ P e) (u A s leaves 0) (shift-is e le))) (QS1-is e le)
+            ap₂ _⊕_ (ap₂ _⊕_ (batch-congr A s χ e _ (a₁ A s leaves key x e) (λ i l. middle-is i)) (mask-congr A s e (shift A s key leaves H′ χ P e) (u A s leaves 0) le (shift-is e le))) (QS1-is e le)
             ∙ R .add-self _
 
         module _ (solved : (i : ℕ) → i < s .m → error A s key i (symbol A x) ≡ 𝟘) where
@@ -196,10 +196,10 @@ module _ (A : Alphabet) (laws : Lawful A) where
       lengths-are = λ i. C-length i ∷ d-length i ∷ ũ-length i ∷ Ṽ-length H′ i ∷ QS0-length i ∷ QS1-length i ∷ []
 
       module _ (b : Bounds s) where
-        -- an alphabet has at most eight mask coordinates, and at most a byte to a symbol
-        w≤ : wOf A s ≤ mostVariables + 8 + mostHashRows
+        -- a mask has at most eight coordinates, and a symbol at most a byte
+        w≤ : wOf A s ≤ mostVariables + mostRepetitions * 8 + mostHashRows
         unfolding wOf lOf kOf
-        w≤ = omega (arith, laws .width-le (s .n + A .masks + s .t), laws .masks-le, b .n≤, b .t≤)
+        w≤ = omega (arith, laws .width-le (s .n + s .τ * A .masks + s .t), mul-le-mul (b .τ≤) (laws .masks-le), b .n≤, b .t≤)
 
         short : Short six
         short = (omega (arith, C-length, mul-le-mul τ′ w≤), (omega (arith, d-length, laws .width-le (s .n), b .n≤), (omega (arith, ũ-length, laws .width-le (s .t), b .t≤), (omega (arith, Ṽ-length H′, mul-le-mul (b .τ≤) (b .t≤)), (omega (arith, QS0-length, b .τ≤), (omega (arith, QS1-length, b .τ≤), tt))))))

@@ -1,4 +1,5 @@
 pub mod Computing
+pub mod MaskPlaces
 pub mod QuestionNumbers
 pub mod SmallExample
 pub mod ThreeRepetitions

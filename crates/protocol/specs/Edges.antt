@@ -4,7 +4,7 @@
 -- Key, leaves and proof are those of SmallExample with bytes changed. A spare bit that is set is the first one of the
 -- last row (A-spare-set), the last one of the first row (A-first-row), or the last one of the only row (y-last).
 -- That each call is refused by each of its questions, Refusals has.
---   allowed n m τ t == the limits admit these sizes;  toy == the sizes of 01's toy
+--   allowed n m τ t == the limits admit these sizes;  toy == the sizes of 01's toy;  largest == the most of each
 -- Assumes nothing.
 use mathlib.Core.Path.{_≡_}
 use mathlib.Core.Bool.{Bool, true, false}
@@ -14,7 +14,7 @@ use lib.ListN.{replicate, take}
 use Rattle.protocol.specs.Frames.{num2, num4, count4}
 use Rattle.protocol.specs.Reader.{between, missing, sectionAt}
 use Rattle.protocol.specs.Binary.{bits256}
-use Rattle.protocol.specs.Shape.{Shape, limits, perTree, perOpened, kOf, lOf, wOf}
+use Rattle.protocol.specs.Shape.{Shape, limits, perTree, perOpened, maskAt, kOf, lOf, wOf}
 use Rattle.protocol.specs.Key.{keyExact, keySpare}
 use Rattle.protocol.specs.Sections.{sectionsIn}
 use Rattle.protocol.specs.Answers.{Answer, accepted, refused, word}
@@ -27,6 +27,9 @@ allowed n m τ t = limits (record { n = n; m = m; τ = τ; t = t })
 
 abbrev pub toy : Shape
 toy = record { n = 2; m = 1; τ = 1; t = 1 }
+
+abbrev pub largest : Shape
+largest = record { n = 160; m = 160; τ = 48; t = 160 }
 
 pub record Limits : Type 0 where
   pub least : allowed 1 1 1 1 ≡ true
@@ -55,25 +58,26 @@ pub record Forms : Type 0 where
   pub y-spare-set : keySpare bits16 sizes (changed key 60 0x04) ≡ false
   pub y-last : keySpare bits16 sizes (changed key 60 0x80) ≡ false
   pub H-spare : hSpare bits16 sizes H′ ≡ true
-  pub H-spare-set : hSpare bits16 sizes (changed H′ 3 0x20) ≡ false
-  pub H-first-row : hSpare bits16 sizes (changed H′ 1 0x80) ≡ false
+  pub H-spare-set : hSpare bits16 sizes (changed H′ 5 0x02) ≡ false
+  pub H-first-row : hSpare bits16 sizes (changed H′ 2 0x80) ≡ false
   pub leaves-spare : leavesSpare bits16 sizes (perTree bits16) leaves ≡ true
-  pub leaves-spare-set : leavesSpare bits16 sizes (perTree bits16) (changed leaves 63 0x80) ≡ false
-  pub leaves-first-row : leavesSpare bits16 sizes (perTree bits16) (changed leaves 1 0x80) ≡ false
+  pub leaves-spare-set : leavesSpare bits16 sizes (perTree bits16) (changed leaves 95 0x08) ≡ false
+  pub leaves-first-row : leavesSpare bits16 sizes (perTree bits16) (changed leaves 2 0x80) ≡ false
   pub opened-spare : leavesSpare bits16 sizes (perOpened bits16) opened ≡ true
-  pub opened-spare-set : leavesSpare bits16 sizes (perOpened bits16) (changed opened 59 0x80) ≡ false
-  pub opened-first-row : leavesSpare bits16 sizes (perOpened bits16) (changed opened 1 0x80) ≡ false
+  pub opened-spare-set : leavesSpare bits16 sizes (perOpened bits16) (changed opened 89 0x08) ≡ false
+  pub opened-first-row : leavesSpare bits16 sizes (perOpened bits16) (changed opened 2 0x80) ≡ false
   pub witness-form : witnessForm bits16 sizes witness ≡ true
   pub witness-spare-set : witnessForm bits16 sizes (changed witness 1 0x02) ≡ false
   pub witness-long : witnessForm bits16 sizes (witness ++ (0x00 ∷ [])) ≡ false
   pub witness-short : witnessForm bits16 sizes (take 1 witness) ≡ false
   pub witness-last : witnessForm bits16 sizes (changed witness 1 0x80) ≡ false
   pub proof-spare : proofSpare bits16 sizes (sectionsIn bits16 sizes proof) ≡ true
-  pub C-spare-set : proofSpare bits16 sizes (sectionsIn bits16 sizes (changed proof 5 0x80)) ≡ false
-  pub d-spare-set : proofSpare bits16 sizes (sectionsIn bits16 sizes (changed proof 11 0x02)) ≡ false
-  pub d-last : proofSpare bits16 sizes (sectionsIn bits16 sizes (changed proof 11 0x80)) ≡ false
-  pub ũ-spare-set : proofSpare bits16 sizes (sectionsIn bits16 sizes (changed proof 16 0x04)) ≡ false
-  pub ũ-last : proofSpare bits16 sizes (sectionsIn bits16 sizes (changed proof 16 0x80)) ≡ false
+  pub C-spare-set : proofSpare bits16 sizes (sectionsIn bits16 sizes (changed proof 6 0x08)) ≡ false
+  pub C-last : proofSpare bits16 sizes (sectionsIn bits16 sizes (changed proof 6 0x80)) ≡ false
+  pub d-spare-set : proofSpare bits16 sizes (sectionsIn bits16 sizes (changed proof 12 0x02)) ≡ false
+  pub d-last : proofSpare bits16 sizes (sectionsIn bits16 sizes (changed proof 12 0x80)) ≡ false
+  pub ũ-spare-set : proofSpare bits16 sizes (sectionsIn bits16 sizes (changed proof 17 0x04)) ≡ false
+  pub ũ-last : proofSpare bits16 sizes (sectionsIn bits16 sizes (changed proof 17 0x80)) ≡ false
   pub solved : solves bits16 sizes key witness ≡ true
   pub not-solved : solves bits16 sizes key (changed witness 0 0x01) ≡ false
 
@@ -93,7 +97,7 @@ pub record Lengths : Type 0 where
   pub t-high : testAnswer bits16 (changed key 7 0x01) witness ≡ refused 2 0
   pub Δ-long : verifyAnswer bits16 key (Δ ++ (0x00 ∷ [])) H′ χ opened proof ≡ refused 5 0
   pub Δ-short : verifyAnswer bits16 key (take 1 Δ) H′ χ opened proof ≡ refused 5 0
-  pub H-short : verifyAnswer bits16 key Δ (take 3 H′) χ opened proof ≡ refused 5 0
+  pub H-short : verifyAnswer bits16 key Δ (take 5 H′) χ opened proof ≡ refused 5 0
   pub χ-short : verifyAnswer bits16 key Δ H′ (take 3 χ) opened proof ≡ refused 5 0
   pub count-third : verifyAnswer bits16 key Δ H′ χ opened (changed proof 2 0x01) ≡ refused 12 0
 
@@ -101,34 +105,42 @@ pub record Lengths : Type 0 where
 pub record Order : Type 0 where
   pub two-three : verifyAnswer bits16 (changed key 0 0xA8) Δ H′ χ opened proof ≡ refused 2 0
   pub three-four : verifyAnswer bits16 (changed (changed key 8 0x01) 47 0x02) Δ H′ χ opened proof ≡ refused 3 0
-  pub five-six : verifyAnswer bits16 key Δ (changed H′ 3 0x20) (χ ++ (0x00 ∷ [])) opened proof ≡ refused 5 0
-  pub seven-eight : verifyAnswer bits16 key Δ H′ χ (changed leaves 63 0x80) proof ≡ refused 7 0
-  pub twelve-thirteen : verifyAnswer bits16 key Δ H′ χ opened (changed (changed proof 0 0x01) 11 0x02) ≡ refused 12 0
+  pub five-six : verifyAnswer bits16 key Δ (changed H′ 5 0x02) (χ ++ (0x00 ∷ [])) opened proof ≡ refused 5 0
+  pub seven-eight : verifyAnswer bits16 key Δ H′ χ (changed leaves 95 0x08) proof ≡ refused 7 0
+  pub twelve-thirteen : verifyAnswer bits16 key Δ H′ χ opened (changed (changed proof 0 0x01) 12 0x02) ≡ refused 12 0
   pub nine-ten : proveAnswer bits16 key leaves (changed witness 1 0x02) H′ χ [] ≡ refused 9 0
   pub ten-eleven : proveAnswer bits16 key leaves (changed witness 0 0x01) H′ χ [] ≡ refused 10 0
 
 -- Refusal 11 names the lowest-numbered equation that fails: of two that fail the first, and the second where only that
 -- one fails.
 pub record FirstEquation : Type 0 where
-  pub both-fail : proveAnswer bits16 key leaves (changed witness 0 0x04) H′ χ (replicate 37 0x00) ≡ refused 11 0
-  pub second-fails : proveAnswer bits16 key leaves (changed witness 0 0x01) H′ χ (replicate 37 0x00) ≡ refused 11 1
+  pub both-fail : proveAnswer bits16 key leaves (changed witness 0 0x04) H′ χ (replicate 38 0x00) ≡ refused 11 0
+  pub second-fails : proveAnswer bits16 key leaves (changed witness 0 0x01) H′ χ (replicate 38 0x00) ≡ refused 11 1
 
--- 01's numbers, over GF(256), at the sizes of its toy: k, L, w, the leaves of a tree and of an opened one.
+-- 01's numbers, over GF(256), at the sizes of its toy: k, L, w, the leaves of a tree and of an opened one. Of the largest
+-- key k, L, w, and where the masks of the repetitions 1 and 47 begin; and k and the mask of repetition 1 over GF(16).
 pub record Derived : Type 0 where
   pub k-is : kOf bits256 toy ≡ 10
   pub L-is : lOf bits256 toy ≡ 11
   pub w-is : wOf bits256 toy ≡ 2
   pub tree-is : perTree bits256 ≡ 256
   pub opened-is : perOpened bits256 ≡ 255
+  pub k-largest : kOf bits256 largest ≡ 544
+  pub L-largest : lOf bits256 largest ≡ 704
+  pub w-largest : wOf bits256 largest ≡ 88
+  pub mask-second : maskAt bits256 largest 1 ≡ 168
+  pub mask-last : maskAt bits256 largest 47 ≡ 536
+  pub k-sixteen : kOf bits16 sizes ≡ 17
+  pub mask-sixteen : maskAt bits16 sizes 1 ≡ 13
 
 -- One section of the proof by the count that is found: the first, the last, and one that is cut.
 pub record Extents : Type 0 where
-  pub first : sectionAt proof 0 ≡ between 4 6
-  pub last : sectionAt proof 31 ≡ between 35 37
-  pub cut : sectionAt (take 36 proof) 31 ≡ missing
-  pub count-cut : sectionAt (take 34 proof) 31 ≡ missing
-  pub at-end : sectionAt proof 37 ≡ missing
-  pub count-third : sectionAt (changed proof 33 0x01) 31 ≡ missing
+  pub first : sectionAt proof 0 ≡ between 4 7
+  pub last : sectionAt proof 32 ≡ between 36 38
+  pub cut : sectionAt (take 37 proof) 32 ≡ missing
+  pub count-cut : sectionAt (take 35 proof) 32 ≡ missing
+  pub at-end : sectionAt proof 38 ≡ missing
+  pub count-third : sectionAt (changed proof 34 0x01) 32 ≡ missing
 
 -- What C receives.
 pub record Words : Type 0 where

@@ -5,6 +5,7 @@ pub mod Reader
 pub mod Alphabet
 pub mod Binary
 pub mod Shape
+pub mod MaskPlaces
 pub mod Key
 pub mod Sections
 pub mod Leaves

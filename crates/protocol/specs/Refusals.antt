@@ -3,7 +3,7 @@
 -- The strings are those of SmallExample. One that is damaged has the number of the question that finds it out.
 --   key₁ == no byte;  key₂ == n with its high byte set;  key₃ == a byte too many;  key₄ == the last spare bit of y set
 --   H₅, χ₅ == a byte too many;  H₆ == a spare bit of the last row set;  leaves₇, opened₇ == a byte missing
---   leaves₈, opened₈ == the spare bit of the last leaf set;  x₉ == a spare bit set
+--   leaves₈, opened₈ == a spare bit of the last leaf set;  x₉ == a spare bit set
 --   x₁₁ == a witness at which both equations fail
 --   out n == n bytes to write on;  proof₁₂ == a byte too many;  proof₁₃ == a spare bit of ũ set;  proof₁₄ == Ṽ changed
 --   proof₁₅ == QS0 changed
@@ -37,19 +37,19 @@ abbrev pub χ₅ : List ℕ
 χ₅ = χ ++ (0x00 ∷ [])
 
 abbrev pub H₆ : List ℕ
-H₆ = changed H′ 3 0x20
+H₆ = changed H′ 5 0x02
 
 abbrev pub leaves₇ : List ℕ
-leaves₇ = take 63 leaves
+leaves₇ = take 95 leaves
 
 abbrev pub leaves₈ : List ℕ
-leaves₈ = changed leaves 63 0x80
+leaves₈ = changed leaves 95 0x80
 
 abbrev pub opened₇ : List ℕ
-opened₇ = take 59 opened
+opened₇ = take 89 opened
 
 abbrev pub opened₈ : List ℕ
-opened₈ = changed opened 59 0x80
+opened₈ = changed opened 89 0x80
 
 abbrev pub x₉ : List ℕ
 x₉ = changed witness 1 0x02
@@ -64,13 +64,13 @@ abbrev pub proof₁₂ : List ℕ
 proof₁₂ = proof ++ (0x00 ∷ [])
 
 abbrev pub proof₁₃ : List ℕ
-proof₁₃ = changed proof 16 0x04
+proof₁₃ = changed proof 17 0x04
 
 abbrev pub proof₁₄ : List ℕ
-proof₁₄ = changed proof 21 0x01
+proof₁₄ = changed proof 22 0x01
 
 abbrev pub proof₁₅ : List ℕ
-proof₁₅ = changed proof 29 0x01
+proof₁₅ = changed proof 30 0x01
 
 abbrev pub refusedBy : List ℕ → List Answer
 refusedBy is = map (λ i. refused i 0) is
@@ -97,9 +97,9 @@ pub record Refusals : Type 0 where
   pub test-refused : test key₁ witness ∷ test key₂ witness ∷ test key₃ witness ∷ test key₄ witness
       ∷ test key x₉ ∷ test key x₁₁ ∷ []
       ≡ refusedBy (1 ∷ 2 ∷ 3 ∷ 4 ∷ 9 ∷ 11 ∷ [])
-  pub commit-refused : commit key₁ leaves witness 12 ∷ commit key₂ leaves witness 12 ∷ commit key₃ leaves witness 12 ∷ commit key₄ leaves witness 12
-      ∷ commit key leaves₇ witness 12 ∷ commit key leaves₈ witness 12 ∷ commit key leaves x₉ 12 ∷ commit key leaves witness 13
-      ∷ commit key leaves x₁₁ 12 ∷ []
+  pub commit-refused : commit key₁ leaves witness 13 ∷ commit key₂ leaves witness 13 ∷ commit key₃ leaves witness 13 ∷ commit key₄ leaves witness 13
+      ∷ commit key leaves₇ witness 13 ∷ commit key leaves₈ witness 13 ∷ commit key leaves x₉ 13 ∷ commit key leaves witness 14
+      ∷ commit key leaves x₁₁ 13 ∷ []
       ≡ refusedBy (1 ∷ 2 ∷ 3 ∷ 4 ∷ 7 ∷ 8 ∷ 9 ∷ 10 ∷ 11 ∷ [])
   pub hash-refused : hash key₁ leaves H′ 13 ∷ hash key₂ leaves H′ 13 ∷ hash key₃ leaves H′ 13 ∷ hash key₄ leaves H′ 13
       ∷ hash key leaves H₅ 13 ∷ hash key leaves H₆ 13 ∷ hash key leaves₇ H′ 13 ∷ hash key leaves₈ H′ 13
@@ -109,9 +109,9 @@ pub record Refusals : Type 0 where
       ∷ batch key leaves witness χ₅ 12 ∷ batch key leaves₇ witness χ 12 ∷ batch key leaves₈ witness χ 12 ∷ batch key leaves x₉ χ 12
       ∷ batch key leaves witness χ 13 ∷ batch key leaves x₁₁ χ 12 ∷ []
       ≡ refusedBy (1 ∷ 2 ∷ 3 ∷ 4 ∷ 5 ∷ 7 ∷ 8 ∷ 9 ∷ 10 ∷ 11 ∷ [])
-  pub prove-refused : prove key₁ leaves witness H′ χ 37 ∷ prove key₂ leaves witness H′ χ 37 ∷ prove key₃ leaves witness H′ χ 37 ∷ prove key₄ leaves witness H′ χ 37
-      ∷ prove key leaves witness H₅ χ 37 ∷ prove key leaves witness H′ χ₅ 37 ∷ prove key leaves witness H₆ χ 37 ∷ prove key leaves₇ witness H′ χ 37
-      ∷ prove key leaves₈ witness H′ χ 37 ∷ prove key leaves x₉ H′ χ 37 ∷ prove key leaves witness H′ χ 36 ∷ prove key leaves x₁₁ H′ χ 37 ∷ []
+  pub prove-refused : prove key₁ leaves witness H′ χ 38 ∷ prove key₂ leaves witness H′ χ 38 ∷ prove key₃ leaves witness H′ χ 38 ∷ prove key₄ leaves witness H′ χ 38
+      ∷ prove key leaves witness H₅ χ 38 ∷ prove key leaves witness H′ χ₅ 38 ∷ prove key leaves witness H₆ χ 38 ∷ prove key leaves₇ witness H′ χ 38
+      ∷ prove key leaves₈ witness H′ χ 38 ∷ prove key leaves x₉ H′ χ 38 ∷ prove key leaves witness H′ χ 37 ∷ prove key leaves x₁₁ H′ χ 38 ∷ []
       ≡ refusedBy (1 ∷ 2 ∷ 3 ∷ 4 ∷ 5 ∷ 5 ∷ 6 ∷ 7 ∷ 8 ∷ 9 ∷ 10 ∷ 11 ∷ [])
   pub verify-refused : verify key₁ H′ χ opened proof ∷ verify key₂ H′ χ opened proof ∷ verify key₃ H′ χ opened proof ∷ verify key₄ H′ χ opened proof
       ∷ verify key H₅ χ opened proof ∷ verify key H′ χ₅ opened proof ∷ verify key H₆ χ opened proof ∷ verify key H′ χ opened₇ proof
@@ -122,7 +122,7 @@ pub record Refusals : Type 0 where
 -- That the verifier accepts the proof, SmallReplies has.
 pub record Taken : Type 0 where
   pub test-taken : test key witness ≡ accepted
-  pub commit-taken : commit key leaves witness 12 ≡ accepted
+  pub commit-taken : commit key leaves witness 13 ≡ accepted
   pub hash-taken : hash key leaves H′ 13 ≡ accepted
   pub batch-taken : batch key leaves witness χ 12 ≡ accepted
-  pub prove-taken : prove key leaves witness H′ χ 37 ≡ accepted
+  pub prove-taken : prove key leaves witness H′ χ 38 ≡ accepted

@@ -2,14 +2,16 @@
 --   n variables, m equations, τ repetitions, t hash rows;  shapeOf key == the sizes in the header of a key
 --   mostVariables, mostEquations, mostRepetitions, mostHashRows == the largest n, m, τ, t;  limits s == the sizes are
 --     in range
---   within most x == 1 ≤ x ≤ most;  maskAt A s e == the first mask coordinate of repetition e
---   kOf == 01's k = n + 8, the coordinates that H′ covers;  lOf == L = k + t, all coordinates
+--   within most x == 1 ≤ x ≤ most;  maskAt A s e == the first mask coordinate of repetition e: each repetition has a mask
+--     of its own, one after another from n on (02, Card 4)
+--   kOf == k = n + rτ, r mask coordinates for each repetition: the coordinates that H′ covers
+--   lOf == L = k + t, all coordinates
 --   wOf == w = ⌈L/8⌉, the bytes of a leaf
 --   perTree == the leaves of a tree, 256;  perOpened == those of an opened tree, 255
 -- Assumes nothing.
 use mathlib.Core.Bool.{Bool, _&&_}
 use mathlib.Core.List.{List, [], _∷_}
-use Prim.Native.Nat.{ℕ, _+_, _-_}
+use Prim.Native.Nat.{ℕ, _+_, _*_, _-_}
 use lib.Dec.{leb}
 use Rattle.algebra.specs.Field.{Field}
 use Rattle.algebra.specs.Coded.{Coded}
@@ -52,12 +54,11 @@ module _ (A : Alphabet) where
   perOpened = perTree - 1
 
   module _ (s : Shape) where
-    -- the mask coordinates serve every repetition
     unfoldable pub maskAt : ℕ → ℕ
-    maskAt e = s .n
+    maskAt e = s .n + e * A .masks
 
     unfoldable pub kOf : ℕ
-    kOf = s .n + A .masks
+    kOf = s .n + s .τ * A .masks
 
     unfoldable pub lOf : ℕ
     lOf = kOf + s .t

@@ -29,7 +29,7 @@ unfolding changed
 loop-holds c = (search needs, refl, refl)
 
 mask-at-requires : tie.Need-mask-at-requires Inv-loop μ-loop
-mask-at-requires c κs = search needs
+mask-at-requires c κs = omega (arith, c .before .before .before .before .pre .1 .1 (c .before .loop .e) (c .loop-test .taken))
 
 mask-byte-requires : tie.Need-mask-byte-requires Inv-loop μ-loop
 mask-byte-requires c κs =

@@ -28,7 +28,7 @@ unfolding changed
 loop-holds c = (search needs, refl, refl)
 
 mask-at-requires : tie.Need-mask-at-requires Inv-loop μ-loop
-mask-at-requires c κs = search needs
+mask-at-requires c κs = omega (arith, c .before .before .before .before .pre .1 .1 (c .before .loop .e) (c .loop-test .taken))
 
 add-row : tie.Need-add-row Inv-loop μ-loop
 add-row c = omega (arith, c .before .before .before .before .before .pre .1 .1 (c .before .before .loop .e) (c .before .loop-test .taken), c .before .before .before .before .before .pre .1 .0, c .before .loop-test .taken, c .mask-at .ensures, c .before .before .before .before .before .pre .2)

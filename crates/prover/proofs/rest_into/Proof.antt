@@ -18,7 +18,7 @@ use Rattle.protocol.specs.Prover.{cSection, dSection, ũSection, ṼSection, qs
 use Rattle.protocol.proofs.ListLaws.{row-end}
 use Rattle.format.specs.Sizes.{shapeFor}
 use Rattle.format.proofs.SizeLaws.{in-limits, k-most, w-most, bytes-most, corrections-most, hashed-most, row-most}
-use Rattle.format.proofs.FitLaws.{n-fits, l-fits, mask-fits}
+use Rattle.format.proofs.FitLaws.{n-fits, l-fits, variables-fit}
 use Rattle.sections.proofs.Writes.{framed-one, framed-two, rest-length, part-starts, take-length}
 use borrow.Author.Needs.{needs}
 use Rattle.prover.proofs.LoadedLaws.{hash-length}

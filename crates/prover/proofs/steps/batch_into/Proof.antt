@@ -18,7 +18,7 @@ use Rattle.protocol.specs.Prover.{cSection, dSection, ũSection, ṼSection, qs
 use Rattle.protocol.proofs.ListLaws.{row-end}
 use Rattle.format.specs.Sizes.{shapeFor}
 use Rattle.format.proofs.SizeLaws.{in-limits, k-most, w-most, bytes-most, corrections-most, hashed-most, row-most}
-use Rattle.format.proofs.FitLaws.{n-fits, l-fits, mask-fits}
+use Rattle.format.proofs.FitLaws.{n-fits, l-fits, variables-fit}
 use Rattle.protocol.specs.Key.{sectionA, sectionB}
 use Rattle.lanes.specs.Lanes.{lanes, laneAt, maskLane, maskBits, firstMask}
 use Rattle.forms_choices.proofs.ChoiceLaws.{up-to-first}
@@ -38,7 +38,7 @@ fill-vectors-requires : tie.Need-fill-vectors-requires
 fill-vectors-requires c κs =
     let s = shapeFor (c .before .before .before .before .before .before .before .before .args .s) in
     let within = in-limits (shapeFor (c .before .before .before .before .before .before .before .before .args .s)) (c .before .before .before .before .before .before .before .before .pre .key-facts .in-range) in
-    (omega (arith, c .before .before .before .before .before .before .before .before .pre .buffers .table-room, mask-fits s), within .n-most, within .τ-most, refl)
+    (omega (arith, c .before .before .before .before .before .before .before .before .pre .buffers .table-room, variables-fit s), within .n-most, within .τ-most, refl)
 
 slice-aggregate-add-masks : tie.Need-slice-aggregate-add-masks
 slice-aggregate-add-masks c = search needs

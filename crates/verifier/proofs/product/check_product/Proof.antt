@@ -21,7 +21,7 @@ use Rattle.strings.specs.Sums.{byteAt}
 use Rattle.lanes.specs.Lanes.{lanes, laneAt, maskLane}
 use Rattle.format.specs.Sizes.{shapeFor}
 use Rattle.format.proofs.SizeLaws.{in-limits}
-use Rattle.format.proofs.FitLaws.{mask-below, mask-fits, l-fits}
+use Rattle.format.proofs.FitLaws.{mask-below, variables-fit, l-fits}
 use Rattle.equations.proofs.BlockLaws.{bytes-enough}
 use Rattle.questions.specs.Asking.{SizedKey}
 use Rattle.questions.specs.Facts.{KeyFacts}
@@ -54,7 +54,7 @@ add-difference-requires : tie.Need-add-difference-requires
 add-difference-requires c κs =
     let s = c .before .before .before .before .before .before .before .before .before .before .before in
     let shape = shapeFor (s .args .s) in (
-      omega (arith, s .pre .1 .1 .0, mask-fits shape),
+      omega (arith, s .pre .1 .1 .0, variables-fit shape),
       omega (arith, c .before .proof-section .ensures (s .args .s) (s .pre .0 .1 .0) .1, section-lengths shape .d-length, bytes-enough (s .args .s .n)),
       c .before .before .before .before .load-challenge .kept .0,
     )
@@ -76,7 +76,7 @@ fill-vectors-requires c κs =
     let s = c .before .before .before .before .before .before .before .before .before .before .before .before .before .before .before .before .before .before .before .before in
     let shape = shapeFor (s .args .s) in
     let b = in-limits shape (s .pre .0 .0 .in-range) in
-    (omega (arith, c .before .before .before .before .before .before .before .before .add-difference .kept .0, s .pre .1 .1 .0, mask-fits shape), b .n-most, b .τ-most, omega (arith, b .τ-most))
+    (omega (arith, c .before .before .before .before .before .before .before .before .add-difference .kept .0, s .pre .1 .1 .0, variables-fit shape), b .n-most, b .τ-most, omega (arith, b .τ-most))
 
 slice-aggregate-product-lanes : tie.Need-slice-aggregate-product-lanes
 slice-aggregate-product-lanes c = search needs
