@@ -2,6 +2,7 @@
  * Tests the helpers of solfadrus_util.h against the archive: cases are made by them, and the library judges.
  *
  *     util            all of them; says what is wrong, and fails
+ *     util small      the same without the largest shape, which is slow where nothing is optimised
  *     util messages   prints number and message, one line each, for tests/util.sh
  *     util mark       the helpers that touch secrets, these marked undefined, for valgrind
  *     util mark-leak  a control: a branch on the witness
@@ -15,6 +16,7 @@
 static const struct sizes shapes[] = {
     { 1, 1, 1, 1 },    { 2, 1, 1, 1 },   { 7, 9, 3, 8 },   { 8, 8, 2, 8 },         { 9, 7, 5, 17 },
     { 33, 20, 4, 12 }, { 64, 3, 2, 65 }, { 24, 5, 48, 3 }, { 150, 150, 19, 144 }, { 160, 160, 48, 160 },
+    { 320, 2, 1, 3 },  { 2, 320, 1, 3 }, { 320, 320, 48, 288 },
 };
 enum { SHAPES = sizeof shapes / sizeof shapes[0] };
 
@@ -97,7 +99,7 @@ static void test_sizes(struct made *made)
         check(!mq_key_sizes(made->key.at, len, &got), "mq_key_sizes takes a key that has no header", s);
     for (size_t i = 0; i < 4; i++) {
         uint8_t header[MQ_HEADER_SIZE];
-        const size_t wrong[3] = { 0, most[i] + 1, 257 };
+        const size_t wrong[3] = { 0, most[i] + 1, 513 };
         memcpy(header, made->key.at, sizeof header);
         for (size_t k = 0; k < 3; k++) {
             put(header + 2 * i, wrong[k], 2);
@@ -402,9 +404,10 @@ int main(int argc, char **argv)
             printf("%u %s\n", (unsigned)number, mq_message(number * 65536));
         return 0;
     }
-    if (argc > 1)
+    const int small = argc > 1 && strcmp(argv[1], "small") == 0;
+    if (argc > 1 && !small)
         return strcmp(argv[1], "mark") == 0 ? !run_marked() : !run_leak();
-    for (size_t i = 0; i < SHAPES; i++) {
+    for (size_t i = 0; i < (small ? SHAPES - 1 : SHAPES); i++) {
         struct made made = draw_case(i, shapes[i]);
         test_sizes(&made);
         test_y(&made);

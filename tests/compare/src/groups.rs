@@ -53,10 +53,28 @@ const FORGED: [Sizes; 3] = [shapes::SMALL, (3, 2, 3, 2), (66, 1, 1, 60)];
 const REPEATED: [Sizes; 4] = [shapes::SMALL, (5, 2, 3, 4), (3, 2, 17, 2), (1, 1, 48, 1)];
 
 /// With several bytes of y, and the most.
-const FAILING: [Sizes; 2] = [(9, 21, 2, 5), (3, 160, 1, 2)];
+const FAILING: [Sizes; 2] = [(9, 21, 2, 5), (3, 320, 1, 2)];
 
-/// Beside those of the thresholds: the set of 150 variables, and the limits together.
-const LARGE: [Sizes; 3] = [(160, 160, 1, 160), (150, 150, 19, 144), (160, 160, 48, 160)];
+/// Beside those of the thresholds: the sets of 150, 224 and 320 variables of 003, t being 16 more than the bits of the
+/// level; the limits of 01, and those of today.
+const LARGE: [Sizes; 6] = [
+    (160, 160, 1, 160),
+    (150, 150, 19, 144),
+    (160, 160, 48, 160),
+    (224, 224, 28, 208),
+    (320, 320, 37, 272),
+    (320, 320, 48, 288),
+];
+
+/// n far from m: pieces and lines in two with few equations, and blocks of equations with few variables.
+const FAR: [Sizes; 6] = [
+    (320, 1, 3, 288),
+    (1, 320, 2, 161),
+    (319, 161, 1, 161),
+    (161, 319, 1, 288),
+    (257, 9, 17, 12),
+    (24, 257, 16, 161),
+];
 
 /// The groups that every run has, before the random ones.
 pub fn fixed() -> Vec<Group> {
@@ -76,6 +94,7 @@ pub fn fixed() -> Vec<Group> {
     groups.extend(FAILING.map(Group::Equations));
     groups.extend(shapes::single().into_iter().map(Group::Shape));
     groups.extend(shapes::joint().into_iter().map(Group::Kernels));
+    groups.extend(FAR.map(Group::Kernels));
     groups.extend(LARGE.map(Group::Shape));
     groups
 }
@@ -94,6 +113,9 @@ const DEAR: usize = 4_000_000;
 pub fn dear(shape: &Shape) -> bool {
     cost(shape) > DEAR
 }
+
+/// Above this its verifier, too, is asked once; what follows from the equations is tried beside.
+const DEAREST: usize = 2_500_000_000;
 
 /// Adds the rendering's proof to honest inputs.
 pub fn add_proof(inputs: &mut Inputs) -> Result<(), String> {
@@ -270,13 +292,18 @@ impl Run<'_> {
     fn dear_flips(&mut self, honest: &Inputs) -> Result<(), String> {
         let others = [Name::Key, Name::Delta, Name::HashMatrix, Name::Batching];
         let other = others[self.random.below(others.len())];
-        for damage in [
+        let mut damages = vec![
             Damage::Flipped(Name::Proof, self.random.below(2)),
             Damage::Flipped(Name::Proof, 2 + self.random.below(2)),
             Damage::Flipped(Name::Proof, 4 + self.random.below(2)),
             Damage::Flipped(Name::Opened, 0),
             Damage::Flipped(other, 0),
-        ] {
+        ];
+        if cost(&honest.shape) > DEAREST {
+            self.some_repetitions(honest)?;
+            damages = vec![damages[self.random.below(damages.len())]];
+        }
+        for damage in damages {
             let mut inputs = honest.clone();
             if damage.apply(&mut inputs, &mut self.random) {
                 self.put(&VERIFY, &inputs, &[damage], None)?;
