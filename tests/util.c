@@ -171,14 +171,34 @@ static void test_y(struct made *made)
     free(before.at);
 }
 
-/* The same y as that of case.h, which goes bit by bit. */
+/* The left side of an equation, bit by bit. */
+static int by_bits(const uint8_t *a, const uint8_t *b, const uint8_t *x, size_t n)
+{
+    int sum = 0;
+    for (size_t r = 0; r < n; r++) {
+        if (!bit(x, r))
+            continue;
+        for (size_t c = 0; c < n; c++)
+            sum ^= bit(a + r * MQ_STRING_SIZE(n), c) & bit(x, c);
+        sum ^= bit(b, r);
+    }
+    return sum;
+}
+
+/* The same y as that of case.h, and bit by bit. */
 static void test_same_y(uint64_t seed, struct sizes s)
 {
     struct made made = make_case(seed, s);
     struct lent key = lend(made.key.len);
+    const size_t row = MQ_STRING_SIZE(s.n);
+    int same = 1;
     memcpy(key.at, made.key.at, AT(Y));
     check(mq_make_y(key.at, key.len, made.witness.at, made.witness.len), "mq_make_y does not take its case", s);
     check(memcmp(key.at, made.key.at, key.len) == 0, "mq_make_y", s);
+    for (size_t i = 0; i < s.m; i++)
+        same &= bit(key.at + AT(Y), i)
+            == by_bits(key.at + AT(A) + i * s.n * row, key.at + AT(B) + i * row, made.witness.at, s.n);
+    check(same, "mq_make_y, bit by bit", s);
     free(key.at);
     drop_case(&made);
 }
