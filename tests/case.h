@@ -1,6 +1,7 @@
 /*
  * A case for benchmark and tests: a key with a known solution, leaves, challenges and the leaves opened there, all
- * from a small generator that is no good for secrets. There is room for a proof, which the library makes.
+ * from a small generator that is no good for secrets. There is room for a proof, which the library makes. Order and
+ * generator are those of vectors/README.md: the digests of the test vectors hold for them.
  */
 #ifndef CASE_H
 #define CASE_H
@@ -52,14 +53,17 @@ static struct lent lend(size_t len)
     return lent;
 }
 
-/* So many random strings of so many bits, spare bits 0. Eight bytes at a time: a key has up to four megabytes. */
+/* So many random strings of so many bits, spare bits 0. Eight bytes at a time, lowest first (vectors/README.md): a key
+ * has up to four megabytes. */
 static void draw_strings(uint64_t *state, uint8_t *at, size_t count, size_t bits)
 {
     const size_t len = MQ_STRING_SIZE(bits);
     for (size_t i = 0; i < count; i++, at += len) {
-        for (size_t b = 0; b < len; b += 8) {
-            const uint64_t eight = draw(state);
-            memcpy(at + b, &eight, len - b < 8 ? len - b : 8);
+        uint64_t eight = 0;
+        for (size_t b = 0; b < len; b++, eight >>= 8) {
+            if (b % 8 == 0)
+                eight = draw(state);
+            at[b] = (uint8_t)eight;
         }
         if (bits % 8)
             at[len - 1] &= (uint8_t)((1 << bits % 8) - 1);

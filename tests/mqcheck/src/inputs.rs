@@ -189,7 +189,20 @@ pub fn counts() -> Vec<Input> {
 pub fn headers() -> Vec<Input> {
     let mut inputs = Vec::new();
     for (field, most) in [(0, 320), (1, 320), (2, 48), (3, 288)] {
-        for number in [0, 1, 160, 161, 255, 256, 257, most - 1, most, most + 1, 512, 65_535] {
+        for number in [
+            0,
+            1,
+            160,
+            161,
+            255,
+            256,
+            257,
+            most - 1,
+            most,
+            most + 1,
+            512,
+            65_535,
+        ] {
             let mut key = vec![2, 0, 2, 0, 2, 0, 2, 0];
             key[2 * field] = (number % 256) as u8;
             key[2 * field + 1] = (number / 256) as u8;

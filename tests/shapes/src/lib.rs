@@ -139,7 +139,12 @@ pub fn leaf_bits(shape: Sizes) -> usize {
 /// Each threshold with its neighbours, one at a time, the other sizes small. The first is the small shape itself; then
 /// the least, and the most variables with the fewest equations and the other way round.
 pub fn single() -> Vec<Sizes> {
-    let mut shapes = vec![SMALL, (1, 1, 1, 1), (LIMITS[0], 1, 2, 161), (1, LIMITS[1], 1, LIMITS[3])];
+    let mut shapes = vec![
+        SMALL,
+        (1, 1, 1, 1),
+        (LIMITS[0], 1, 2, 161),
+        (1, LIMITS[1], 1, LIMITS[3]),
+    ];
     for threshold in THRESHOLDS {
         for size in beside(threshold) {
             let shape = with(threshold.of, size);
