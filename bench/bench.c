@@ -1,15 +1,20 @@
 /*
  * Times the library beside the same job in C and in plain Rust, in one run, and measures the stack of each
- * call; then times the verifier at five shapes, and plots that. Usage:
+ * call; then times the verifier at several shapes, and plots that. Usage:
  * bench PLOT.svg HISTORY.tsv STAMP [REPETITIONS]
  *
  * Every program first makes the same bytes and gives the same answers, or the run ends. Then each call of each
  * program is timed in turn, again and again, so that a change of the machine's pace meets all of them, and each
  * time after a call that is not timed, so that none pays for what the one before it left in the caches. Medians
  * are printed, and the least times, which a busy machine disturbs less. The time is the thread's processor time.
- * The rendering is slow, and is repeated less often: the table says how often.
+ * The rendering is slow, and is repeated less often: the table says how often. With one repetition it is not
+ * asked past 160 variables.
+ *
+ * With BEFORE an earlier archive is timed too, at the sizes that it serves. With BEFORE_SHARED it is one from before
+ * each repetition had a mask of its own, and is lent leaves and a hash_matrix of its own lengths, and proves itself.
  */
 #define _XOPEN_SOURCE 700
+#include <math.h>
 #include <stdio.h>
 #include <time.h>
 
@@ -53,7 +58,7 @@ DECLARE(rendering_)
 DECLARE(before_)
 enum { LIBRARY, BASELINE_GCC, BASELINE_CLANG, PLAIN_GCC, PLAIN_CLANG, EARLIER, RENDERING, PROGRAMS };
 #else
-enum { LIBRARY, BASELINE_GCC, BASELINE_CLANG, PLAIN_GCC, PLAIN_CLANG, RENDERING, PROGRAMS };
+enum { LIBRARY, BASELINE_GCC, BASELINE_CLANG, PLAIN_GCC, PLAIN_CLANG, RENDERING, PROGRAMS, EARLIER = -1 };
 #endif
 static const struct program programs[PROGRAMS] = {
     PROGRAM("library", mq_),
@@ -67,20 +72,39 @@ static const struct program programs[PROGRAMS] = {
     PROGRAM("rendering", rendering_),
 };
 
-static size_t written(int call, struct sizes s)
+/* What the earlier archive is lent: the same case, or one of its own lengths. None where it is not asked. */
+static struct made *before;
+
+static int with_rendering = 1;
+
+static int is_asked(int p)
 {
+    return (p != EARLIER || before) && (p != RENDERING || with_rendering);
+}
+
+/* The bytes of the proof by the length of its leaves, which the earlier archive may have otherwise. */
+static size_t written(int call, const struct made *c)
+{
+    const struct sizes s = c->sizes;
+    const size_t w = c->leaves.len / (MQ_FIELD_SIZE * s.tau);
+    const size_t commit = 2 * MQ_COUNT_SIZE + (s.tau - 1) * w + MQ_STRING_SIZE(s.n);
+    const size_t hash = MQ_HASH_SIZE(s.n, s.m, s.tau, s.t), batch = MQ_BATCH_SIZE(s.n, s.m, s.tau, s.t);
     switch (call) {
-    case COMMIT: return MQ_COMMIT_SIZE(s.n, s.m, s.tau, s.t);
-    case HASH: return MQ_HASH_SIZE(s.n, s.m, s.tau, s.t);
-    case BATCH: return MQ_BATCH_SIZE(s.n, s.m, s.tau, s.t);
-    case PROVE: return MQ_PROOF_SIZE(s.n, s.m, s.tau, s.t);
+    case COMMIT: return commit;
+    case HASH: return hash;
+    case BATCH: return batch;
+    case PROVE: return commit + hash + batch;
     default: return 0;
     }
 }
 
 static uint32_t make_call(const struct program *p, int call, const struct made *c, uint8_t *out)
 {
-    const size_t len = written(call, c->sizes);
+#ifdef BEFORE
+    if (p == &programs[EARLIER])
+        c = before;
+#endif
+    const size_t len = written(call, c);
     const struct lent *k = &c->key, *l = &c->leaves, *x = &c->witness, *h = &c->hash_matrix, *b = &c->batching;
     switch (call) {
     case TEST: return p->test(k->at, k->len, x->at, x->len);
@@ -128,25 +152,27 @@ static int by_size(const void *a, const void *b)
     return (x > y) - (x < y);
 }
 
-/* Of times that are sorted. */
+/* Of times that are sorted. 0 where there are none. */
 static double median(const struct times *t)
 {
+    if (t->count == 0)
+        return 0;
     return t->count % 2 ? t->taken[t->count / 2] : (t->taken[t->count / 2 - 1] + t->taken[t->count / 2]) / 2;
 }
 
 static double least(const struct times *t)
 {
-    return t->taken[0];
+    return t->count ? t->taken[0] : 0;
 }
 
 /* Every program writes the library's bytes. The rendering is slow: its whole proof stands for its steps. */
 static void compare_bytes(const struct made *c, uint8_t *expected, uint8_t *out)
 {
     for (int call = COMMIT; call <= PROVE; call++) {
-        const size_t len = written(call, c->sizes);
+        const size_t len = written(call, c);
         time_call(&programs[LIBRARY], call, c, expected);
         for (int p = LIBRARY + 1; p < PROGRAMS; p++) {
-            if (p == RENDERING && call != PROVE)
+            if (!is_asked(p) || (p == RENDERING && call != PROVE) || (p == EARLIER && before != c))
                 continue;
             memset(out, 0xEE, len);
             time_call(&programs[p], call, c, out);
@@ -162,12 +188,16 @@ static void compare_bytes(const struct made *c, uint8_t *expected, uint8_t *out)
 static void compare_answers(struct made *c)
 {
     const size_t last = c->sizes.tau - 1;
-    uint8_t *qs1 = c->proof.at + c->proof.len - 1, *delta = c->delta.at + last;
+    uint8_t *delta = c->delta.at + last;
     const uint32_t refused = MQ_REFUSED_PRODUCT_DIFFERS * 65536 + (uint32_t)last;
     *delta |= 1; /* so that QS1 counts */
     open_leaves(c);
     time_call(&programs[LIBRARY], PROVE, c, c->proof.at);
     for (int p = 0; p < PROGRAMS; p++) {
+        if (!is_asked(p))
+            continue;
+        const struct made *lent = p == EARLIER ? before : c;
+        uint8_t *qs1 = lent->proof.at + lent->proof.len - 1;
         time_call(&programs[p], VERIFY, c, NULL);
         *qs1 ^= 1;
         if (make_call(&programs[p], VERIFY, c, NULL) != refused) {
@@ -184,6 +214,8 @@ static void measure_once(const struct made *c, int first, struct times times[PRO
     for (int call = first; call < CALLS; call++)
         for (int p = 0; p < RENDERING; p++) {
             struct times *t = &times[p][call];
+            if (!is_asked(p))
+                continue;
             time_call(&programs[p], call, c, out);
             t->taken[t->count++] = time_call(&programs[p], call, c, out);
         }
@@ -195,7 +227,7 @@ static const double rendering_budget = 3000;
 static void measure_rendering(const struct made *c, int first, int repetitions, struct times times[PROGRAMS][CALLS],
                               uint8_t *out)
 {
-    for (int call = first; call < CALLS; call++) {
+    for (int call = first; call < CALLS && with_rendering; call++) {
         struct times *t = &times[RENDERING][call];
         const double start = now();
         do
@@ -216,6 +248,15 @@ static double lesser(double a, double b)
     return a < b ? a : b;
 }
 
+/* A number that is 0 was not measured. */
+static void print_number(double number, int width, int digits)
+{
+    if (number > 0)
+        printf("%*.*f", width, digits, number);
+    else
+        printf("%*s", width, "-");
+}
+
 static void print_times(const char *what, double (*of)(const struct times *), struct times times[PROGRAMS][CALLS])
 {
     double m[PROGRAMS];
@@ -231,12 +272,13 @@ static void print_times(const char *what, double (*of)(const struct times *), st
         printf("%-10s", call_names[call]);
         for (int p = 0; p < PROGRAMS; p++) {
             m[p] = of(&times[p][call]);
-            printf("%13.4f", m[p]);
+            print_number(m[p], 13, 4);
         }
-        printf("%12.2f%15.2f%19.1f", m[LIBRARY] / lesser(m[BASELINE_GCC], m[BASELINE_CLANG]),
-               m[LIBRARY] / lesser(m[PLAIN_GCC], m[PLAIN_CLANG]), m[RENDERING] / m[LIBRARY]);
+        print_number(m[LIBRARY] / lesser(m[BASELINE_GCC], m[BASELINE_CLANG]), 12, 2);
+        print_number(m[LIBRARY] / lesser(m[PLAIN_GCC], m[PLAIN_CLANG]), 15, 2);
+        print_number(m[RENDERING] / m[LIBRARY], 19, 1);
 #ifdef BEFORE
-        printf("%16.3f", m[LIBRARY] / m[EARLIER]);
+        print_number(m[EARLIER] > 0 ? m[LIBRARY] / m[EARLIER] : 0, 16, 3);
 #endif
         printf("\n");
     }
@@ -343,7 +385,10 @@ static void print_stack(const struct made *c, uint8_t *out)
     for (int call = 0; call < CALLS; call++) {
         printf("%-10s", call_names[call]);
         for (int p = 0; p < RENDERING; p++)
-            printf("%13zu", depth(&programs[p], call, c, out) - bare);
+            if (is_asked(p))
+                printf("%13zu", depth(&programs[p], call, c, out) - bare);
+            else
+                printf("%13s", "-");
         printf("\n");
     }
 }
@@ -368,12 +413,86 @@ static void drop_times(struct times times[PROGRAMS][CALLS])
             free(times[p][call].taken);
 }
 
+#ifdef BEFORE
+/* All lengths but those of leaves, hash_matrix and proof are the same, and at one repetition these are too. */
+static struct made make_shared(struct made c)
+{
+    const struct sizes s = c.sizes;
+    const size_t row = s.n + MQ_FIELD_DEGREE, w = MQ_LEAF_SIZE(s.n, s.m, 1, s.t);
+    uint64_t seed = 1;
+    c.delta = lend(c.delta.len);
+    for (size_t e = 0; e < s.tau; e++)
+        c.delta.at[e] = (uint8_t)(draw(&seed) | 1);
+    c.leaves = lend(s.tau * MQ_LEAVES_SIZE(s.n, s.m, 1, s.t));
+    draw_strings(&seed, c.leaves.at, MQ_FIELD_SIZE * s.tau, row + s.t);
+    c.opened = lend(s.tau * MQ_OPENED_SIZE(s.n, s.m, 1, s.t));
+    for (size_t e = 0; e < s.tau; e++) {
+        const size_t first = c.delta.at[e] * w, all = MQ_FIELD_SIZE * w;
+        uint8_t *const at = c.opened.at + e * (all - w);
+        memcpy(at, c.leaves.at + e * all, first);
+        memcpy(at + first, c.leaves.at + e * all + first + w, all - w - first);
+    }
+    c.hash_matrix = lend(MQ_HASH_MATRIX_SIZE(s.n, s.m, 1, s.t));
+    draw_strings(&seed, c.hash_matrix.at, s.t, row);
+    c.proof = lend(written(PROVE, &c));
+    return c;
+}
+
+/* What the earlier archive is lent beside a case, where it serves its sizes. */
+static void start_before(struct made *c)
+{
+    static struct made shared;
+    before = c;
+#ifdef BEFORE_SHARED
+    shared = make_shared(*c);
+    before = &shared;
+#else
+    (void)shared;
+    (void)make_shared;
+#endif
+    if (make_call(&programs[EARLIER], TEST, c, NULL) == MQ_REFUSED_SIZE_OUT_OF_RANGE * 65536)
+        before = NULL;
+    else if (before != c)
+        time_call(&programs[EARLIER], PROVE, c, before->proof.at);
+}
+
+static void end_before(const struct made *c)
+{
+    if (before && before != c) {
+        free(before->delta.at);
+        free(before->leaves.at);
+        free(before->opened.at);
+        free(before->hash_matrix.at);
+        free(before->proof.at);
+    }
+    before = NULL;
+}
+#else
+static void start_before(struct made *c)
+{
+    (void)c;
+}
+
+static void end_before(const struct made *c)
+{
+    (void)c;
+}
+#endif
+
+/* With one repetition, which is a test that all is in order, the rendering would take most of the time. */
+static int is_slow(struct sizes sizes, int repetitions)
+{
+    return repetitions == 1 && sizes.n > 160;
+}
+
 static void bench(struct sizes sizes, int repetitions, FILE *history, const char *stamp)
 {
     struct made c = make_case(1, sizes);
-    const size_t len = written(PROVE, sizes);
+    const size_t len = written(PROVE, &c);
     uint8_t *expected = lend(len).at, *out = lend(len).at;
     struct times times[PROGRAMS][CALLS];
+    with_rendering = !is_slow(sizes, repetitions);
+    start_before(&c);
     start_times(times, repetitions);
     printf("n = %zu, m = %zu, tau = %zu, t = %zu\n", sizes.n, sizes.m, sizes.tau, sizes.t);
     fflush(stdout);
@@ -388,18 +507,20 @@ static void bench(struct sizes sizes, int repetitions, FILE *history, const char
     keep(history, stamp, sizes, times);
     print_stack(&c, out);
     printf("\n");
+    end_before(&c);
     drop_times(times);
     free(expected);
     free(out);
     drop_case(&c);
 }
 
-/* ---- The verifier at five shapes ---------------------------------------------------------- */
+/* ---- The verifier at several shapes ------------------------------------------------------- */
 
-/* The second, and n, m and tau changed one at a time. */
-enum { SHAPES = 5, BASE = 1 };
+/* The second, and n, m and tau changed one at a time; then what the limits were, and what they are. */
+enum { SHAPES = 9, BASE = 1, FORMER = 7, LARGEST = 8 };
 static const struct sizes shapes[SHAPES] = {
-    { 40, 160, 16, 80 }, { 80, 160, 16, 80 }, { 160, 160, 16, 80 }, { 80, 80, 16, 80 }, { 80, 160, 48, 80 },
+    { 40, 160, 16, 80 }, { 80, 160, 16, 80 }, { 160, 160, 16, 80 },  { 320, 160, 16, 80 },   { 80, 80, 16, 80 },
+    { 80, 320, 16, 80 }, { 80, 160, 48, 80 }, { 160, 160, 48, 160 }, { 320, 320, 48, 288 },
 };
 
 /* What is compared: each C program by the better of its two compilers. */
@@ -414,6 +535,7 @@ static void time_shapes(int repetitions, double taken[SHAPES][BY])
     struct made c[SHAPES];
     for (int i = 0; i < SHAPES; i++) {
         c[i] = make_case(1, shapes[i]);
+        with_rendering = !is_slow(shapes[i], repetitions);
         compare_answers(&c[i]);
         start_times(times[i], repetitions);
     }
@@ -422,6 +544,7 @@ static void time_shapes(int repetitions, double taken[SHAPES][BY])
             measure_once(&c[i], VERIFY, times[i], NULL);
     for (int i = 0; i < SHAPES; i++) {
         double m[PROGRAMS];
+        with_rendering = !is_slow(shapes[i], repetitions);
         measure_rendering(&c[i], VERIFY, repetitions, times[i], NULL);
         sort_times(times[i]);
         for (int p = 0; p < PROGRAMS; p++)
@@ -444,42 +567,73 @@ static double terms(struct sizes s)
 
 static void print_shapes(double taken[SHAPES][BY])
 {
-    printf("verify: median, ms, and as a multiple of that at n = %zu, m = %zu, tau = %zu; t = %zu\n", shapes[BASE].n,
+    printf("verify: median, ms, and as a multiple of that at n = %zu, m = %zu, tau = %zu, t = %zu\n", shapes[BASE].n,
            shapes[BASE].m, shapes[BASE].tau, shapes[BASE].t);
-    printf("%4s%5s%5s%14s", "n", "m", "tau", "n^2 m tau");
+    printf("%4s%5s%5s%5s%14s", "n", "m", "tau", "t", "n^2 m tau");
     for (int b = 0; b < BY; b++)
         printf("%20s", by_names[b]);
     printf("   library/C  library/plain\n");
     for (int i = 0; i < SHAPES; i++) {
         const struct sizes s = shapes[i];
-        printf("%4zu%5zu%5zu%14.2f", s.n, s.m, s.tau, terms(s));
-        for (int b = 0; b < BY; b++)
-            printf("%13.4f x %4.2f", taken[i][b], taken[i][b] / taken[BASE][b]);
+        printf("%4zu%5zu%5zu%5zu%14.2f", s.n, s.m, s.tau, s.t, terms(s));
+        for (int b = 0; b < BY; b++) {
+            print_number(taken[i][b], 12, 4);
+            printf(" x");
+            print_number(taken[i][b] / taken[BASE][b], 6, 2);
+        }
         printf("%12.2f%15.2f\n", taken[i][BY_LIBRARY] / taken[i][BY_C], taken[i][BY_LIBRARY] / taken[i][BY_PLAIN]);
     }
     printf("what n adds from 80 to 160, over what it adds from 40 to 80 (4 for a constant and n^2, 2 for a constant and n):");
     for (int b = 0; b < BY; b++)
         printf(" %s %.2f", by_names[b], (taken[2][b] - taken[1][b]) / (taken[1][b] - taken[0][b]));
+    printf("\nat the limits of today over those of before, n = m = t = 160 (n^2 m gives 8):");
+    for (int b = 0; b < BY; b++)
+        if (taken[LARGEST][b] > 0)
+            printf(" %s %.2f", by_names[b], taken[LARGEST][b] / taken[FORMER][b]);
     printf("\nA part of each time does not grow: reading and hashing for all three, and for tau also what is made once for all\n"
            "repetitions (library and C fold the matrices and sum them by fives).\n");
 }
 
 /* ---- The plot ----------------------------------------------------------------------------- */
 
-enum { LEFT = 70, TOP = 60, WIDE = 150, HIGH = 300, BAR = 34 };
+enum { LEFT = 70, TOP = 60, WIDE = 170, HIGH = 300, BAR = 34 };
 static const char *const colours[PLOTTED] = { "#1b6ca8", "#c8553d", "#8a8a8a" };
 
-static void plot_frame(FILE *file, double top)
+/* Times go by their logarithm, from one power of ten to another: the largest shape takes a hundred times as long as the
+ * least. */
+struct scale {
+    double bottom, top;
+};
+
+static double height(struct scale scale, double time)
+{
+    return log(time / scale.bottom) / log(scale.top / scale.bottom) * HIGH;
+}
+
+static struct scale scale_of(double taken[SHAPES][BY])
+{
+    struct scale scale = { taken[0][0], taken[0][0] };
+    for (int i = 0; i < SHAPES; i++)
+        for (int b = 0; b < PLOTTED; b++) {
+            scale.bottom = lesser(scale.bottom, taken[i][b]);
+            scale.top = -lesser(-scale.top, -taken[i][b]);
+        }
+    scale.bottom = pow(10, floor(log10(scale.bottom)));
+    scale.top = pow(10, ceil(log10(scale.top)));
+    return scale;
+}
+
+static void plot_frame(FILE *file, struct scale scale)
 {
     const int right = LEFT + SHAPES * WIDE;
     fprintf(file, "<svg xmlns='http://www.w3.org/2000/svg' width='%d' height='%d' font-family='sans-serif' "
             "font-size='12'>\n<rect width='100%%' height='100%%' fill='white'/>\n", right + 20, TOP + HIGH + 70);
-    fprintf(file, "<text x='%d' y='22' font-size='15'>mq_verify: median time, ms; above each bar the multiple of the "
-            "second shape</text>\n", LEFT);
-    for (int i = 0; i <= 4; i++) {
-        const int y = TOP + HIGH - i * HIGH / 4;
-        fprintf(file, "<line x1='%d' y1='%d' x2='%d' y2='%d' stroke='#dddddd'/>\n", LEFT, y, right, y);
-        fprintf(file, "<text x='%d' y='%d' text-anchor='end'>%.2f</text>\n", LEFT - 8, y + 4, top * i / 4);
+    fprintf(file, "<text x='%d' y='22' font-size='15'>mq_verify: median time, ms, by its logarithm; above each bar the "
+            "multiple of the second shape</text>\n", LEFT);
+    for (double time = scale.bottom; time < 1.01 * scale.top; time *= 10) {
+        const double y = TOP + HIGH - height(scale, time);
+        fprintf(file, "<line x1='%d' y1='%.1f' x2='%d' y2='%.1f' stroke='#dddddd'/>\n", LEFT, y, right, y);
+        fprintf(file, "<text x='%d' y='%.1f' text-anchor='end'>%g</text>\n", LEFT - 8, y + 4, time);
     }
     for (int b = 0; b < PLOTTED; b++) {
         fprintf(file, "<rect x='%d' y='34' width='12' height='12' fill='%s'/>\n", LEFT + b * 110, colours[b]);
@@ -487,19 +641,19 @@ static void plot_frame(FILE *file, double top)
     }
 }
 
-static void plot_shape(FILE *file, int i, double taken[SHAPES][BY], double top)
+static void plot_shape(FILE *file, int i, double taken[SHAPES][BY], struct scale scale)
 {
     const struct sizes s = shapes[i];
     const int x = LEFT + i * WIDE + (WIDE - PLOTTED * BAR) / 2, middle = LEFT + i * WIDE + WIDE / 2;
     for (int b = 0; b < PLOTTED; b++) {
-        const double high = taken[i][b] / top * HIGH, y = TOP + HIGH - high;
+        const double high = height(scale, taken[i][b]), y = TOP + HIGH - high;
         fprintf(file, "<rect x='%d' y='%.1f' width='%d' height='%.1f' fill='%s'/>\n", x + b * BAR, y, BAR - 4, high,
                 colours[b]);
         fprintf(file, "<text x='%d' y='%.1f' text-anchor='middle' font-size='10'>%.2f</text>\n",
                 x + b * BAR + (BAR - 4) / 2, y - 4, taken[i][b] / taken[BASE][b]);
     }
-    fprintf(file, "<text x='%d' y='%d' text-anchor='middle'>n %zu, m %zu, tau %zu</text>\n", middle, TOP + HIGH + 20,
-            s.n, s.m, s.tau);
+    fprintf(file, "<text x='%d' y='%d' text-anchor='middle'>n %zu, m %zu, tau %zu, t %zu</text>\n", middle,
+            TOP + HIGH + 20, s.n, s.m, s.tau, s.t);
     fprintf(file, "<text x='%d' y='%d' text-anchor='middle' fill='#666666'>n^2 m tau: %.2f</text>\n", middle,
             TOP + HIGH + 38, terms(s));
 }
@@ -507,17 +661,14 @@ static void plot_shape(FILE *file, int i, double taken[SHAPES][BY], double top)
 static void plot(const char *name, double taken[SHAPES][BY])
 {
     FILE *file = fopen(name, "w");
-    double top = 0;
+    const struct scale scale = scale_of(taken);
     if (!file) {
         perror(name);
         exit(1);
     }
+    plot_frame(file, scale);
     for (int i = 0; i < SHAPES; i++)
-        for (int b = 0; b < PLOTTED; b++)
-            top = taken[i][b] > top ? taken[i][b] : top;
-    plot_frame(file, top);
-    for (int i = 0; i < SHAPES; i++)
-        plot_shape(file, i, taken, top);
+        plot_shape(file, i, taken, scale);
     fprintf(file, "</svg>\n");
     if (fclose(file)) {
         perror(name);
@@ -544,6 +695,7 @@ int main(int count, char **words)
         return 1;
     }
     bench(usual, repetitions, history, words[3]);
+    bench(shapes[FORMER], repetitions, history, words[3]);
     bench(largest, repetitions, history, words[3]);
     if (fclose(history)) {
         perror(words[2]);

@@ -6,7 +6,9 @@
 #
 #   run.sh [--keep] [REPETITIONS]   --keep adds the ratios to bench/history.tsv, where they are kept (those up to
 #                                   981c830 are to an earlier and slower baseline.c)
-#   BEFORE=ARCHIVE run.sh ..        another libsolfadrus.a, of the same interface, is timed beside this one
+#   BEFORE=ARCHIVE run.sh ..        another libsolfadrus.a, of the same interface, is timed beside this one, at the sizes
+#                                   that it serves; with BEFORE_MASKS=shared one from before each repetition had a mask
+#                                   of its own, which is lent leaves of its own length
 #   run.sh --once                   the gate's run: each program is built and makes each call once. The timing program
 #                                   holds the bytes against the library's, and the comparison is left out
 set -eu
@@ -52,6 +54,14 @@ for compiler in gcc clang; do
     done
 done
 
+case ${BEFORE_MASKS-} in
+'') masks= ;;
+shared) masks=-DBEFORE_SHARED ;;
+*)
+    echo "BEFORE_MASKS is not 'shared'" >&2
+    exit 2
+    ;;
+esac
 # The other archive, its six calls under a prefix of their own and nothing else of it to be seen.
 before=
 if [ -n "${BEFORE-}" ]; then
@@ -66,8 +76,9 @@ if [ -n "${BEFORE-}" ]; then
 fi
 
 cargo build --quiet --release --offline -j1 --manifest-path bench/rendering/Cargo.toml --target-dir "$work/rendering"
-# shellcheck disable=SC2086 # empty, or one word
-gcc -std=c11 -O2 -Wall -Wextra -Werror -Iinclude -Itests ${before:+-DBEFORE $before} bench/bench.c "$work"/baseline_gcc.o "$work"/baseline_clang.o \
+# shellcheck disable=SC2086 # empty, or words
+gcc -std=c11 -O2 -Wall -Wextra -Werror -Iinclude -Itests ${before:+-DBEFORE $before} $masks bench/bench.c \
+    "$work"/baseline_gcc.o "$work"/baseline_clang.o \
     "$work"/plain_gcc.o "$work"/plain_clang.o "$lib/libsolfadrus.a" "$work/rendering/release/librendering.a" \
     -lpthread -ldl -lm -o "$work/bench"
 echo
@@ -79,8 +90,8 @@ echo
 stamp="$(date -u +%Y-%m-%d)	$(git describe --always --dirty 2>/dev/null || echo unknown)"
 rm -f "$work/ratios.tsv" "$work/verify.svg"
 "$work/bench" "$work/verify.svg" "$work/ratios.tsv" "$stamp" "$@"
-# Two shapes with three calls each.
-if [ "$(wc -l <"$work/ratios.tsv")" != 6 ] || [ ! -s "$work/verify.svg" ]; then
+# Three shapes with three calls each.
+if [ "$(wc -l <"$work/ratios.tsv")" != 9 ] || [ ! -s "$work/verify.svg" ]; then
     echo "ratios or plot are missing" >&2
     exit 1
 fi
