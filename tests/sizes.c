@@ -2,6 +2,7 @@
  * The size macros of the header equal the size functions of the library, on a grid of sizes that
  * has each limit and each multiple of 8 with its neighbours; out of range the functions answer 0.
  * Also: the macros are constant expressions, the words come apart, and the versions agree.
+ * With a word, says how long the longest strings are, as the header does (tests/sizes.sh).
  */
 #include <stdint.h>
 #include <stdio.h>
@@ -125,10 +126,18 @@ static void expect(int yes, const char *what)
     }
 }
 
-int main(void)
+int main(int argc, char **words)
 {
     const uint32_t word = UINT32_C(11) * 65536 + 319;
 
+    (void)words;
+    if (argc > 1) {
+        const size_t n = MQ_MAX_VARIABLES, m = MQ_MAX_EQUATIONS, tau = MQ_MAX_REPETITIONS, t = MQ_MAX_HASH_ROWS;
+        printf("With the largest sizes the key has %zu bytes, the leaves %zu, the opened leaves %zu and the proof %zu.\n",
+               mq_key_size(n, m, tau, t), mq_leaves_size(n, m, tau, t), mq_opened_size(n, m, tau, t),
+               mq_proof_size(n, m, tau, t));
+        return 0;
+    }
     in_range();
     out_of_range();
     expect(mq_version() == MQ_VERSION, "mq_version() is not MQ_VERSION");

@@ -44,3 +44,15 @@ echo "$(wc -l <"$work/functions") lengths, each with macro, function and a line 
 
 gcc -std=c99 -O2 -Wall -Wextra -pedantic -Werror -Iinclude tests/sizes.c "$lib/libsolfadrus.a" -o "$work/sizes"
 "$work/sizes"
+
+# stated FILE: whether its prose says how long the longest strings are.
+"$work/sizes" largest >"$work/largest"
+stated() {
+    sed 's/^ \* *//' "$1" | tr -s '\n' ' ' | grep -qF "$(cat "$work/largest")"
+}
+for file in include/solfadrus.h docs/man/solfadrus.3; do
+    stated "$file" || { echo "$file does not say: $(cat "$work/largest")" >&2 && exit 1; }
+    sed 's/leaves 1517760/leaves 1517761/' "$file" >"$work/other"
+    ! stated "$work/other" || { echo "not found out: another length in $file" >&2 && exit 1; }
+done
+echo "the longest strings: as the header and solfadrus.3 say"
