@@ -21,6 +21,8 @@
  * sums of chi(e, i) times g_i = A_i x + A_i^T x + b_i, which one more table gives. Both are multiplied with v by
  * Karatsuba on the planes. g_i and the witness test are made of the squares as these are folded.
  *
+ * Equations go through this in blocks of at most 160, so that table and squares stay near; the sums are added up.
+ *
  * What a look-up costs is its two loads, and the machine has time for little else beside them. So there are two
  * tables, each for half of the equations, and one is filled while the other is in use.
  *
@@ -36,12 +38,13 @@
 #define NOINLINE __attribute__((noinline)) /* what it has on the stack goes with it */
 
 enum {
-    STRIDE = 96, /* a leaf has at most 88 bytes: six registers */
+    STRIDE = 128, /* a leaf has at most 124 bytes: eight registers */
     LANES = MQ_MAX_REPETITIONS,
     MAX_ROW = MQ_STRING_SIZE(MQ_MAX_VARIABLES),
     MAX_HASH_ROW = MQ_HASH_ROW_SIZE(MQ_MAX_VARIABLES, MQ_MAX_EQUATIONS, MQ_MAX_REPETITIONS, MQ_MAX_HASH_ROWS),
     PANELS = MQ_MAX_VARIABLES / 16,
-    FIVES = MQ_MAX_EQUATIONS / 5,
+    BLOCK_EQUATIONS = 160, /* as many go through the tables together */
+    FIVES = BLOCK_EQUATIONS / 5,
     PRODUCTS = 27
 };
 
@@ -483,7 +486,7 @@ static void make_witness(const uint8_t *x, size_t row, struct witness *witness)
 }
 
 /* A matrix, with so many bytes that can be read: in the key, or where that ends before, in a copy. */
-enum { MAX_ROOM = MQ_MAX_VARIABLES * MAX_ROW + 32 };
+enum { MAX_ROOM = MQ_MAX_VARIABLES * MAX_ROW + 48 };
 
 INLINE const uint8_t *matrix_at(const struct key *key, size_t i, size_t room, uint8_t *copy)
 {
@@ -495,14 +498,17 @@ INLINE const uint8_t *matrix_at(const struct key *key, size_t i, size_t room, ui
 }
 
 /* Question 11, where nothing else is made of the matrices: by x^T A, the rows masked by the bits of x, added, and
- * taken with x. Four rows at a time, which have at most 80 bytes; masks and x are 0 past them. */
-static uint32_t ask_solves(const struct key *key, const uint8_t *x)
+ * taken with x. Four rows at a time, which have at most so many registers; masks and x are 0 past them. */
+enum { MOST_REGS = 4 * MAX_ROW / 16, FEW_REGS = 5 /* of rows of at most 20 bytes */ };
+
+INLINE uint32_t ask_solves_by(const struct key *key, const uint8_t *x, const int REGS)
 {
-    enum { REGS = 4 * MAX_ROW / 16, FOURS = MQ_MAX_VARIABLES / 4 };
-    const size_t four = 4 * key->row, fours = (key->n + 3) / 4, room = fours * four + 16 * REGS;
-    uint8_t copy[MAX_ROOM + 16 * REGS] = { 0 };
-    reg mask[FOURS][REGS], each[REGS];
-    memset(mask, 0, sizeof mask);
+    enum { FOURS = MQ_MAX_VARIABLES / 4 };
+    const size_t four = 4 * key->row, fours = (key->n + 3) / 4, room = fours * four + 16 * (size_t)REGS;
+    uint8_t copy[MAX_ROOM + 16 * MOST_REGS];
+    reg mask[FOURS][MOST_REGS], each[MOST_REGS];
+    memset(copy, 0, room);
+    memset(mask, 0, fours * sizeof mask[0]);
     memset(each, 0, sizeof each);
     for (size_t r = 0; r < key->n; r++)
         memset((uint8_t *)mask[r / 4] + r % 4 * key->row, -(x[r / 8] >> r % 8 & 1), key->row);
@@ -510,7 +516,7 @@ static uint32_t ask_solves(const struct key *key, const uint8_t *x)
         memcpy((uint8_t *)each + f * key->row, x, key->row);
     for (size_t i = 0; i < key->m; i++) {
         const uint8_t *at = matrix_at(key, i, room, copy);
-        reg sum[REGS], all = _mm_setzero_si128();
+        reg sum[MOST_REGS], all = _mm_setzero_si128();
         for (int j = 0; j < REGS; j++)
             sum[j] = _mm_setzero_si128();
         for (size_t k = 0; k < fours; k++, at += four)
@@ -528,13 +534,23 @@ static uint32_t ask_solves(const struct key *key, const uint8_t *x)
     return MQ_ACCEPTED;
 }
 
+static uint32_t ask_solves(const struct key *key, const uint8_t *x)
+{
+    return 4 * key->row <= 16 * FEW_REGS ? ask_solves_by(key, x, FEW_REGS) : ask_solves_by(key, x, MOST_REGS);
+}
+
 /* ---- Folded matrices ---------------------------------------------------------------------- */
 
-/* The panels are folded in three sets, 0 .. 3, 4 .. 7, 8 and 9, so that the stack is not too long. The squares of a
- * set stand panel by panel, each for all equations; what is past m is 0. */
+/* The panels are folded in sets of four, so that the stack is not too long. The squares of a set stand panel by panel,
+ * each for all equations of a block; what is past those is 0. */
 enum {
-    MAX_SQUARES = 26,
-    SQUARE = 2 * MQ_MAX_EQUATIONS /* registers */
+    MAX_SQUARES = 17 + 18 + 19 + 20,
+    SQUARE = 2 * BLOCK_EQUATIONS /* registers */
+};
+
+/* Equations that go through the tables together. */
+struct block {
+    size_t from, count;
 };
 
 /* With F the squares of an equation that are folded so far: the bits of F x + F^T x, and a register whose parity is
@@ -551,36 +567,34 @@ INLINE reg load_two(const uint8_t *low, const uint8_t *high)
     return _mm_castps_si128(_mm_loadh_pi(first, (const __m64 *)high));
 }
 
-/* The squares of panel J that are below the diagonal, turned. */
-INLINE void turn_panel(const uint8_t *matrix, size_t row, size_t J, reg turned[PANELS][2])
+/* The squares of panel J that are below the diagonal, turned: up to eight at a time, so that there is room for more than
+ * there are. */
+enum { TURNED = (PANELS + 7) / 8 * 8 };
+
+INLINE void turn_panel(const uint8_t *matrix, size_t row, size_t J, reg turned[TURNED][2])
 {
-    const uint8_t *at = matrix + 16 * J * row;
     reg r[8];
-    if (J > 4) {
-        for (size_t q = 0; q < 8; q++)
-            turned[q][1] = _mm_setzero_si128();
-        for (size_t h = 0; h < 2 && 2 * J + h < row; h++) { /* from `row` on there is no column */
-            for (size_t i = 0; i < 8; i++)
-                r[i] = load(at + (8 * h + i) * row);
-            turn(r);
+    for (size_t first = 0; first < J; first += 8) {
+        const uint8_t *at = matrix + 16 * J * row + 2 * first;
+        if (J - first > 4) {
             for (size_t q = 0; q < 8; q++)
-                turned[q][h] = r[q];
+                turned[first + q][1] = _mm_setzero_si128();
+            for (size_t h = 0; h < 2 && 2 * J + h < row; h++) { /* from `row` on there is no column */
+                for (size_t i = 0; i < 8; i++)
+                    r[i] = load(at + (8 * h + i) * row);
+                turn(r);
+                for (size_t q = 0; q < 8; q++)
+                    turned[first + q][h] = r[q];
+            }
+        } else {
+            for (size_t i = 0; i < 8; i++)
+                r[i] = load_two(at + i * row, at + (8 + i) * row);
+            turn(r);
+            for (size_t q = 0; q < 4; q++) {
+                turned[first + q][0] = r[q];
+                turned[first + q][1] = r[q + 4];
+            }
         }
-    } else if (J > 0) {
-        for (size_t i = 0; i < 8; i++)
-            r[i] = load_two(at + i * row, at + (8 + i) * row);
-        turn(r);
-        for (size_t q = 0; q < 4; q++) {
-            turned[q][0] = r[q];
-            turned[q][1] = r[q + 4];
-        }
-    }
-    if (J == 9) {
-        for (size_t i = 0; i < 8; i++)
-            r[i] = load_two(at + 16 + i * row, at + 16 + (8 + i) * row);
-        turn(r);
-        turned[8][0] = r[0];
-        turned[8][1] = r[4];
     }
 }
 
@@ -602,12 +616,12 @@ INLINE size_t squares_before(size_t first, size_t J)
     return J * (J + 1) / 2 - first * (first + 1) / 2;
 }
 
-/* Panels first .. first + count - 1 of a matrix, as equation i. */
+/* Panels first .. first + count - 1 of the matrix of equation i, as the one of number `place` in its block. */
 INLINE void fold_matrix(const uint8_t *matrix, size_t row, size_t first, size_t count, size_t panels, size_t i,
-                        reg *cells, const struct witness *witness, struct tried *tried)
+                        size_t place, reg *cells, const struct witness *witness, struct tried *tried)
 {
     const size_t end = first + count < panels ? first + count : panels;
-    reg turned[4][PANELS][2], down[16];
+    reg turned[4][TURNED][2], down[16];
     for (size_t J = first; J < end; J++)
         turn_panel(matrix, row, J, turned[J - first]);
     if (tried)
@@ -620,7 +634,7 @@ INLINE void fold_matrix(const uint8_t *matrix, size_t row, size_t first, size_t 
             const size_t J = first + k;
             if (J < q || J >= end)
                 continue;
-            reg *cell = cells + (squares_before(first, J) + q) * SQUARE + 2 * i;
+            reg *cell = cells + (squares_before(first, J) + q) * SQUARE + 2 * place;
             reg low = column[2 * k], high = column[2 * k + 1];
             if (q < J) {
                 low = xor(low, turned[k][q][0]);
@@ -650,27 +664,33 @@ INLINE void fold_matrix(const uint8_t *matrix, size_t row, size_t first, size_t 
     }
 }
 
-INLINE void fold_set(const struct key *key, size_t first, size_t count, reg *cells, uint8_t copy[MAX_ROOM],
-                     const struct witness *witness, struct tried *tried)
+INLINE void fold_set(const struct key *key, struct block block, size_t first, size_t count, reg *cells,
+                     uint8_t copy[MAX_ROOM], const struct witness *witness, struct tried *tried)
 {
-    const size_t panels = (key->n + 15) / 16, room = 16 * panels * key->row + 32;
-    for (size_t i = 0; i < key->m; i++)
-        fold_matrix(matrix_at(key, i, room, copy), key->row, first, count, panels, i, cells, witness, tried);
+    const size_t panels = (key->n + 15) / 16, room = 16 * panels * key->row + 48;
+    for (size_t place = 0; place < block.count; place++) {
+        const size_t i = block.from + place;
+        fold_matrix(matrix_at(key, i, room, copy), key->row, first, count, panels, i, place, cells, witness, tried);
+    }
 }
 
-/* The three sets, and with or without a witness: constants, so that the loops are unrolled. */
+/* The sets, and with or without a witness: constants, so that the loops are unrolled. Where n is at most 160 the third
+ * has two panels. */
 #define FOLD(name, first, count) \
-    static NOINLINE void name(const struct key *key, reg *cells, uint8_t *copy, const struct witness *witness, \
-                              struct tried *tried) \
+    static NOINLINE void name(const struct key *key, struct block block, reg *cells, uint8_t *copy, \
+                              const struct witness *witness, struct tried *tried) \
     { \
         if (tried) \
-            fold_set(key, first, count, cells, copy, witness, tried); \
+            fold_set(key, block, first, count, cells, copy, witness, tried); \
         else \
-            fold_set(key, first, count, cells, copy, NULL, NULL); \
+            fold_set(key, block, first, count, cells, copy, NULL, NULL); \
     }
 FOLD(fold_before_4, 0, 4)
 FOLD(fold_before_8, 4, 4)
 FOLD(fold_before_10, 8, 2)
+FOLD(fold_before_12, 8, 4)
+FOLD(fold_before_16, 12, 4)
+FOLD(fold_before_20, 16, 4)
 
 /* ---- Look-ups ----------------------------------------------------------------------------- */
 
@@ -689,13 +709,14 @@ INLINE uint64_t spread_fives(uint64_t x)
     return x << 2;
 }
 
-/* Bits of equations past m may be set: there is nothing there to choose. */
-static void make_picks(const struct key *key, const uint8_t *batching, struct picks *picks)
+/* Bits of equations past the block may be set: there is nothing there to choose. */
+static void make_picks(const struct key *key, struct block block, const uint8_t *batching, struct picks *picks)
 {
     const uint8_t *end = batching + key->tau * key->m;
+    batching += block.from;
     for (size_t e = 0; e < key->tau; e++, batching += key->m) {
         uint8_t bits[8][24] = { { 0 } };
-        for (size_t i = 0; i < key->m; i += 16) {
+        for (size_t i = 0; i < block.count; i += 16) {
             uint8_t copy[16] = { 0 };
             reg r;
             if ((size_t)(end - batching) < i + 16) {
@@ -806,6 +827,15 @@ INLINE void look_up_two(const reg *sums, const uint64_t *one, const uint64_t *ot
 
 /* ---- Batched forms ------------------------------------------------------------------------ */
 
+/* A line has n bits, and a last bit past all panels, in two registers, or where these have no room for it in three. Two
+ * go through the tables together. */
+enum { LINE_REGS = 4 };
+
+INLINE size_t line_regs(const struct key *key)
+{
+    return key->n <= 240 ? 2 : 3;
+}
+
 struct batch {
     _Alignas(64) reg cells[MAX_SQUARES * SQUARE];
     reg sums[2][FIVES / 2 * 32 * 2];         /* the two tables */
@@ -813,18 +843,19 @@ struct batch {
     reg stacks[MQ_MAX_REPETITIONS][15][2];
     reg columns[MQ_MAX_REPETITIONS][PANELS]; /* of v^T B: a word for each plane */
     reg vectors[MQ_MAX_REPETITIONS][PANELS]; /* v, 0 from n on */
+    reg lines[MQ_MAX_REPETITIONS][LINE_REGS][8]; /* the batched lines, so far */
     struct picks picks;
 };
 
 /* The fives of equations for the first table, and for the second: as many as there are up to 80, and the rest. */
-INLINE size_t first_half(const struct key *key)
+INLINE size_t first_half(struct block block)
 {
-    return (key->m + 4) / 5 < FIVES / 2 ? (key->m + 4) / 5 : FIVES / 2;
+    return (block.count + 4) / 5 < FIVES / 2 ? (block.count + 4) / 5 : FIVES / 2;
 }
 
-INLINE size_t second_half(const struct key *key)
+INLINE size_t second_half(struct block block)
 {
-    return (key->m + 4) / 5 - first_half(key);
+    return (block.count + 4) / 5 - first_half(block);
 }
 
 /* The planes of a square of the batched matrix, so far as the first half of the equations makes them. */
@@ -877,95 +908,103 @@ static void finish_panel(size_t tau, size_t J, struct batch *batch)
         for (int i = 0; i < 14; i++)
             rest[i] = stack[16 + i];
         rest[14] = rest[15] = _mm_setzero_si128();
-        batch->columns[e][J] = reduce_words(add_up(stack), add_up(rest));
+        batch->columns[e][J] = xor(batch->columns[e][J], reduce_words(add_up(stack), add_up(rest)));
     }
     memset(batch->stacks, 0, tau * sizeof batch->stacks[0]);
 }
 
-static void add_panels(const struct key *key, size_t first, size_t end, struct batch *batch)
+static void add_panels(const struct key *key, struct block block, size_t first, size_t end, struct batch *batch)
 {
-    const size_t half = first_half(key), tau = key->tau;
+    const size_t half = first_half(block), tau = key->tau;
     const reg *cell = batch->cells;
     for (size_t g = 0; g < half; g++)
         fill_five(cell + 10 * g, batch->sums[0] + 64 * g);
     for (size_t J = first; J < end && 16 * J < key->n; J++) {
         for (size_t q = 0; q <= J; q++, cell += SQUARE) {
             const size_t more = q < J || (J + 1 < end && 16 * (J + 1) < key->n) ? half : 0;
-            const struct filling second = { cell + 10 * half, batch->sums[1], second_half(key), tau, 0 };
+            const struct filling second = { cell + 10 * half, batch->sums[1], second_half(block), tau, 0 };
             const struct filling next = { cell + SQUARE, batch->sums[0], more, tau, 0 };
             sum_first(tau, half, second, batch);
-            absorb_square(tau, second_half(key), q, next, batch);
+            absorb_square(tau, second_half(block), q, next, batch);
         }
         finish_panel(tau, J, batch);
     }
 }
 
-/* The products with v: of v^T B, and of the batched lines, which stand where the squares did. A line has n bits, and
- * a last bit, which is taken times last[e]. */
-static void finish_forms(const struct key *key, const struct work *work, const uint8_t *last, struct batch *batch,
-                         uint8_t *square, uint8_t *line)
+/* Two registers of the lines of a block, from the one of number `from` on, where the squares stood: b, what was tried
+ * added to it, and `last`, a bit for each. */
+static void put_lines(const struct key *key, struct block block, size_t from, const struct tried *tried,
+                      const uint8_t *last, reg *cells)
 {
-    const size_t half = first_half(key), rest = second_half(key);
+    for (size_t place = 0; place < block.count; place++) {
+        const size_t i = block.from + place;
+        uint8_t bytes[16 * LINE_REGS] = { 0 };
+        memcpy(bytes, key->b + i * key->row, key->row);
+        if (last)
+            bytes[16 * line_regs(key) - 1] = (uint8_t)((last[i / 8] >> i % 8 & 1) << 7);
+        cells[2 * place] = load(bytes + 16 * from);
+        cells[2 * place + 1] = load(bytes + 16 * from + 16);
+        if (tried) {
+            memset(bytes, 0, sizeof bytes);
+            memcpy(bytes, tried->line[i], sizeof tried->line[i]);
+            cells[2 * place] = xor(cells[2 * place], load(bytes + 16 * from));
+            cells[2 * place + 1] = xor(cells[2 * place + 1], load(bytes + 16 * from + 16));
+        }
+    }
+}
+
+/* Adds two registers of the lines of a block, batched. */
+static void add_lines(const struct key *key, struct block block, size_t from, struct batch *batch)
+{
+    const size_t half = first_half(block), rest = second_half(block);
     const struct filling second = { batch->cells + 10 * half, batch->sums[1], rest, key->tau, 0 };
-    uint8_t valid[32] = { 0 };
-    for (size_t c = 0; c < key->n; c++)
-        valid[c / 8] |= (uint8_t)(1 << c % 8);
     for (size_t g = 0; g < half; g++)
         fill_five(batch->cells + 10 * g, batch->sums[0] + 64 * g);
     sum_first(key->tau, half, second, batch);
-    for (size_t e = 0; e < key->tau; e++) {
-        reg v[2][8], w[8], l[2][8], factor[PRODUCTS], acc0[PRODUCTS], acc1[PRODUCTS], both[16];
+    for (size_t e = 0; e < key->tau; e++)
         for (int p = 0; p < 8; p += 2) {
-            reg s[4];
+            reg s[4], (*line)[8] = batch->lines[e] + from;
             for (int i = 0; i < 4; i++)
                 s[i] = batch->planes[e][2 * p + i];
             look_up_two(batch->sums[1], batch->picks.eight[1][e][p], batch->picks.eight[1][e][p + 1], rest, s);
             for (int h = 0; h < 2; h++) {
-                l[h][p] = s[h];
-                l[h][p + 1] = s[h + 2];
+                line[h][p] = xor(line[h][p], s[h]);
+                line[h][p + 1] = xor(line[h][p + 1], s[h + 2]);
             }
         }
-        for (int p = 0; p < 8; p++) {
-            const reg one = _mm_cvtsi32_si128((last[e] >> p & 1) << 15);
-            v[0][p] = and(load(work->sums[e].plane[p]), load(valid));
-            v[1][p] = and(load(work->sums[e].plane[p] + 16), load(valid + 16));
-            v[1][p] = xor(v[1][p], _mm_slli_si128(one, 14));
-        }
+}
+
+/* The products with v: of v^T B, and of the batched lines, whose last bit is taken times last[e]. */
+static void finish_forms(const struct key *key, const struct work *work, const uint8_t *last, struct batch *batch,
+                         uint8_t *square, uint8_t *line)
+{
+    const size_t regs = line_regs(key);
+    uint8_t valid[16 * LINE_REGS] = { 0 };
+    for (size_t c = 0; c < key->n; c++)
+        valid[c / 8] |= (uint8_t)(1 << c % 8);
+    for (size_t e = 0; e < key->tau; e++) {
+        reg v[8], w[8], factor[PRODUCTS], acc0[PRODUCTS], acc1[PRODUCTS], both[16];
         for (int i = 0; i < PRODUCTS; i++)
             acc0[i] = acc1[i] = _mm_setzero_si128();
-        for (int h = 0; h < 2; h++) {
+        for (size_t h = 0; h < regs; h++) {
             reg words[8];
+            for (int p = 0; p < 8; p++) {
+                const reg one = _mm_cvtsi32_si128(h + 1 == regs ? (last[e] >> p & 1) << 15 : 0);
+                v[p] = and(load(work->sums[e].plane[p] + 16 * h), load(valid + 16 * h));
+                v[p] = xor(v[p], _mm_slli_si128(one, 14));
+            }
             for (size_t J = 0; J < 8; J++)
-                words[J] = 8 * (size_t)h + J < PANELS ? batch->columns[e][8 * (size_t)h + J] : _mm_setzero_si128();
+                words[J] = 8 * h + J < PANELS ? batch->columns[e][8 * h + J] : _mm_setzero_si128();
             transpose_words(words, w);
-            karatsuba_sums(v[h], factor);
+            karatsuba_sums(v, factor);
             add_products(acc0, factor, w);
-            add_products(acc1, factor, l[h]);
+            add_products(acc1, factor, batch->lines[e][h]);
         }
         finish(acc0, both);
         finish(acc1, both + 8);
         const unsigned bits = parities(add_up(both));
         square[e] = (uint8_t)bits;
         line[e] = (uint8_t)(bits >> 8);
-    }
-}
-
-/* The lines of all equations, where the squares stood: b, what was tried added to it, and `last`, a bit for each. */
-static void put_lines(const struct key *key, const struct tried *tried, const uint8_t *last, reg *cells)
-{
-    for (size_t i = 0; i < key->m; i++) {
-        uint8_t bytes[32] = { 0 };
-        memcpy(bytes, key->b + i * key->row, key->row);
-        if (last)
-            bytes[31] = (uint8_t)((last[i / 8] >> i % 8 & 1) << 7);
-        cells[2 * i] = load(bytes);
-        cells[2 * i + 1] = load(bytes + 16);
-        if (tried) {
-            memset(bytes, 0, sizeof bytes);
-            memcpy(bytes, tried->line[i], sizeof tried->line[i]);
-            cells[2 * i] = xor(cells[2 * i], load(bytes));
-            cells[2 * i + 1] = xor(cells[2 * i + 1], load(bytes + 16));
-        }
     }
 }
 
@@ -981,7 +1020,7 @@ static uint8_t mask_of_v(const struct key *key, const struct sums *sums, size_t 
 /* What is past n is 0: so it does not matter what the squares have there. */
 static void make_vectors(const struct key *key, const struct work *work, struct batch *batch)
 {
-    reg valid[16];
+    reg valid[TURNED];
     for (size_t r = 0; r < sizeof valid; r++)
         ((uint8_t *)valid)[r] = r < key->n ? 0xFF : 0;
     for (size_t e = 0; e < key->tau; e++)
@@ -993,6 +1032,43 @@ static void make_vectors(const struct key *key, const struct work *work, struct 
         }
 }
 
+/* Adds what a block of equations has of v^T B and of the batched lines. */
+static void add_block_forms(const struct key *key, struct block block, const uint8_t *batching,
+                            const struct witness *witness, struct tried *tried, struct batch *batch)
+{
+    /* Between two sets the tables are free. What is past a copied matrix meets vectors and a witness that are 0. */
+    uint8_t *copy = (uint8_t *)batch->sums;
+    const size_t panels = (key->n + 15) / 16, last = (panels - 1) / 4 * 4;
+    const size_t squares = squares_before(last, panels), before = last ? squares_before(last - 4, last) : 0;
+    memset(copy, 0, MAX_ROOM);
+    for (size_t k = 0; k < (squares < before ? before : squares); k++) /* up to four equations past the block */
+        for (size_t i = 2 * block.count; i < 2 * block.count + 8 && i < SQUARE; i++)
+            batch->cells[k * SQUARE + i] = _mm_setzero_si128();
+    make_picks(key, block, batching, &batch->picks);
+    fold_before_4(key, block, batch->cells, copy, witness, tried);
+    add_panels(key, block, 0, 4, batch);
+    if (key->n > 64) {
+        fold_before_8(key, block, batch->cells, copy, witness, tried);
+        add_panels(key, block, 4, 8, batch);
+    }
+    if (key->n > 128) {
+        (key->n > 160 ? fold_before_12 : fold_before_10)(key, block, batch->cells, copy, witness, tried);
+        add_panels(key, block, 8, 12, batch);
+    }
+    if (key->n > 192) {
+        fold_before_16(key, block, batch->cells, copy, witness, tried);
+        add_panels(key, block, 12, 16, batch);
+    }
+    if (key->n > 256) {
+        fold_before_20(key, block, batch->cells, copy, witness, tried);
+        add_panels(key, block, 16, 20, batch);
+    }
+    for (size_t from = 0; from < line_regs(key); from += 2) {
+        put_lines(key, block, from, tried, tried ? NULL : key->y, batch->cells);
+        add_lines(key, block, from, batch);
+    }
+}
+
 /* For each repetition the batched v^T A v with the mask, and the batched lines times v; last[e] is what y is taken
  * times. With a witness, which is then tried too, the lines are those of the polar form. */
 static NOINLINE void batch_forms(const struct key *key, const struct work *work, const uint8_t *batching,
@@ -1000,27 +1076,15 @@ static NOINLINE void batch_forms(const struct key *key, const struct work *work,
                                  uint8_t *square, uint8_t *line)
 {
     struct batch batch;
-    /* Between two sets the tables are free. What is past a copied matrix meets vectors and a witness that are 0. */
-    uint8_t *copy = (uint8_t *)batch.sums;
-    memset(copy, 0, MAX_ROOM);
-    for (size_t k = 0; k < MAX_SQUARES; k++) /* up to four equations past m */
-        for (size_t i = 2 * key->m; i < 2 * key->m + 8 && i < SQUARE; i++)
-            batch.cells[k * SQUARE + i] = _mm_setzero_si128();
     memset(batch.stacks, 0, sizeof batch.stacks);
     memset(batch.columns, 0, sizeof batch.columns);
-    make_picks(key, batching, &batch.picks);
+    memset(batch.lines, 0, sizeof batch.lines);
     make_vectors(key, work, &batch);
-    fold_before_4(key, batch.cells, copy, witness, tried);
-    add_panels(key, 0, 4, &batch);
-    if (key->n > 64) {
-        fold_before_8(key, batch.cells, copy, witness, tried);
-        add_panels(key, 4, 8, &batch);
+    for (size_t from = 0; from < key->m; from += BLOCK_EQUATIONS) {
+        const size_t left = key->m - from;
+        const struct block block = { from, left < BLOCK_EQUATIONS ? left : BLOCK_EQUATIONS };
+        add_block_forms(key, block, batching, witness, tried, &batch);
     }
-    if (key->n > 128) {
-        fold_before_10(key, batch.cells, copy, witness, tried);
-        add_panels(key, 8, 10, &batch);
-    }
-    put_lines(key, tried, tried ? NULL : key->y, batch.cells);
     finish_forms(key, work, last, &batch, square, line);
     for (size_t e = 0; e < key->tau; e++)
         square[e] ^= mask_of_v(key, &work->sums[e], e);

@@ -137,9 +137,10 @@ static inline union lanes look_up(const struct work *work, const uint8_t *row, s
 
 /* ---- Equations ---------------------------------------------------------------------------- */
 
-/* A row of at most 24 bytes, as words. */
+/* A row, as words. */
+enum { WORDS = (MAX_ROW + 7) / 8 };
 struct row {
-    uint64_t word[3];
+    uint64_t word[WORDS];
 };
 
 static inline struct row take_row(const uint8_t *at, size_t len)
@@ -162,21 +163,21 @@ static uint8_t try_witness(const struct key *key, size_t i, const uint8_t *x, ui
 {
     const struct row b = take_row(key->b + i * key->row, key->row), all = take_row(x, key->row);
     struct row sum = b;
-    uint64_t ax[3] = { 0 }, error = 0;
+    uint64_t ax[WORDS] = { 0 }, error = 0;
     uint8_t copy[MQ_MAX_VARIABLES * MAX_ROW + sizeof(struct row)];
     memcpy(copy, key->a + i * key->n * key->row, key->n * key->row);
     memset(copy + key->n * key->row, 0, sizeof(struct row));
     for (size_t r = 0; r < key->n; r++) {
         const uint64_t mask = -(all.word[r / 64] >> r % 64 & 1);
-        uint64_t shared = 0, own[3];
+        uint64_t shared = 0, own[WORDS];
         memcpy(own, copy + r * key->row, sizeof own);
-        for (size_t k = 0; k < 3; k++) {
+        for (size_t k = 0; k < WORDS; k++) {
             shared ^= own[k] & all.word[k];
             sum.word[k] ^= own[k] & mask;
         }
         ax[r / 64] |= (uint64_t)parity_of_word(shared) << r % 64;
     }
-    for (size_t k = 0; k < 3; k++) {
+    for (size_t k = 0; k < WORDS; k++) {
         error ^= (ax[k] ^ b.word[k]) & all.word[k];
         sum.word[k] ^= ax[k];
     }

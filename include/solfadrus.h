@@ -171,10 +171,10 @@ extern "C" {
 #define MQ_VERSION (MQ_VERSION_MAJOR * 65536 + MQ_VERSION_MINOR * 256 + MQ_VERSION_PATCH)
 
 /* Limits. The least value of each size is 1. */
-#define MQ_MAX_VARIABLES 160
-#define MQ_MAX_EQUATIONS 160
+#define MQ_MAX_VARIABLES 320
+#define MQ_MAX_EQUATIONS 320
 #define MQ_MAX_REPETITIONS 48
-#define MQ_MAX_HASH_ROWS 160
+#define MQ_MAX_HASH_ROWS 288
 
 /* The stack that a call must find left. */
 #define MQ_STACK_BYTES 262144
@@ -229,8 +229,9 @@ extern "C" {
  *     MQ_BATCH_SIZE           mq_batch_size         what mq_batch writes, counts included
  *     MQ_PROOF_SIZE           mq_proof_size         what mq_prove writes, counts included
  *
- * With the largest sizes the key has 515240 bytes, the leaves 1081344, the opened leaves 1077120
- * and the proof 11976.
+ * With the largest sizes the key has 4108860 bytes, the leaves 1523712, the opened leaves 1517760
+ * and the proof 19848. So every length is far below 2^32, and fits an int of 32 bits: in range no
+ * macro can wrap.
  */
 #define MQ_COUNT_SIZE 4
 #define MQ_HEADER_SIZE 8

@@ -1,6 +1,7 @@
 /*
  * A case for benchmark and tests: a key with a known solution, leaves, challenges and the leaves opened there, all
- * from a small generator that is no good for secrets. There is room for a proof, which the library makes.
+ * from a small generator that is no good for secrets. There is room for a proof, which the library makes. Order and
+ * generator are those of vectors/README.md: the digests of the test vectors hold for them.
  */
 #ifndef CASE_H
 #define CASE_H
@@ -52,13 +53,18 @@ static struct lent lend(size_t len)
     return lent;
 }
 
-/* So many random strings of so many bits, spare bits 0. */
+/* So many random strings of so many bits, spare bits 0. Eight bytes at a time, lowest first (vectors/README.md): a key
+ * has up to four megabytes. */
 static void draw_strings(uint64_t *state, uint8_t *at, size_t count, size_t bits)
 {
     const size_t len = MQ_STRING_SIZE(bits);
     for (size_t i = 0; i < count; i++, at += len) {
-        for (size_t b = 0; b < len; b++)
-            at[b] = (uint8_t)draw(state);
+        uint64_t eight = 0;
+        for (size_t b = 0; b < len; b++, eight >>= 8) {
+            if (b % 8 == 0)
+                eight = draw(state);
+            at[b] = (uint8_t)eight;
+        }
         if (bits % 8)
             at[len - 1] &= (uint8_t)((1 << bits % 8) - 1);
     }
@@ -76,18 +82,20 @@ static int bit(const uint8_t *string, size_t c)
     return string[c / 8] >> c % 8 & 1;
 }
 
-/* The left side of an equation at x. */
+/* The left side of an equation at x: a byte is gathered whose bits sum up to it. */
 static int left_side(const uint8_t *a, const uint8_t *b, const uint8_t *x, size_t n)
 {
-    int sum = 0;
-    for (size_t r = 0; r < n; r++) {
-        if (!bit(x, r))
-            continue;
-        for (size_t c = 0; c < n; c++)
-            sum ^= bit(a + r * MQ_STRING_SIZE(n), c) & bit(x, c);
-        sum ^= bit(b, r);
-    }
-    return sum;
+    const size_t row = MQ_STRING_SIZE(n);
+    unsigned sum = 0;
+    int parity = 0;
+    for (size_t r = 0; r < n; r++)
+        for (size_t c = 0; bit(x, r) && c < row; c++)
+            sum ^= (unsigned)(a[r * row + c] & x[c]);
+    for (size_t c = 0; c < row; c++)
+        sum ^= (unsigned)(b[c] & x[c]);
+    for (; sum; sum >>= 1)
+        parity ^= (int)(sum & 1);
+    return parity;
 }
 
 /* A and b at random, and y so that the witness solves. */

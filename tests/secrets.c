@@ -27,26 +27,38 @@
 
 static const struct sizes shapes[] = {
     { 1, 1, 1, 1 },    { 9, 3, 2, 5 },   { 16, 9, 3, 8 },       { 33, 4, 17, 12 },
-    { 150, 2, 4, 20 }, { 24, 5, 48, 3 }, { 150, 150, 19, 144 }, { 160, 160, 48, 160 },
+    { 150, 2, 4, 20 }, { 24, 5, 48, 3 }, { 150, 150, 19, 144 }, { 161, 161, 1, 161 },
+    { 256, 1, 2, 5 },  { 257, 3, 1, 9 }, { 319, 1, 1, 161 },    { 320, 1, 2, 288 },
+    { 1, 256, 1, 1 },  { 3, 257, 1, 2 }, { 1, 319, 1, 161 },    { 1, 320, 2, 288 },
+    { 224, 224, 28, 208 }, { 320, 320, 48, 288 },
 };
 
-/* The shapes of the traces, which are long: small ones, and two at which every kernel has more than one round.
+/* The shapes of the traces, which are long: small ones, and four at which every kernel has more than one round.
  * The first has leaves of a chunk of sixteen bytes and a part of one, a second set of four panels of sixteen columns,
  * rows of more than one word of eight bytes, and equations in more than one word of ten fives. The second has three
- * chunks, a third set, and columns past the first sixteen bytes of a row. */
+ * chunks, a third set, and columns past the first sixteen bytes of a row. The third has matrices in more than one piece
+ * of ten sixteens of rows, lines of more than a chunk, and rows of H' in more than a block of 21 bytes; the fourth
+ * equations in more than a block. */
 enum { KERNEL_N = 65, KERNEL_M = 53, KERNEL_TAU = 2, KERNEL_T = 57 };
 enum { WIDE_N = 145, WIDE_M = 6, WIDE_TAU = 1, WIDE_T = 104 };
+enum { PIECES_N = 257, PIECES_M = 1, PIECES_TAU = 1, PIECES_T = 3 };
+enum { BLOCKS_N = 2, BLOCKS_M = 161, BLOCKS_TAU = 1, BLOCKS_T = 1 };
 _Static_assert(MQ_LEAF_SIZE(KERNEL_N, KERNEL_M, KERNEL_TAU, KERNEL_T) > 16, "more than a chunk of a leaf");
 _Static_assert(KERNEL_N > 4 * 16, "more than a set of panels");
 _Static_assert(KERNEL_M > 51, "more than a word of fives");
 _Static_assert(MQ_LEAF_SIZE(WIDE_N, WIDE_M, WIDE_TAU, WIDE_T) > 2 * 16, "more than two chunks of a leaf");
 _Static_assert(WIDE_N > 144, "a panel whose rows lie past the first sixteen bytes");
+_Static_assert(PIECES_N > 256, "more than a piece, and lines of more than a chunk");
+_Static_assert(MQ_HASH_ROW_SIZE(PIECES_N, PIECES_M, PIECES_TAU, PIECES_T) > 21, "more than a block of a row of H'");
+_Static_assert(BLOCKS_M > 160, "more than a block of equations");
 static const struct sizes traced[] = {
     { 1, 1, 1, 1 },
     { 9, 3, 2, 5 },
     { 16, 9, 3, 8 },
     { KERNEL_N, KERNEL_M, KERNEL_TAU, KERNEL_T },
     { WIDE_N, WIDE_M, WIDE_TAU, WIDE_T },
+    { PIECES_N, PIECES_M, PIECES_TAU, PIECES_T },
+    { BLOCKS_N, BLOCKS_M, BLOCKS_TAU, BLOCKS_T },
 };
 enum { SHAPES = sizeof shapes / sizeof shapes[0], TRACED = sizeof traced / sizeof traced[0], SMALL = 3 };
 

@@ -54,8 +54,8 @@ enum { LENGTHS = sizeof lengths / sizeof lengths[0] };
 typedef char toy_key_has_24_bytes[MQ_KEY_SIZE(2, 1, 1, 1) == 24 ? 1 : -1];
 typedef char toy_proof_has_29_bytes[MQ_PROOF_SIZE(2, 1, 1, 1) == 29 ? 1 : -1];
 /* Each repetition has eight mask coordinates of its own. */
-typedef char row_has_544_bits[MQ_HASH_ROW_BITS(160, 160, 48, 160) == 544 ? 1 : -1];
-typedef char leaf_has_88_bytes[MQ_LEAF_SIZE(160, 160, 48, 160) == 88 ? 1 : -1];
+typedef char row_has_704_bits[MQ_HASH_ROW_BITS(320, 320, 48, 288) == 704 ? 1 : -1];
+typedef char leaf_has_124_bytes[MQ_LEAF_SIZE(320, 320, 48, 288) == 124 ? 1 : -1];
 #if MQ_LEAVES_SIZE(2, 1, 1, 1) != 512 || MQ_OPENED_SIZE(2, 1, 1, 1) != 510
 #error "the leaves of the toy have 256 strings of 2 bytes"
 #endif
@@ -101,7 +101,7 @@ static void out_of_range(void)
     int which, bad, l;
     for (which = 0; which < 4; which++) {
         const size_t values[] = {
-            0, limits[which] + 1, 256 + 1, 65535, 65536 + 1, SIZE_MAX / 65536 + 2, SIZE_MAX / 2 + 2, SIZE_MAX
+            0, limits[which] + 1, 512 + 1, 65535, 65536 + 1, SIZE_MAX / 65536 + 2, SIZE_MAX / 2 + 2, SIZE_MAX
         };
         for (bad = 0; bad < (int)(sizeof values / sizeof values[0]); bad++) {
             size_t least[4] = { 1, 1, 1, 1 }, most[4];
@@ -127,13 +127,13 @@ static void expect(int yes, const char *what)
 
 int main(void)
 {
-    const uint32_t word = UINT32_C(11) * 65536 + 159;
+    const uint32_t word = UINT32_C(11) * 65536 + 319;
 
     in_range();
     out_of_range();
     expect(mq_version() == MQ_VERSION, "mq_version() is not MQ_VERSION");
     expect(MQ_NUMBER(word) == MQ_REFUSED_EQUATION_FAILS, "MQ_NUMBER");
-    expect(MQ_PLACE(word) == 159, "MQ_PLACE");
+    expect(MQ_PLACE(word) == 319, "MQ_PLACE");
     /* An empty key is refused 1, and lengths 0 are taken with any pointer. */
     expect(mq_test(NULL, 0, NULL, 0) == UINT32_C(1) * 65536, "mq_test of nothing");
     expect(mq_verify(NULL, 0, NULL, 0, NULL, 0, NULL, 0, NULL, 0, NULL, 0) == UINT32_C(1) * 65536,

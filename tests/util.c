@@ -2,6 +2,7 @@
  * Tests the helpers of solfadrus_util.h against the archive: cases are made by them, and the library judges.
  *
  *     util            all of them; says what is wrong, and fails
+ *     util small      the same without the largest shape, which is slow where nothing is optimised
  *     util messages   prints number and message, one line each, for tests/util.sh
  *     util mark       the helpers that touch secrets, these marked undefined, for valgrind
  *     util mark-leak  a control: a branch on the witness
@@ -15,6 +16,7 @@
 static const struct sizes shapes[] = {
     { 1, 1, 1, 1 },    { 2, 1, 1, 1 },   { 7, 9, 3, 8 },   { 8, 8, 2, 8 },         { 9, 7, 5, 17 },
     { 33, 20, 4, 12 }, { 64, 3, 2, 65 }, { 24, 5, 48, 3 }, { 150, 150, 19, 144 }, { 160, 160, 48, 160 },
+    { 320, 2, 1, 3 },  { 2, 320, 1, 3 }, { 320, 320, 48, 288 },
 };
 enum { SHAPES = sizeof shapes / sizeof shapes[0] };
 
@@ -97,7 +99,7 @@ static void test_sizes(struct made *made)
         check(!mq_key_sizes(made->key.at, len, &got), "mq_key_sizes takes a key that has no header", s);
     for (size_t i = 0; i < 4; i++) {
         uint8_t header[MQ_HEADER_SIZE];
-        const size_t wrong[3] = { 0, most[i] + 1, 257 };
+        const size_t wrong[3] = { 0, most[i] + 1, 513 };
         memcpy(header, made->key.at, sizeof header);
         for (size_t k = 0; k < 3; k++) {
             put(header + 2 * i, wrong[k], 2);
@@ -169,14 +171,34 @@ static void test_y(struct made *made)
     free(before.at);
 }
 
-/* The same y as that of case.h, which goes bit by bit. */
+/* The left side of an equation, bit by bit. */
+static int by_bits(const uint8_t *a, const uint8_t *b, const uint8_t *x, size_t n)
+{
+    int sum = 0;
+    for (size_t r = 0; r < n; r++) {
+        if (!bit(x, r))
+            continue;
+        for (size_t c = 0; c < n; c++)
+            sum ^= bit(a + r * MQ_STRING_SIZE(n), c) & bit(x, c);
+        sum ^= bit(b, r);
+    }
+    return sum;
+}
+
+/* The same y as that of case.h, and bit by bit. */
 static void test_same_y(uint64_t seed, struct sizes s)
 {
     struct made made = make_case(seed, s);
     struct lent key = lend(made.key.len);
+    const size_t row = MQ_STRING_SIZE(s.n);
+    int same = 1;
     memcpy(key.at, made.key.at, AT(Y));
     check(mq_make_y(key.at, key.len, made.witness.at, made.witness.len), "mq_make_y does not take its case", s);
     check(memcmp(key.at, made.key.at, key.len) == 0, "mq_make_y", s);
+    for (size_t i = 0; i < s.m; i++)
+        same &= bit(key.at + AT(Y), i)
+            == by_bits(key.at + AT(A) + i * s.n * row, key.at + AT(B) + i * row, made.witness.at, s.n);
+    check(same, "mq_make_y, bit by bit", s);
     free(key.at);
     drop_case(&made);
 }
@@ -402,9 +424,10 @@ int main(int argc, char **argv)
             printf("%u %s\n", (unsigned)number, mq_message(number * 65536));
         return 0;
     }
-    if (argc > 1)
+    const int small = argc > 1 && strcmp(argv[1], "small") == 0;
+    if (argc > 1 && !small)
         return strcmp(argv[1], "mark") == 0 ? !run_marked() : !run_leak();
-    for (size_t i = 0; i < SHAPES; i++) {
+    for (size_t i = 0; i < (small ? SHAPES - 1 : SHAPES); i++) {
         struct made made = draw_case(i, shapes[i]);
         test_sizes(&made);
         test_y(&made);

@@ -36,7 +36,7 @@ fault() {
     sed "$2" "$header" >"$work/solfadrus_util.h"
     ! cmp -s "$header" "$work/solfadrus_util.h" || { echo "nothing is changed: $1" >&2; exit 1; }
     built "$work" "$work/faulty" -O0
-    if "$work/faulty" >"$work/said"; then
+    if "$work/faulty" small >"$work/said"; then
         echo "not found out: $1" >&2
         exit 1
     fi

@@ -2,8 +2,8 @@
  * Runs the test vectors against the library: vectors [--selftest] FILE...
  *
  * The form of the files is that of vectors/README.md. Every word must be the file's; an accepted call must have
- * written exactly the file's bytes, and a refused call none. Over all files together, every number that a call can
- * answer must have come up.
+ * written exactly the file's bytes, or bytes of the file's digest, and a refused call none. Over all files together,
+ * every number that a call can answer must have come up.
  *
  * With --selftest one thing is changed at a time after the library has returned, the word or a byte of the output,
  * and each change must be reported.
@@ -14,7 +14,8 @@
 #include <stdlib.h>
 #include <string.h>
 
-#include "solfadrus.h"
+#include "case.h"
+#include "sha256.h"
 
 /* ---- A case ------------------------------------------------------------------------------- */
 
@@ -23,13 +24,14 @@ static const char *const string_names[STRINGS] = {
     "key", "witness", "leaves", "hash_matrix", "batching", "delta", "opened", "commit", "hash", "batch", "proof", "out",
 };
 
-enum { N, M, TAU, T, COUNT, OUT_LEN, NUMBER, PLACE, NUMBERS };
-static const char *const number_names[NUMBERS] = { "n", "m", "tau", "t", "COUNT", "out_len", "number", "place" };
+enum { N, M, TAU, T, COUNT, OUT_LEN, NUMBER, PLACE, SEED, NUMBERS };
+static const char *const number_names[NUMBERS] = { "n", "m", "tau", "t", "COUNT", "out_len", "number", "place", "seed" };
 
 struct string {
     uint8_t *at; /* NULL where the length is 0 */
     size_t len;
     int given;
+    const uint8_t *digest; /* of an expected output, in place of its bytes */
 };
 
 struct one_case {
@@ -129,7 +131,14 @@ enum { GUARD = 32 };
 /* A byte that differs from the one that is to be written, so that a byte left out is seen. */
 static uint8_t filling(const struct string *expected, size_t i)
 {
-    return expected && i < expected->len ? (uint8_t)~expected->at[i] : (uint8_t)(0xA5 + i);
+    return expected && expected->at && i < expected->len ? (uint8_t)~expected->at[i] : (uint8_t)(0xA5 + i);
+}
+
+static int has_digest(const uint8_t *at, size_t len, const uint8_t *expected)
+{
+    uint8_t digest[SHA256_BYTES];
+    sha256(at, len, digest);
+    return memcmp(digest, expected, sizeof digest) == 0;
 }
 
 static void tamper_with(int tamper, uint32_t *word, uint8_t *out, size_t len)
@@ -166,7 +175,9 @@ static const char *judge(const struct call *call, uint32_t word, size_t len, con
     for (i = 0; i < GUARD; i++)
         if (room[i] != 0xEE || out[len + i] != 0xEE)
             wrong = "a byte outside of out is written";
-    for (i = 0; i < len; i++)
+    if (expected && expected->digest && !has_digest(out, len, expected->digest))
+        wrong = "the digest differs";
+    for (i = 0; !(expected && expected->digest) && i < len; i++)
         if (out[i] != (expected ? expected->at[i] : filling(NULL, i)))
             wrong = expected ? "the bytes differ" : "refused, and a byte of out is written";
     if (answer != word)
@@ -198,7 +209,7 @@ static void check(const struct call *call, uint32_t word, size_t len, const stru
     }
 }
 
-/* ---- The two kinds of cases --------------------------------------------------------------- */
+/* ---- The three kinds of cases ------------------------------------------------------------- */
 
 static void check_sizes(void)
 {
@@ -229,6 +240,65 @@ static void run_proof(void)
         const struct string *expected = calls[i].output < 0 ? NULL : string(calls[i].output);
         check(&calls[i], MQ_ACCEPTED, expected ? expected->len : 0, expected);
     }
+}
+
+static const uint8_t *digest_of(int which)
+{
+    if (string(which)->len != SHA256_BYTES)
+        stop("not a digest: ", string_names[which]);
+    return string(which)->at;
+}
+
+/* Bytes take the place of a digest. */
+static void put_bytes(int which, struct lent bytes)
+{
+    struct string *const s = &now.strings[which];
+    free(s->at);
+    s->at = malloc(bytes.len);
+    s->len = bytes.len;
+    if (!s->at)
+        stop("no memory", "");
+    memcpy(s->at, bytes.at, bytes.len);
+}
+
+/* An input that was expanded must have the digest that is given. */
+static void put_expanded(int which, struct lent bytes)
+{
+    if (!has_digest(bytes.at, bytes.len, digest_of(which))) {
+        differing++;
+        printf("%s, COUNT %zu: the digest of %s differs\n", file_name, now.numbers[COUNT], string_names[which]);
+    }
+    put_bytes(which, bytes);
+}
+
+/* An honest case of which digests are given: the inputs are expanded, and every call accepts, and writes bytes of the
+ * digest that is given. The verifier is lent the library's own proof. */
+static void run_digest(void)
+{
+    const struct sizes s = { number(N), number(M), number(TAU), number(T) };
+    struct made c = make_case(number(SEED), s);
+    const struct lent inputs[] = { c.key, c.witness, c.leaves, c.hash_matrix, c.batching, c.delta, c.opened };
+    const size_t lengths[] = { mq_commit_size(s.n, s.m, s.tau, s.t), mq_hash_size(s.n, s.m, s.tau, s.t),
+                               mq_batch_size(s.n, s.m, s.tau, s.t), mq_proof_size(s.n, s.m, s.tau, s.t) };
+    size_t i;
+    int which;
+    for (which = KEY; which <= OPENED; which++)
+        put_expanded(which, inputs[which]);
+    for (i = 0; i < CALLS; i++) {
+        const int output = calls[i].output;
+        struct string expected = { NULL, 0, 1, NULL };
+        if (output >= 0) {
+            expected.len = lengths[output - COMMIT];
+            expected.digest = digest_of(output);
+        }
+        check(&calls[i], MQ_ACCEPTED, expected.len, output < 0 ? NULL : &expected);
+        if (output == PROOF) {
+            if (calls[i].make(c.proof.at, c.proof.len) != MQ_ACCEPTED)
+                stop("no proof", "");
+            put_bytes(PROOF, c.proof);
+        }
+    }
+    drop_case(&c);
 }
 
 /* One call and its answer. */
@@ -335,7 +405,9 @@ static unsigned long run_case(void)
 {
     if (!now.number_given[COUNT])
         return 0;
-    if (now.call[0])
+    if (now.number_given[SEED])
+        run_digest();
+    else if (now.call[0])
         run_answer();
     else
         run_proof();

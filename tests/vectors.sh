@@ -23,7 +23,7 @@ diff -rq "$work/committed" "$work/anew" || {
 }
 echo "the committed files are those that the generator writes"
 
-gcc -std=c99 -O2 -Wall -Wextra -pedantic -Werror -Iinclude tests/vectors.c "$lib/libsolfadrus.a" -o "$work/check"
+gcc -std=c99 -O2 -Wall -Wextra -pedantic -Werror -Iinclude -Itests tests/vectors.c "$lib/libsolfadrus.a" -o "$work/check"
 
 # spoiled FILE NAME FROM TO: in the first line of that name whose value ends with FROM, puts TO there. The check must
 # report that one difference, and no other.
@@ -47,6 +47,14 @@ spoiled proofs.rsp batch 04 05
 spoiled answers.rsp number 13 14
 spoiled answers.rsp place 1 0
 spoiled answers.rsp place 0 1
+# spoiled_digest NAME: another last digit.
+spoiled_digest() {
+    last=$(sed -n "s/^$1 = .*\(.\)\$/\1/p" vectors/digests.rsp | head -n 1)
+    spoiled digests.rsp "$1" "$last" "$(printf %s "$last" | tr 0-9a-f 1-9a-f0)"
+}
+spoiled_digest leaves
+spoiled_digest hash
+spoiled_digest proof
 
 echo "# no case" >"$work/anew/proofs.rsp"
 if "$work/check" "$work"/anew/*.rsp >"$work/log"; then

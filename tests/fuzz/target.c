@@ -13,7 +13,7 @@
 #include "edits.h"
 #include "lend.h"
 
-enum { NUMBERS = 16, PLACES = 256, WATCHED = 64 /* bytes beside the output, which must stay */ };
+enum { NUMBERS = 16, PLACES = MQ_MAX_EQUATIONS, WATCHED = 64 /* bytes beside the output, which must stay */ };
 
 /* libFuzzer looks at these as at its own counters. */
 __attribute__((section("__libfuzzer_extra_counters"))) static uint8_t words_met[NUMBERS * PLACES];
@@ -39,7 +39,7 @@ struct failing {
 
 static struct failing failing(const uint8_t *key, const uint8_t *witness)
 {
-    const size_t n = key[0], m = key[2], row = MQ_STRING_SIZE(n);
+    const size_t n = key[0] + 256u * key[1], m = key[2] + 256u * key[3], row = MQ_STRING_SIZE(n);
     const uint8_t *const a = key + 12, *const b = a + m * n * row + 4, *const y = b + m * row + 4;
     struct failing found = { 0, 0, 0 };
     for (size_t i = 0; i < m; i++)

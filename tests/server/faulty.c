@@ -45,7 +45,7 @@ uint32_t faulty_test(const uint8_t *key, size_t key_len, const uint8_t *witness,
     if (!copy)
         abort();
     memcpy(copy, key, key_len);
-    y = copy + key_len - MQ_STRING_SIZE((size_t)copy[2]);
+    y = copy + key_len - MQ_STRING_SIZE(copy[2] | (size_t)copy[3] << 8);
     for (; word != MQ_ACCEPTED; word = mq_test(copy, key_len, witness, witness_len)) {
         y[MQ_PLACE(word) / 8] ^= (uint8_t)(1 << MQ_PLACE(word) % 8);
         last = word;

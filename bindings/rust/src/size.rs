@@ -1,7 +1,7 @@
 //! The lengths in bytes of what is lent and written, as functions of the four sizes, in the key's order.
 //!
 //! Each takes n variables, m equations, tau repetitions and t hash rows, whether or not the length depends on each, and
-//! answers 0 where a size is out of range (n, m, t: 1 to 160; tau: 1 to 48). No length that is in range is 0.
+//! answers 0 where a size is out of range (n, m: 1 to 320; tau: 1 to 48; t: 1 to 288). No length that is in range is 0.
 
 use crate::ffi;
 

@@ -15,7 +15,7 @@ pub use shapes::Sizes;
 pub enum Group {
     /// 01's toy, with its bytes written out.
     Toy,
-    /// One size at its limit, past it, or 0.
+    /// One size at a limit, past it, or 0.
     Edge(Sizes),
     /// Every pair of damages.
     Pairs(Sizes),
@@ -53,17 +53,38 @@ const FORGED: [Sizes; 3] = [shapes::SMALL, (3, 2, 3, 2), (66, 1, 1, 60)];
 const REPEATED: [Sizes; 4] = [shapes::SMALL, (5, 2, 3, 4), (3, 2, 17, 2), (1, 1, 48, 1)];
 
 /// With several bytes of y, and the most.
-const FAILING: [Sizes; 2] = [(9, 21, 2, 5), (3, 160, 1, 2)];
+const FAILING: [Sizes; 2] = [(9, 21, 2, 5), (3, 320, 1, 2)];
 
-/// Beside those of the thresholds: the set of 150 variables, and the limits together.
-const LARGE: [Sizes; 3] = [(160, 160, 1, 160), (150, 150, 19, 144), (160, 160, 48, 160)];
+/// Beside those of the thresholds: the set of 150 variables of 003, the limits of 01 together, and those of today.
+const LARGE: [Sizes; 4] = [
+    (160, 160, 1, 160),
+    (150, 150, 19, 144),
+    (160, 160, 48, 160),
+    (320, 320, 48, 288),
+];
+
+/// The sets of 224 and of 320 variables of 003: t is 16 more than the bits of the level.
+const LONG_LIVED: [Sizes; 2] = [(224, 224, 28, 208), (320, 320, 37, 272)];
+
+/// n far from m: pieces and lines in two with few equations, and blocks of equations with few variables.
+const FAR: [Sizes; 6] = [
+    (320, 1, 3, 288),
+    (1, 320, 2, 161),
+    (319, 161, 1, 161),
+    (161, 319, 1, 288),
+    (257, 9, 17, 12),
+    (24, 257, 16, 161),
+];
 
 /// The groups that every run has, before the random ones.
 pub fn fixed() -> Vec<Group> {
     let mut groups = vec![Group::Toy];
     for which in 0..4 {
         let limit = shapes::LIMITS[which];
-        for size in [0, limit, limit + 1] {
+        // The limits of 01 too, and where the header's high byte comes in.
+        let within = [160, 161, 255, 256, 257];
+        let within = within.into_iter().filter(|size| *size < limit);
+        for size in within.chain([0, limit, limit + 1]) {
             let mut sizes = [3, 2, 2, 3];
             sizes[which] = size;
             groups.push(Group::Edge((sizes[0], sizes[1], sizes[2], sizes[3])));
@@ -76,6 +97,8 @@ pub fn fixed() -> Vec<Group> {
     groups.extend(FAILING.map(Group::Equations));
     groups.extend(shapes::single().into_iter().map(Group::Shape));
     groups.extend(shapes::joint().into_iter().map(Group::Kernels));
+    groups.extend(FAR.map(Group::Kernels));
+    groups.extend(LONG_LIVED.map(Group::Kernels));
     groups.extend(LARGE.map(Group::Shape));
     groups
 }
@@ -94,6 +117,10 @@ const DEAR: usize = 4_000_000;
 pub fn dear(shape: &Shape) -> bool {
     cost(shape) > DEAR
 }
+
+/// Above this its verifier, too, is asked once, and of the damages one in eight is tried; what follows from the equations
+/// is tried beside.
+const DEAREST: usize = 2_500_000_000;
 
 /// Adds the rendering's proof to honest inputs.
 pub fn add_proof(inputs: &mut Inputs) -> Result<(), String> {
@@ -213,7 +240,7 @@ impl Run<'_> {
     }
 
     /// All damages of the inputs that some call takes.
-    fn damages(&self, inputs: &Inputs) -> Vec<Damage> {
+    fn damages(&mut self, inputs: &Inputs) -> Vec<Damage> {
         let mut names = Vec::new();
         for call in CALLS {
             for name in call.takes {
@@ -229,6 +256,9 @@ impl Run<'_> {
         let mut damages = all(&names, &lengths, &inputs.shape);
         if dear(&inputs.shape) {
             damages.retain(|damage| !damage.keeps_form());
+        }
+        if cost(&inputs.shape) > DEAREST {
+            damages.retain(|_| self.random.below(8) == 0);
         }
         damages
     }
@@ -270,13 +300,18 @@ impl Run<'_> {
     fn dear_flips(&mut self, honest: &Inputs) -> Result<(), String> {
         let others = [Name::Key, Name::Delta, Name::HashMatrix, Name::Batching];
         let other = others[self.random.below(others.len())];
-        for damage in [
+        let mut damages = vec![
             Damage::Flipped(Name::Proof, self.random.below(2)),
             Damage::Flipped(Name::Proof, 2 + self.random.below(2)),
             Damage::Flipped(Name::Proof, 4 + self.random.below(2)),
             Damage::Flipped(Name::Opened, 0),
             Damage::Flipped(other, 0),
-        ] {
+        ];
+        if cost(&honest.shape) > DEAREST {
+            self.some_repetitions(honest)?;
+            damages = vec![damages[self.random.below(damages.len())]];
+        }
+        for damage in damages {
             let mut inputs = honest.clone();
             if damage.apply(&mut inputs, &mut self.random) {
                 self.put(&VERIFY, &inputs, &[damage], None)?;

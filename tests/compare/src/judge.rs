@@ -60,7 +60,7 @@ impl Judge {
     pub fn new() -> Judge {
         Judge {
             // Twice the longest input of the largest shape, and some: damages double an input.
-            memory: Memory::new(8, 3 << 20),
+            memory: Memory::new(8, 9 << 20),
             tamper: None,
             tally: CALLS.iter().map(|call| (call.name, [0; 16])).collect(),
             shared: None,

@@ -116,7 +116,7 @@ fn one_group(judge: &mut Judge, seed: u64, number: usize) -> Result<(), String> 
 }
 
 fn lengths() -> Result<(), String> {
-    for (n, m, tau, t) in [(1, 1, 1, 1), (9, 3, 2, 5), (160, 160, 48, 160)] {
+    for (n, m, tau, t) in [(1, 1, 1, 1), (9, 3, 2, 5), (320, 320, 48, 288)] {
         let shape = Shape {
             field: GF256,
             n,

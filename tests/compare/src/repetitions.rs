@@ -12,11 +12,7 @@ impl Run<'_> {
     pub fn repetitions(&mut self, sizes: Sizes) -> Result<(), String> {
         let mut honest = self.inputs(sizes);
         add_proof(&mut honest)?;
-        // No Δ_e is 0, where neither C_e nor QS1_e counts.
-        let delta = (0..honest.shape.tau)
-            .map(|_| 1 + self.random.below(255) as u8)
-            .collect();
-        open_at(&mut honest, delta);
+        self.open_past_0(&mut honest);
         for e in 0..honest.shape.tau {
             self.named(&honest, e)?;
             for of in self.some_masks(&honest, e) {
@@ -27,6 +23,27 @@ impl Run<'_> {
             }
         }
         Ok(())
+    }
+
+    /// The first, the last and another of an honest proof.
+    pub fn some_repetitions(&mut self, honest: &Inputs) -> Result<(), String> {
+        let mut inputs = honest.clone();
+        self.open_past_0(&mut inputs);
+        let tau = inputs.shape.tau;
+        for e in [0, tau - 1, self.random.below(tau)] {
+            self.named(&inputs, e)?;
+            self.mask_checked(&inputs, e, e)?;
+            self.mask_checked(&inputs, e, (e + 1) % tau)?;
+        }
+        Ok(())
+    }
+
+    /// No Δ_e is 0, where neither C_e nor QS1_e counts.
+    fn open_past_0(&mut self, inputs: &mut Inputs) {
+        let delta = (0..inputs.shape.tau)
+            .map(|_| 1 + self.random.below(255) as u8)
+            .collect();
+        open_at(inputs, delta);
     }
 
     /// The repetition itself, those beside it, the first and the last.

@@ -57,12 +57,7 @@ pub fn compare(random: &mut Random, off: usize) -> Result<u64, String> {
         for other in 0..4 {
             for size in 0..=limits[which] + 1 {
                 for rest in [1, 8, limits[other], limits[other] + 1] {
-                    let mut sizes = [
-                        1 + random.below(160),
-                        1 + random.below(160),
-                        1 + random.below(48),
-                        1 + random.below(160),
-                    ];
+                    let mut sizes = limits.map(|limit| 1 + random.below(limit));
                     sizes[other] = rest;
                     sizes[which] = size;
                     compared += at(sizes, off)?;

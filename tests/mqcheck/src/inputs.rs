@@ -184,11 +184,25 @@ pub fn counts() -> Vec<Input> {
     inputs
 }
 
-/// "n = 160 taken, 161 refused 2; 0 refused 2. τ = 48 taken, 49 refused 2. t and m likewise at 160 and 161."
+/// 01 and request 1: n = 320 taken, 321 refused 2; 0 refused 2. m likewise. τ = 48 taken, 49 refused 2. t = 288 taken,
+/// 289 refused 2.
 pub fn headers() -> Vec<Input> {
     let mut inputs = Vec::new();
-    for (field, most) in [(0, 160), (1, 160), (2, 48), (3, 160)] {
-        for number in [0, 1, most - 1, most, most + 1, 255, 256, 65_535] {
+    for (field, most) in [(0, 320), (1, 320), (2, 48), (3, 288)] {
+        for number in [
+            0,
+            1,
+            160,
+            161,
+            255,
+            256,
+            257,
+            most - 1,
+            most,
+            most + 1,
+            512,
+            65_535,
+        ] {
             let mut key = vec![2, 0, 2, 0, 2, 0, 2, 0];
             key[2 * field] = (number % 256) as u8;
             key[2 * field + 1] = (number / 256) as u8;
@@ -238,16 +252,19 @@ fn honest(case: &Case) -> [Vec<u8>; 6] {
 /// alone have more bytes.
 pub fn limits() -> Vec<Input> {
     [
-        (160, 1, 1, 1, "accepted 0 0"),
         (160, 10, 2, 3, "accepted 0 0"),
-        (1, 160, 1, 1, "accepted 0 0"),
-        (8, 160, 3, 9, "accepted 0 0"),
+        (161, 1, 1, 161, "accepted 0 0"),
+        (320, 1, 1, 1, "accepted 0 0"),
+        (320, 2, 1, 3, "accepted 0 0"),
+        (320, 4, 2, 3, "unread 0 0"),
+        (1, 320, 1, 1, "accepted 0 0"),
+        (8, 320, 3, 9, "accepted 0 0"),
         (1, 1, 15, 1, "accepted 0 0"),
         (1, 1, 16, 1, "unread 0 0"),
         (9, 3, 14, 16, "accepted 0 0"),
         (9, 3, 48, 16, "unread 0 0"),
-        (1, 1, 1, 160, "accepted 0 0"),
-        (160, 2, 1, 160, "accepted 0 0"),
+        (1, 1, 1, 288, "accepted 0 0"),
+        (256, 1, 1, 288, "accepted 0 0"),
     ]
     .iter()
     .map(|&(n, m, tau, t, line)| {
@@ -280,9 +297,9 @@ fn total(n: usize, m: usize, tau: usize, t: usize) -> usize {
 /// An honest case whose input is of exactly this length.
 fn of_length(length: usize) -> Case {
     for tau in (1..=48).rev().filter(|tau| total(1, 1, *tau, 1) <= length) {
-        for n in 1..=160 {
-            for t in 1..=160 {
-                for m in 1..=160 {
+        for n in 1..=320 {
+            for t in 1..=288 {
+                for m in 1..=320 {
                     if total(n, m, tau, t) == length {
                         return case(2, n, m, tau, t);
                     }

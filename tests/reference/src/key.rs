@@ -3,7 +3,7 @@
 use crate::field::{add, bit_times, Field};
 use crate::strings::{bytes_for, coordinate, exact_sections, spare_bits_are_0, two_bytes};
 
-/// "n variables 1..160, m equations 1..160, τ repetitions 1..48, t hash rows 1..160."
+/// "n variables", "m equations", "τ repetitions", "t hash rows".
 #[derive(Clone, Copy, Debug, PartialEq, Eq)]
 pub struct Shape {
     pub field: Field,
@@ -14,12 +14,13 @@ pub struct Shape {
 }
 
 impl Shape {
-    /// "n variables 1..160, m equations 1..160, τ repetitions 1..48, t hash rows 1..160."
+    /// From 01: "n variables 1..160, m equations 1..160, τ repetitions 1..48, t hash rows 1..160"; and from 02: "n and m
+    /// go to 320 and t to 288".
     pub fn in_range(&self) -> bool {
-        (1..=160).contains(&self.n)
-            && (1..=160).contains(&self.m)
+        (1..=320).contains(&self.n)
+            && (1..=320).contains(&self.m)
             && (1..=48).contains(&self.tau)
-            && (1..=160).contains(&self.t)
+            && (1..=288).contains(&self.t)
     }
 
     /// From 02: "there are now r coordinates for each repetition, r the degree: k = n+rτ".

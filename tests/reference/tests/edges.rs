@@ -1,4 +1,4 @@
-//! Edges of the ranges: n, m, t = 160, 161, 0 and τ = 48, 49, 0.
+//! Edges of the ranges: n, m = 320, 321, 0, t = 288, 289, 0 and τ = 48, 49, 0.
 
 use reference::cases::{case, Case};
 use reference::strings::write_section;
@@ -33,12 +33,26 @@ fn whole_proof(case: &Case) {
 
 #[test]
 fn taken_at_the_highest() {
-    whole_proof(&case(1, 160, 2, 2, 3));
-    whole_proof(&case(2, 3, 160, 2, 3));
+    whole_proof(&case(1, 320, 2, 2, 3));
+    whole_proof(&case(2, 3, 320, 2, 3));
     whole_proof(&case(3, 3, 2, 48, 3));
-    whole_proof(&case(4, 3, 2, 2, 160));
+    whole_proof(&case(4, 3, 2, 2, 288));
     whole_proof(&case(5, 1, 1, 1, 1));
     whole_proof(&case(6, 160, 160, 48, 160));
+    whole_proof(&case(7, 320, 320, 2, 288));
+}
+
+/// "every key served before gets the same replies", and those past the limits of 01 go on to the other questions: a
+/// header alone is refused 3.
+#[test]
+fn headers_alone() {
+    for (place, highest) in [(0, 320), (1, 320), (2, 48), (3, 288)] {
+        for number in [0, 1, 47, 160, 161, 255, 256, 257, highest, highest + 1] {
+            let taken = (1..=highest).contains(&number);
+            let answer = test(&with_number(place, number)[..8], &[0]);
+            assert_eq!(word(answer), if taken { 3 } else { 2 } * 65_536);
+        }
+    }
 }
 
 /// The key of a case, one number of its header replaced: "n, m, τ, t, two bytes each".
@@ -55,8 +69,8 @@ fn refused_2_outside() {
         number: 2,
         place: 0,
     };
-    for (place, highest) in [(0, 160), (1, 160), (2, 48), (3, 160)] {
-        for outside in [0, highest + 1, 256, 256 + 5, 65_535] {
+    for (place, highest) in [(0, 320), (1, 320), (2, 48), (3, 288)] {
+        for outside in [0, highest + 1, 512, 512 + 5, 65_535] {
             assert_eq!(test(&with_number(place, outside), &[0]), refused_2);
             // Also where the whole key has the length of such a shape, and so only 2 is left.
             if outside == highest + 1 {

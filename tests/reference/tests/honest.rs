@@ -224,14 +224,14 @@ fn own_masks(case: &Case) {
 /// The lengths of 02: "k = n+rτ", and what follows from it.
 #[test]
 fn lengths_with_own_masks() {
-    let largest = case_over(GF256, 1, 160, 1, 48, 160).shape;
-    assert_eq!([largest.k(), largest.l(), largest.w()], [544, 704, 88]);
-    assert_eq!(largest.leaves_length(), 48 * 256 * 88);
-    assert_eq!(largest.opened_length(), 48 * 255 * 88);
-    assert_eq!(largest.h_length(), 160 * 68);
+    let largest = case_over(GF256, 1, 320, 1, 48, 288).shape;
+    assert_eq!([largest.k(), largest.l(), largest.w()], [704, 992, 124]);
+    assert_eq!(largest.leaves_length(), 48 * 256 * 124);
+    assert_eq!(largest.opened_length(), 48 * 255 * 124);
+    assert_eq!(largest.h_length(), 288 * 88);
     assert_eq!(
         largest.proof_sections(),
-        [47 * 88, 20, 20, 48 * 160, 48, 48]
+        [47 * 124, 40, 36, 48 * 288, 48, 48]
     );
     let toy = case_over(GF256, 1, 2, 1, 1, 1).shape;
     assert_eq!([toy.k(), toy.l(), toy.w()], [10, 11, 2]);

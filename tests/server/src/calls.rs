@@ -1,6 +1,7 @@
 //! The six calls: what each takes and writes, which numbers it can answer, and how the rendering is asked.
 
 use reference::cases::{case, Random};
+use reference::field::GF256;
 use reference::key::Shape;
 use reference::{batch, commit, hash, prove, test, verify, word, Answer};
 
@@ -84,7 +85,14 @@ impl Call {
     }
 
     /// The length to be written.
-    fn length(&self, shape: &Shape) -> usize {
+    pub fn length(&self, (n, m, tau, t): Sizes) -> usize {
+        let shape = Shape {
+            field: GF256,
+            n,
+            m,
+            tau,
+            t,
+        };
         let sections = &shape.proof_sections()[self.writes.0..self.writes.1];
         sections.iter().map(|section| 4 + section).sum()
     }
@@ -98,7 +106,7 @@ pub fn honest(random: &mut Random, sizes: Sizes, call: &Call) -> Inputs {
     let (n, m, tau, t) = sizes;
     let made = case(random.number(), n, m, tau, t);
     let mut inputs = Inputs {
-        output: call.length(&made.shape),
+        output: call.length(sizes),
         ..Inputs::default()
     };
     let opened = made.opened();

@@ -62,7 +62,7 @@ fn run(arguments: &Arguments) -> Result<(), String> {
     let mut order: Vec<usize> = (0..pool.len()).collect();
     while order.len() < arguments.requests {
         let largest = random.below(40) == 0;
-        let from = if largest { 0 } else { pool::LARGE };
+        let from = pool::LONGEST + if largest { 0 } else { pool::LARGE };
         order.push(from + random.below(pool.len() - from));
     }
     let start = Instant::now();
@@ -188,9 +188,10 @@ fn compare(server: &mut Server, request: &Request) -> Result<(), String> {
 /// A request that is cut anywhere, or that names no call, after a whole one: the whole one is answered, and the server
 /// leaves with 1.
 fn unread_requests(program: &str, pool: &[Request], random: &mut Random) -> Result<(), String> {
+    let small = &pool[pool::LONGEST + pool::LARGE..];
     for round in 0..20 {
-        let whole = &pool[pool::LARGE + random.below(pool.len() - pool::LARGE)];
-        let other = &pool[pool::LARGE + random.below(pool.len() - pool::LARGE)].bytes;
+        let whole = &small[random.below(small.len())];
+        let other = &small[random.below(small.len())].bytes;
         let mut unread = other[..1 + random.below(other.len() - 1)].to_vec();
         if round < 2 {
             unread[0] = [CALLS.len() as u8, 0xFF][round];

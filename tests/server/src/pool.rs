@@ -16,11 +16,15 @@ pub struct Request {
     pub output: Vec<u8>,
 }
 
-/// The first so many of the pool are large.
-pub const LARGE: usize = 14;
+/// The first so many of the pool have megabytes, and are sent once; so many after them are large, and are sent seldom.
+pub const LONGEST: usize = 16;
+pub const LARGE: usize = 9;
 
-/// n, m, τ, t of the small requests.
-const SHAPES: [Sizes; 8] = [
+/// The longest key, with as few leaves as can be: the rendering is slow by the repetitions.
+const LONGEST_KEY: Sizes = (320, 320, 1, 288);
+
+/// n, m, τ, t of the small requests; one far from the other too.
+const SHAPES: [Sizes; 10] = [
     (1, 1, 1, 1),
     (2, 1, 1, 1),
     (9, 3, 2, 5),
@@ -29,11 +33,15 @@ const SHAPES: [Sizes; 8] = [
     (5, 9, 6, 3),
     (33, 2, 2, 100),
     (3, 17, 17, 1),
+    (320, 1, 1, 161),
+    (1, 320, 1, 288),
 ];
 
 pub fn pool(random: &mut Random) -> Vec<Request> {
-    let mut pool = large(random);
-    assert_eq!(pool.len(), LARGE);
+    let mut pool = longest(random);
+    assert_eq!(pool.len(), LONGEST);
+    pool.extend(large(random));
+    assert_eq!(pool.len(), LONGEST + LARGE);
     for call in 0..CALLS.len() {
         for shape in SHAPES {
             for _ in 0..2 {
@@ -62,7 +70,41 @@ pub fn pool(random: &mut Random) -> Vec<Request> {
     pool
 }
 
-/// Inputs of the size of real ones, some damaged, and some longer than any key allows.
+/// The longest key to every call, also damaged; the longest leaves; and inputs that are longer than any key allows.
+fn longest(random: &mut Random) -> Vec<Request> {
+    let mut pool = Vec::new();
+    let verify = CALLS.len() - 1;
+    let mut inputs = honest(random, LONGEST_KEY, &CALLS[verify]);
+    for call in 0..CALLS.len() {
+        inputs.output = CALLS[call].length(LONGEST_KEY);
+        pool.push(request("the longest key".to_string(), call, &inputs));
+    }
+    for (call, input, bit) in [(0, KEY, 0x80), (verify, KEY, 1), (verify, PROOF, 1)] {
+        let mut damaged = inputs.clone();
+        *damaged.strings[input].last_mut().unwrap() ^= bit;
+        let what = format!("the longest key, input {input} changed");
+        pool.push(request(what, call, &damaged));
+    }
+    for call in [2, verify] {
+        let inputs = honest(random, (2, 1, 48, 288), &CALLS[call]);
+        pool.push(request("the most leaves".to_string(), call, &inputs));
+    }
+    for (call, input, len) in [
+        (verify, KEY, 4_108_861),
+        (verify, DELTA, 49),
+        (verify, OPENED, 1_600_000),
+        (verify, PROOF, 19_849),
+        (verify - 1, LEAVES, 1_600_000),
+    ] {
+        let mut long = honest(random, (2, 1, 1, 1), &CALLS[call]);
+        long.strings[input].resize(len, 0);
+        let what = format!("input {input} of {len} bytes");
+        pool.push(request(what, call, &long));
+    }
+    pool
+}
+
+/// Inputs of the size of real ones, some damaged.
 fn large(random: &mut Random) -> Vec<Request> {
     let mut pool = Vec::new();
     let verify = CALLS.len() - 1;
@@ -77,21 +119,6 @@ fn large(random: &mut Random) -> Vec<Request> {
                 pool.push(request(what, call, &damaged));
             }
         }
-    }
-    for (call, input, len) in [
-        (verify, KEY, 600_000),
-        (verify, DELTA, 49),
-        (verify, OPENED, 1_100_000),
-        (verify, PROOF, 11_977),
-        (verify - 1, LEAVES, 1_100_000),
-    ] {
-        let mut long = honest(random, (2, 1, 1, 1), &CALLS[call]);
-        long.strings[input].resize(len, 0);
-        pool.push(request(
-            format!("input {input} of {len} bytes"),
-            call,
-            &long,
-        ));
     }
     pool
 }

@@ -6,10 +6,10 @@
 /// n, m, τ, t.
 pub type Sizes = (usize, usize, usize, usize);
 
-/// The greatest of each (01).
-pub const LIMITS: [usize; 4] = [160, 160, 48, 160];
+/// The greatest of each (01, and request 1 of 02).
+pub const LIMITS: [usize; 4] = [320, 320, 48, 288];
 
-/// What a threshold is of: the four sizes, as `LIMITS` has them, and the bytes w of a leaf.
+/// What a threshold is of: the four sizes, as `LIMITS` has them, the bytes w of a leaf, and those of a row of H′.
 #[derive(Clone, Copy, Debug, PartialEq, Eq)]
 pub enum Of {
     Variables,
@@ -17,6 +17,7 @@ pub enum Of {
     Repetitions,
     HashRows,
     LeafBytes,
+    RowBytes,
 }
 
 /// Where a kernel has a block full, or begins another.
@@ -39,23 +40,37 @@ pub const THRESHOLDS: &[Threshold] = &[
     at(Of::Variables, 64, "the fold: a set of four panels; the row product: past it the last word overlaps"),
     at(Of::Variables, 128, "the fold: two sets of four panels; the turn: sixteen bytes of each of eight rows"),
     at(Of::Variables, 145, "the fold: a column whose rows lie past the first sixteen bytes"),
-    at(Of::Variables, 160, "the limit"),
+    at(Of::Variables, 160, "the fold: the most rows of one piece; the row product: a row of A is as long as 20 bytes"),
+    at(Of::Variables, 192, "the fold: three sets of four panels"),
+    at(Of::Variables, 224, "the set of 224 variables"),
+    at(Of::Variables, 256, "the lines: a chunk of 32 bytes, and past it a second one; the fold: four sets"),
+    at(Of::Variables, 320, "the limit, and five sets"),
     at(Of::Equations, 5, "the choices: five equations, one number in a word"),
     at(Of::Equations, 8, "strings: the bits of a byte of y"),
     at(Of::Equations, 50, "the choices: ten fives, a word"),
     at(Of::Equations, 100, "the choices: two words"),
     at(Of::Equations, 150, "the choices: three words, after which there is room for two fives more"),
-    at(Of::Equations, 160, "the limit"),
+    at(Of::Equations, 160, "a block of equations, and past it a second one"),
+    at(Of::Equations, 224, "the set of 224 equations"),
+    at(Of::Equations, 256, "an equation's number no longer fits a byte"),
+    at(Of::Equations, 320, "the limit, and two blocks"),
     at(Of::Repetitions, 2, "the corrections: the first that is sent"),
     at(Of::Repetitions, 16, "the lanes: sixteen repetitions, a register"),
     at(Of::Repetitions, 48, "the limit, and all lanes"),
     at(Of::HashRows, 8, "strings: the bits of a byte of ũ"),
-    at(Of::HashRows, 160, "the limit"),
+    at(Of::HashRows, 160, "the limit of 01"),
+    at(Of::HashRows, 288, "the limit"),
+    at(Of::RowBytes, 21, "the hash: a block of a row of H′, and past it a second one"),
+    at(Of::RowBytes, 42, "the hash: two blocks"),
+    at(Of::RowBytes, 63, "the hash: three blocks"),
+    at(Of::RowBytes, 84, "the hash: four blocks; the most bytes are 88"),
     at(Of::LeafBytes, 16, "the leaf sums: a chunk of sixteen bytes; past it the last sixteen overlap those before"),
     at(Of::LeafBytes, 32, "the leaf sums: two chunks"),
     at(Of::LeafBytes, 48, "the leaf sums: three chunks"),
     at(Of::LeafBytes, 64, "the leaf sums: four chunks"),
-    at(Of::LeafBytes, 80, "the leaf sums: five chunks; the most bytes are 88"),
+    at(Of::LeafBytes, 80, "the leaf sums: five chunks"),
+    at(Of::LeafBytes, 96, "the leaf sums: six chunks"),
+    at(Of::LeafBytes, 112, "the leaf sums: seven chunks; the most bytes are 124"),
 ];
 
 /// Leaves are added four at a time, but for the four that hold the one left out (the leaf sums).
@@ -73,7 +88,7 @@ pub const SMALL: Sizes = (9, 3, 2, 5);
 /// A threshold and its neighbours, within the limits.
 fn beside(threshold: &Threshold) -> impl Iterator<Item = usize> {
     let limit = match threshold.of {
-        Of::LeafBytes => usize::MAX,
+        Of::LeafBytes | Of::RowBytes => usize::MAX,
         of => LIMITS[of as usize],
     };
     (threshold.at - 1..=threshold.at + 1).filter(move |size| (1..=limit).contains(size))
@@ -88,6 +103,7 @@ fn with(of: Of, size: usize) -> Sizes {
         Of::Repetitions => (n, m, size, t),
         Of::HashRows => (n, m, tau, size),
         Of::LeafBytes => with_leaf_bytes(size),
+        Of::RowBytes => with_row_bytes(size),
     }
 }
 
@@ -97,18 +113,38 @@ fn with_leaf_bytes(size: usize) -> Sizes {
     let (_, m, fewest, _) = SMALL;
     let bits = 8 * size - 3;
     let tau = fewest.max(bits.saturating_sub(LIMITS[0] + LIMITS[3]).div_ceil(DEGREE));
-    let n = (bits - DEGREE * tau) / 2;
-    (n, m, tau, bits - DEGREE * tau - n)
+    let rest = bits - DEGREE * tau;
+    let t = rest.div_ceil(2).min(LIMITS[3]);
+    (rest - t, m, tau, t)
+}
+
+/// Three bits of a row's last byte are spare. As few repetitions as the limit of n leaves room for.
+fn with_row_bytes(size: usize) -> Sizes {
+    let (_, m, fewest, t) = SMALL;
+    let bits = 8 * size - 3;
+    let tau = fewest.max(bits.saturating_sub(LIMITS[0]).div_ceil(DEGREE));
+    (bits - DEGREE * tau, m, tau, t)
+}
+
+/// The bits k of a row of H′: n, and the mask coordinates of each repetition.
+fn row_bits((n, _, tau, _): Sizes) -> usize {
+    n + DEGREE * tau
 }
 
 /// The bits L of a leaf: n and t, and the mask coordinates of each repetition.
-pub fn leaf_bits((n, _, tau, t): Sizes) -> usize {
-    n + DEGREE * tau + t
+pub fn leaf_bits(shape: Sizes) -> usize {
+    row_bits(shape) + shape.3
 }
 
-/// Each threshold with its neighbours, one at a time, the other sizes small. The first is the small shape itself.
+/// Each threshold with its neighbours, one at a time, the other sizes small. The first is the small shape itself; then
+/// the least, and the most variables with the fewest equations and the other way round.
 pub fn single() -> Vec<Sizes> {
-    let mut shapes = vec![SMALL, (1, 1, 1, 1)];
+    let mut shapes = vec![
+        SMALL,
+        (1, 1, 1, 1),
+        (LIMITS[0], 1, 2, 161),
+        (1, LIMITS[1], 1, LIMITS[3]),
+    ];
     for threshold in THRESHOLDS {
         for size in beside(threshold) {
             let shape = with(threshold.of, size);
@@ -121,12 +157,14 @@ pub fn single() -> Vec<Sizes> {
 }
 
 /// Those of the above for the fuzzer, which asks the rendering thousands of times: where the leaves have at most so many
-/// bytes; and the most repetitions.
+/// bytes; and the most repetitions. With many variables there is one equation, since the time goes by n² and m.
 pub fn light() -> Vec<Sizes> {
     let bytes = |shape: Sizes| LEAVES * shape.2 * leaf_bits(shape).div_ceil(8);
+    let fewer = |(n, m, tau, t): Sizes| (n, if n > 160 { 1 } else { m }, tau, t);
     single()
         .into_iter()
         .filter(|shape| bytes(*shape) <= 1 << 17 || shape.2 == LIMITS[2])
+        .map(fewer)
         .collect()
 }
 
@@ -178,10 +216,12 @@ mod tests {
             for size in [threshold.at - 1, threshold.at, threshold.at + 1] {
                 let met = |shape: &Sizes| {
                     let (n, m, tau, t) = *shape;
-                    let sizes = [n, m, tau, t, width(*shape)];
+                    let row = row_bits(*shape).div_ceil(8);
+                    let sizes = [n, m, tau, t, width(*shape), row];
                     sizes[threshold.of as usize] == size
                 };
-                let past = threshold.of != Of::LeafBytes && size > LIMITS[threshold.of as usize];
+                let limit = LIMITS.get(threshold.of as usize);
+                let past = limit.is_some_and(|limit| size > *limit);
                 assert_eq!(
                     single().iter().any(met),
                     !past,
@@ -204,16 +244,17 @@ mod tests {
     #[test]
     fn the_longest_leaf() {
         let [n, m, tau, t] = LIMITS;
-        assert_eq!(width((n, m, tau, t)), 88);
+        assert_eq!(width((n, m, tau, t)), 124);
+        assert_eq!(row_bits((n, m, tau, t)), 8 * 88);
     }
 
-    /// The fuzzer opens the last of its cases at many challenges: its leaves go past three chunks. Few shapes are left
+    /// The fuzzer opens the last of its cases at many challenges: its leaves go past five chunks. Few shapes are left
     /// out.
     #[test]
     fn light_shapes() {
-        assert_eq!(width(*light().last().unwrap()), 49);
+        assert_eq!(width(*light().last().unwrap()), 81);
         assert!(light().iter().any(|shape| shape.2 == LIMITS[2]));
-        assert!(light().len() + 7 >= single().len());
+        assert!(light().len() + 13 >= single().len());
     }
 
     #[test]

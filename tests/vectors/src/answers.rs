@@ -111,10 +111,10 @@ fn first_equations(file: &mut File) {
 
 /// The highest place of 11; and of 14 and 15 the last of nine repetitions, since more would make the leaves too long.
 fn last_places(file: &mut File) {
-    let mut lent = honest(160, 2, 160, 1, 1);
-    change_y(&mut lent, 159);
-    let what = "equation 159 of 160 fails";
-    add(file, Call::Test, &lent, what, 11 * 65_536 + 159);
+    let mut lent = honest(160, 2, 320, 1, 1);
+    change_y(&mut lent, 319);
+    let what = "equation 319 of 320 fails";
+    add(file, Call::Test, &lent, what, 11 * 65_536 + 319);
 
     let lent = honest(9, 1, 1, 9, 1);
     for (section, name, number) in [(3, "V~", 14), (4, "QS0", 15)] {

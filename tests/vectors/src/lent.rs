@@ -47,7 +47,8 @@ pub fn toy() -> Lent {
     })
 }
 
-fn with_proof(case: Case) -> Lent {
+/// The rendering's proof added.
+pub fn with_proof(case: Case) -> Lent {
     let mut proof = vec![0; case.proof_length()];
     let answer = prove(
         &case.key,

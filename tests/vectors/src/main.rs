@@ -1,4 +1,5 @@
-//! Writes the test vectors: `vectors DIRECTORY` makes proofs.rsp and answers.rsp there, always with the same bytes.
+//! Writes the test vectors: `vectors DIRECTORY` makes proofs.rsp, answers.rsp and digests.rsp there, always with the same
+//! bytes.
 //!
 //! The form is that of vectors/README.md. Every expected byte and number is the Rust rendering's; the library is
 //! neither linked nor asked.
@@ -6,9 +7,11 @@
 mod answers;
 mod calls;
 mod damages;
+mod digests;
 mod lent;
 mod proofs;
 mod rsp;
+mod sha256;
 
 use std::path::Path;
 
@@ -20,5 +23,6 @@ fn main() -> std::io::Result<()> {
     };
     let directory = Path::new(directory);
     std::fs::write(directory.join("proofs.rsp"), proofs::file())?;
-    std::fs::write(directory.join("answers.rsp"), answers::file())
+    std::fs::write(directory.join("answers.rsp"), answers::file())?;
+    std::fs::write(directory.join("digests.rsp"), digests::file())
 }

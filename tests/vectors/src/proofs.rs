@@ -22,7 +22,7 @@ fn shapes() -> Vec<[usize; 4]> {
     }
     // The limits of n, m and t, the other sizes small; of tau only five, since at its limit the leaves would have more
     // than half a megabyte. And one with several words to each string.
-    shapes.extend([[160, 2, 1, 3], [2, 160, 1, 3], [3, 2, 5, 4], [3, 2, 1, 160]]);
+    shapes.extend([[320, 2, 1, 3], [2, 320, 1, 3], [3, 2, 5, 4], [3, 2, 1, 288]]);
     shapes.push([70, 17, 3, 65]);
     shapes
 }

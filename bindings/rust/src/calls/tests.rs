@@ -149,8 +149,14 @@ fn a_refused_call_leaves_the_output_as_it_was() {
 #[test]
 fn out_of_range_a_length_is_0() {
     assert_eq!(size::key(2, 1, 1, 1), KEY.len());
-    assert_eq!(size::proof(160, 160, 48, 160), 11976);
-    assert_eq!(size::proof(161, 160, 48, 160), 0);
-    assert_eq!(size::proof(160, 160, 49, 160), 0);
+    assert_eq!(size::proof(320, 320, 48, 288), 19_848);
+    for [n, m, tau, t] in [
+        [321, 320, 48, 288],
+        [320, 321, 48, 288],
+        [320, 320, 49, 288],
+        [320, 320, 48, 289],
+    ] {
+        assert_eq!(size::proof(n, m, tau, t), 0);
+    }
     assert_eq!(size::key(0, 1, 1, 1), 0);
 }
