@@ -166,7 +166,7 @@ extern "C" {
 
 /* The version of this header: major * 65536 + minor * 256 + patch. */
 #define MQ_VERSION_MAJOR 0
-#define MQ_VERSION_MINOR 1
+#define MQ_VERSION_MINOR 2
 #define MQ_VERSION_PATCH 0
 #define MQ_VERSION (MQ_VERSION_MAJOR * 65536 + MQ_VERSION_MINOR * 256 + MQ_VERSION_PATCH)
 

@@ -232,9 +232,9 @@ defined() {
 says() {
     sed 's/^ \* *//; s|^//! *||' "$1" | tr -s '\n' ' ' | grep -qF "$2" || { echo "$1 does not say: $2" >&2 && exit 1; }
 }
-[ "$(defined MQ_MAX_VARIABLES)" = "$(defined MQ_MAX_EQUATIONS)" ] || { echo "n and m have other limits" >&2 && exit 1; }
-says $list "n and m are 1 to $(defined MQ_MAX_VARIABLES), τ is 1 to $(defined MQ_MAX_REPETITIONS), t is 1 to \
-$(defined MQ_MAX_HASH_ROWS)"
+[ "$(defined MQ_MAX_EQUATIONS)" = "$(defined MQ_MAX_VARIABLES)" ]
+says $list "n and m are 1 to $(defined MQ_MAX_VARIABLES), τ is 1 to $(defined MQ_MAX_REPETITIONS)"
+says $list "t is 1 to $(defined MQ_MAX_HASH_ROWS)"
 says bindings/rust/src/size.rs "(n, m: 1 to $(defined MQ_MAX_VARIABLES); tau: 1 to $(defined MQ_MAX_REPETITIONS); t: 1 to \
 $(defined MQ_MAX_HASH_ROWS))"
 kib=$(($(defined MQ_STACK_BYTES) / 1024))

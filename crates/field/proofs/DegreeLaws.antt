@@ -1,7 +1,9 @@
--- Laws of the fields by their degree: what holds of both.
+-- Laws of the fields by their degree: which it is, and what holds of both.
 -- Assumes nothing.
+use mathlib.Core.Path.{_≡_}
 use mathlib.Core.Bool.{Bool, true, false, cond}
 use Prim.Native.Nat.{ℕ, _≤_}
+use borrow.Author.Tests.{ne-eqb}
 use lib.Dec.{eqb, lit≤}
 use Rattle.algebra.specs.Coded.{Coded}
 use Rattle.field.specs.Gf256.{gf256}
@@ -16,6 +18,14 @@ each-field P small large d = go (eqb d (gf16 .degree))
     go : (b : Bool) → P (cond b gf16 gf256)
     go true = small
     go false = large
+
+pub field-four : (d : ℕ) → d ≡ gf16 .degree → fieldOf d ≡ gf16
+unfolding fieldOf
+field-four d h = rw h
+
+pub field-other : (d : ℕ) → (d ≡ gf16 .degree → ⊥) → fieldOf d ≡ gf256
+unfolding fieldOf
+field-other d h = rw (ne-eqb d (gf16 .degree) h)
 
 -- at least two bits, and at most those of a byte
 pub degree-least : (d : ℕ) → 2 ≤ degreeOf d

@@ -1,3 +1,4 @@
 pub mod Products
 pub mod ProductLaws
+pub mod MaskLaws
 pub mod DegreeLaws

@@ -1,10 +1,14 @@
-// Arithmetic in the field of 256 elements, whose elements are the bytes.
+// Arithmetic in the field of 256 elements, whose elements are the bytes; and in the field of a degree.
+mod gf16;
+
+pub use gf16::Gf16;
 ghost use mathlib.Core.Path.{_≡_};
 ghost use Prim.Native.Nat.{_*_, _<_};
 ghost use Rattle.algebra.specs.Bits.{elem, byte};
 ghost use Rattle.algebra.specs.BitField.{xtime};
 ghost use Rattle.algebra.specs.Coded.{mulByte};
 ghost use Rattle.field.specs.Gf256.{modulus, gf256, maskElement};
+ghost use Rattle.field.specs.Degrees.{fieldOf};
 
 // The byte whose bit is the highest.
 const TOP: u8 = 128;
@@ -77,5 +81,16 @@ impl Gf256 {
         ensures { λ r. ⌜ r ≡ maskElement s ⌝ }
     {
         if s < Self::DEGREE { 1u8 << s } else { 0 }
+    }
+}
+
+// The product in the field of the degree. The degree is public: a branch may go by it.
+pub fn multiply(degree: usize, a: u8, b: u8) -> u8
+    ensures { λ r. ⌜ r ≡ mulByte (fieldOf degree) a b ⌝ }
+{
+    if degree == Gf16::DEGREE {
+        Gf16::multiply(a, b)
+    } else {
+        Gf256::multiply(a, b)
     }
 }

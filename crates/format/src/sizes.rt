@@ -27,13 +27,13 @@ pub struct Sizes {
 pub const BINARY: usize = 2;
 
 // The limits of 01, in one place.
-pub const MOST_VARIABLES: usize = 160;
+pub const MOST_VARIABLES: usize = 320;
 
-pub const MOST_EQUATIONS: usize = 160;
+pub const MOST_EQUATIONS: usize = 320;
 
 pub const MOST_REPETITIONS: usize = 48;
 
-pub const MOST_HASH_ROWS: usize = 160;
+pub const MOST_HASH_ROWS: usize = 288;
 
 // What the largest key has: the coordinates that a row of H′ covers, and the bytes of a leaf.
 pub const MOST_HASHED: usize = MOST_VARIABLES + MOST_REPETITIONS * Gf256::DEGREE;

@@ -163,7 +163,8 @@ pub fn batch_forms(
     let size = n * width;
     let mut from = 0;
     while from < m {
-        let count = least(m - from, MOST_BLOCK);
+        let rest = m - from;
+        let count = least(rest, MOST_BLOCK);
         let k = Block {
             n,
             m,

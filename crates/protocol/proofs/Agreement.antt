@@ -1,5 +1,5 @@
 -- What the definitions agree with: the computed bytes, answers and edges, gathered.
--- No theorem is used, so that an edit of the definitions meets a value.
+-- No theorem of the protocol is used, so that an edit of the definitions meets a value.
 -- Assumes nothing.
 use Rattle.protocol.specs.Binary.{bits256}
 use Rattle.protocol.specs.MaskPlaces.{MaskPlaces}

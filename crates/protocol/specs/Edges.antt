@@ -29,19 +29,19 @@ abbrev pub toy : Shape
 toy = record { n = 2; m = 1; τ = 1; t = 1 }
 
 abbrev pub largest : Shape
-largest = record { n = 160; m = 160; τ = 48; t = 160 }
+largest = record { n = 320; m = 320; τ = 48; t = 288 }
 
 pub record Limits : Type 0 where
   pub least : allowed 1 1 1 1 ≡ true
-  pub most : allowed 160 160 48 160 ≡ true
+  pub most : allowed 320 320 48 288 ≡ true
   pub n-none : allowed 0 1 1 1 ≡ false
   pub m-none : allowed 1 0 1 1 ≡ false
   pub τ-none : allowed 1 1 0 1 ≡ false
   pub t-none : allowed 1 1 1 0 ≡ false
-  pub n-over : allowed 161 160 48 160 ≡ false
-  pub m-over : allowed 160 161 48 160 ≡ false
-  pub τ-over : allowed 160 160 49 160 ≡ false
-  pub t-over : allowed 160 160 48 161 ≡ false
+  pub n-over : allowed 321 320 48 288 ≡ false
+  pub m-over : allowed 320 321 48 288 ≡ false
+  pub τ-over : allowed 320 320 49 288 ≡ false
+  pub t-over : allowed 320 320 48 289 ≡ false
 
 pub record Forms : Type 0 where
   pub key-exact : keyExact bits16 sizes key ≡ true
@@ -92,9 +92,9 @@ pub record Numbers : Type 0 where
 pub record Lengths : Type 0 where
   pub header-short : testAnswer bits16 (take 7 key) witness ≡ refused 1 0
   pub header-alone : testAnswer bits16 (take 8 key) witness ≡ refused 3 0
-  pub m-high : testAnswer bits16 (changed key 3 0x01) witness ≡ refused 2 0
+  pub m-high : testAnswer bits16 (changed key 3 0x02) witness ≡ refused 2 0
   pub τ-high : testAnswer bits16 (changed key 5 0x01) witness ≡ refused 2 0
-  pub t-high : testAnswer bits16 (changed key 7 0x01) witness ≡ refused 2 0
+  pub t-high : testAnswer bits16 (changed key 7 0x02) witness ≡ refused 2 0
   pub Δ-long : verifyAnswer bits16 key (Δ ++ (0x00 ∷ [])) H′ χ opened proof ≡ refused 5 0
   pub Δ-short : verifyAnswer bits16 key (take 1 Δ) H′ χ opened proof ≡ refused 5 0
   pub H-short : verifyAnswer bits16 key Δ (take 5 H′) χ opened proof ≡ refused 5 0
@@ -103,7 +103,7 @@ pub record Lengths : Type 0 where
 
 -- Two questions get a no, and the first in 01's order refuses.
 pub record Order : Type 0 where
-  pub two-three : verifyAnswer bits16 (changed key 0 0xA8) Δ H′ χ opened proof ≡ refused 2 0
+  pub two-three : verifyAnswer bits16 (changed key 1 0x02) Δ H′ χ opened proof ≡ refused 2 0
   pub three-four : verifyAnswer bits16 (changed (changed key 8 0x01) 47 0x02) Δ H′ χ opened proof ≡ refused 3 0
   pub five-six : verifyAnswer bits16 key Δ (changed H′ 5 0x02) (χ ++ (0x00 ∷ [])) opened proof ≡ refused 5 0
   pub seven-eight : verifyAnswer bits16 key Δ H′ χ (changed leaves 95 0x08) proof ≡ refused 7 0
@@ -125,11 +125,11 @@ pub record Derived : Type 0 where
   pub w-is : wOf bits256 toy ≡ 2
   pub tree-is : perTree bits256 ≡ 256
   pub opened-is : perOpened bits256 ≡ 255
-  pub k-largest : kOf bits256 largest ≡ 544
-  pub L-largest : lOf bits256 largest ≡ 704
-  pub w-largest : wOf bits256 largest ≡ 88
-  pub mask-second : maskAt bits256 largest 1 ≡ 168
-  pub mask-last : maskAt bits256 largest 47 ≡ 536
+  pub k-largest : kOf bits256 largest ≡ 704
+  pub L-largest : lOf bits256 largest ≡ 992
+  pub w-largest : wOf bits256 largest ≡ 124
+  pub mask-second : maskAt bits256 largest 1 ≡ 328
+  pub mask-last : maskAt bits256 largest 47 ≡ 696
   pub k-sixteen : kOf bits16 sizes ≡ 17
   pub mask-sixteen : maskAt bits16 sizes 1 ≡ 13
 

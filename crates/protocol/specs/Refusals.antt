@@ -22,7 +22,7 @@ abbrev pub key₁ : List ℕ
 key₁ = []
 
 abbrev pub key₂ : List ℕ
-key₂ = changed key 1 0x01
+key₂ = changed key 1 0x02
 
 abbrev pub key₃ : List ℕ
 key₃ = key ++ (0x00 ∷ [])

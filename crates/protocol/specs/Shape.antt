@@ -32,16 +32,16 @@ unfoldable pub within : ℕ → ℕ → Bool
 within most x = leb 1 x && leb x most
 
 abbrev pub mostVariables : ℕ
-mostVariables = 160
+mostVariables = 320
 
 abbrev pub mostEquations : ℕ
-mostEquations = 160
+mostEquations = 320
 
 abbrev pub mostRepetitions : ℕ
 mostRepetitions = 48
 
 abbrev pub mostHashRows : ℕ
-mostHashRows = 160
+mostHashRows = 288
 
 unfoldable pub limits : Shape → Bool
 limits s = allTrue (within mostVariables (s .n) ∷ within mostEquations (s .m) ∷ within mostRepetitions (s .τ) ∷ within mostHashRows (s .t) ∷ [])

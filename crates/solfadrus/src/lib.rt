@@ -8,9 +8,9 @@ mod sizes;
 // major × 65,536 + minor × 256 + patch
 #[no_mangle]
 pub extern "C" fn mq_version() -> u32
-    ensures { λ r. ⌜ r ≡ 256 ⌝ }
+    ensures { λ r. ⌜ r ≡ 512 ⌝ }
 {
-    256
+    512
 }
 
 #[no_mangle]

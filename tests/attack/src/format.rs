@@ -15,6 +15,8 @@ pub enum Masks {
     Shared,
     /// At n + 8e for repetition e: k = n + 8τ.
     Own,
+    /// The same, but that the last repetition has the mask of the one before it.
+    LastShared,
 }
 
 impl Masks {
@@ -22,6 +24,7 @@ impl Masks {
         match self {
             Masks::Shared => sizes.n,
             Masks::Own => sizes.n + 8 * e,
+            Masks::LastShared => sizes.n + 8 * e.min(sizes.tau - 2),
         }
     }
 

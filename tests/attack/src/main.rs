@@ -4,7 +4,7 @@
 //! attack [SEED] [--shared]
 //!
 //! The controls are a small prover in this crate: with one mask the attack must recover every witness, with own masks
-//! none. Then the library's proofs are attacked, and the attack must do no better than guessing. With `--shared` the
+//! none; and that the last two repetitions share one must be seen. Then the library's proofs are attacked, and the attack must do no better than guessing. With `--shared` the
 //! library is one of the versions that had one mask, and the attack must recover every witness.
 
 mod attack;
@@ -70,12 +70,12 @@ fn attacked(
             Prover::Library => library::prove(&case)?,
         };
         let view = case.view(&proof);
-        match prover {
-            Prover::Control if !verifier::accepts(&view, masks) => {
-                return Err("a proof of the control is none".to_string());
-            }
-            Prover::Control => {}
-            Prover::Library => library::verify(&view)?,
+        // What the attack reads of a proof must be what the checks hold of: else it would seem to guess.
+        if !verifier::accepts(&view, masks) {
+            return Err("a proof is none".to_string());
+        }
+        if prover == Prover::Library {
+            library::verify(&view)?;
         }
         let forms = attack::forms(&view);
         let guess = attack::guess(&view, &forms, random);
@@ -95,6 +95,11 @@ fn run(seed: u64, of_library: Masks) -> Result<(), String> {
         let (how, right, expected) = match masks {
             Masks::Shared => ("one mask", tally.all_recovered(), "every witness"),
             Masks::Own => ("own masks", tally.as_guessing(), "what a guess gives"),
+            Masks::LastShared => (
+                "the last mask shared",
+                !tally.as_guessing(),
+                "more than a guess",
+            ),
         };
         println!(
             "{who}, {how}, n = {}, tau = {}: {tally}",
@@ -109,6 +114,7 @@ fn run(seed: u64, of_library: Masks) -> Result<(), String> {
     };
     judged(Prover::Control, Masks::Shared, SIZES, PROOFS)?;
     judged(Prover::Control, Masks::Shared, USUAL_SIZES, USUAL_CONTROLS)?;
+    judged(Prover::Control, Masks::LastShared, SIZES, PROOFS)?;
     judged(Prover::Control, Masks::Own, SIZES, PROOFS)?;
     judged(Prover::Library, of_library, SIZES, PROOFS)?;
     judged(Prover::Library, of_library, USUAL_SIZES, USUAL_PROOFS)?;

@@ -1,15 +1,12 @@
 -- `field::Gf256::multiply` meets its contract. The invariant: the sum and what the turns that are left still add are
 -- the product.
--- It is a byte, since it is a sum of bytes. Assumes nothing.
-use mathlib.Core.Path.{_≡_, sym, ap, ap₂, _∙_}
-use Prim.Native.Nat.{ℕ, _-_, _/_, _^_, _<_}
-use lib.Bits.{bitXor, xor-lt}
+-- Assumes nothing.
 use borrow.Author.Needs.{needs}
-use Rattle.algebra.specs.Bits.{Bits, elem, byte}
-use Rattle.algebra.specs.BitField.{xtime, mul}
-use Rattle.algebra.proofs.ByteLaws.{elem-byte, byte-elem}
+use mathlib.Core.Path.{subst}
+use native.Mathlib.Nat.{mod-eq-of-lt}
+use Rattle.algebra.specs.Bits.{Bits, elem}
 use Rattle.field.specs.Gf256.{modulus}
-use Rattle.field.proofs.ProductLaws.{still, still-start, still-step, still-end}
+use Rattle.field.proofs.ProductLaws.{Product, product-start, product-step, product-end}
 use Rattle.field.proofs.Gf256.multiply.Statement.{statement}
 use Rattle.field.proofs.Gf256.multiply.Tie as tie
 
@@ -17,13 +14,16 @@ abbrev m : Bits 8
 m = elem 8 modulus
 
 abbrev Inv-loop : tie.InvT-loop
-Inv-loop a b rest₀ shifted₀ sum₀ n₀ rest shifted sum n = (sum < 2 ^ 8) × (still 8 m n rest (elem 8 shifted) sum ≡ mul 8 m (elem 8 a) (elem 8 b))
+Inv-loop a b rest₀ shifted₀ sum₀ n₀ rest shifted sum n = Product 8 m a b n rest shifted sum
 
 abbrev μ-loop : tie.MeasureT-loop
 μ-loop a b rest₀ shifted₀ sum₀ n₀ rest shifted sum n = n
 
 loop-holds : tie.Need-loop-holds Inv-loop μ-loop
-loop-holds c = (search needs, still-start 8 m (c .args .a) (c .args .b))
+loop-holds c =
+    let a = c .args .a in
+    let b = c .args .b in
+    subst (λ x. Product 8 m a b 8 a x 0) (mod-eq-of-lt (c .fits .b .fits)) (product-start 8 m a b)
 
 masked-requires : tie.Need-masked-requires Inv-loop μ-loop
 masked-requires c κs = search needs
@@ -39,19 +39,13 @@ loop-less c = search needs
 
 loop-again : tie.Need-loop-again Inv-loop μ-loop
 loop-again c =
-    let l = c .before .before .before .loop in (
-      xor-lt 8 (l .sum) (c .before .masked .result) (l .inv .0) (c .before .masked .ok),
-      ap₂ (λ (x : Bits 8) (y : ℕ). still 8 m (l .n - 1) (l .rest / 2) x (bitXor (l .sum) y))
-          (ap (elem 8) (c .double .ensures) ∙ elem-byte 8 (xtime 8 m (elem 8 (l .shifted)))) (c .before .masked .ensures)
-          ∙ still-step 8 m (l .n) (l .rest) (l .shifted) (l .sum) (c .before .before .loop-test .taken)
-          ∙ l .inv .1,
-    )
+    let l = c .before .before .before .loop in
+    product-step 8 m _ _ (l .n) (l .rest) (l .shifted) (l .sum) _ _ (c .before .before .loop-test .taken) (c .before .masked .ensures) (c .double .ensures) (l .inv)
 
 returns : tie.Need-returns Inv-loop μ-loop
 returns c =
     let l = c .before .loop in
-    sym (byte-elem 8 (l .sum) (l .inv .0))
-    ∙ ap (byte 8) (sym (still-end 8 m (l .n) (l .rest) (elem 8 (l .shifted)) (l .sum) (c .loop-test .left)) ∙ l .inv .1)
+    product-end 8 m _ _ (l .n) (l .rest) (l .shifted) (l .sum) (c .loop-test .left) (l .inv)
 
 pub multiply-spec : {M : Type 1} → statement M
 multiply-spec =

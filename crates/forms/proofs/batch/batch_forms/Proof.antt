@@ -50,8 +50,8 @@ loop-holds : tie.Need-loop-holds Inv-loop μ-loop
 unfolding xorSum
 loop-holds c = (search needs, c .before .before .before .before .before .before .before .before .pre .0, c .before .before .before .before .before .before .before .before .pre .1, (λ e h. sym (xor-zero-r _)), (λ e h. sym (xor-zero-r _)), refl)
 
-sub-least : tie.Need-sub-least Inv-loop μ-loop
-sub-least c = search needs
+sub-rest : tie.Need-sub-rest Inv-loop μ-loop
+sub-rest c = search needs
 
 least-requires : tie.Need-least-requires Inv-loop μ-loop
 least-requires c κs = search needs
@@ -131,7 +131,7 @@ batch-forms-spec =
     add-width
     mul-size
     loop-holds
-    sub-least
+    sub-rest
     least-requires
     rows-at-requires
     rows-at-requires-2

@@ -4,6 +4,7 @@
 use mathlib.Core.Path.{sym}
 use Prim.Native.Nat.{_*_}
 use native.Mathlib.Omega.{arith}
+use Rattle.protocol.specs.Shape.{mostRepetitions, mostHashRows}
 use Rattle.format.specs.Sizes.{shapeFor}
 use Rattle.format.proofs.FitLaws.{room}
 use Rattle.sections.proofs.Writes.{prefix-length}
@@ -23,12 +24,12 @@ array-borrow-prefix-hashed c =
 slice-aggregate-check-hashed : tie.Need-slice-aggregate-check-hashed
 slice-aggregate-check-hashed c =
     let s = c .before .before .before .before .before in
-    sym (prefix-length (s .args .s .tau * s .args .s .t) 7680 (room (shapeFor (s .args .s)) (s .pre .0 .0) .hashed-room))
+    sym (prefix-length (s .args .s .tau * s .args .s .t) (mostRepetitions * mostHashRows) (room (shapeFor (s .args .s)) (s .pre .0 .0) .hashed-room))
 
 check-hashed-requires : tie.Need-check-hashed-requires
 check-hashed-requires c κs =
     let s = c .before .before .before .before .before in
-    (s .pre .0, (s .pre .1, prefix-length (s .args .s .tau * s .args .s .t) 7680 (room (shapeFor (s .args .s)) (s .pre .0 .0) .hashed-room)))
+    (s .pre .0, (s .pre .1, prefix-length (s .args .s .tau * s .args .s .t) (mostRepetitions * mostHashRows) (room (shapeFor (s .args .s)) (s .pre .0 .0) .hashed-room)))
 
 returns : tie.Need-returns
 returns c = c .before .check-hashed .ensures

@@ -1,6 +1,7 @@
 -- `verifier::consistency::first_inconsistent` meets its contract. It has room for the masks that it makes.
 -- Assumes nothing.
 use mathlib.Core.Path.{sym}
+use Rattle.protocol.specs.Shape.{mostHashRows}
 use borrow.Author.Needs.{needs}
 use Rattle.sections.proofs.Writes.{prefix-length}
 use Rattle.verifier.proofs.consistency.first_inconsistent.Statement.{statement}
@@ -12,12 +13,12 @@ array-borrow-prefix-masks c = search needs
 slice-aggregate-first-masked : tie.Need-slice-aggregate-first-masked
 slice-aggregate-first-masked c =
     let start = c .before .before .before .before .before in
-    sym (prefix-length (start .args .t) 160 (start .pre .1))
+    sym (prefix-length (start .args .t) mostHashRows (start .pre .1))
 
 first-masked-requires : tie.Need-first-masked-requires
 first-masked-requires c κs =
     let start = c .before .before .before .before .before in
-    (start .pre .0, prefix-length (start .args .t) 160 (start .pre .1), start .pre .2)
+    (start .pre .0, prefix-length (start .args .t) mostHashRows (start .pre .1), start .pre .2)
 
 returns : tie.Need-returns
 returns c = search needs
