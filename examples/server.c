@@ -15,9 +15,10 @@
  * the input ends between two requests the server leaves with status 0. Where it ends in the middle of
  * one, or a byte names no call, those before it are answered, and the status is 1.
  *
- * Memory is fixed: each thread has room for one request of the largest sizes. Of an input that is
- * longer than any key allows, one byte more than the longest is kept, and the rest is read and dropped;
- * an output's length is taken likewise. That changes no word: the questions on lengths get the same no.
+ * Memory is fixed: each thread has room for one request of the largest sizes, some seven megabytes,
+ * which are not on its stack. Of an input that is longer than any key allows, one byte more than the
+ * longest is kept, and the rest is read and dropped; an output's length is taken likewise. That changes
+ * no word: the questions on lengths get the same no.
  */
 #define _POSIX_C_SOURCE 200809L
 #include <pthread.h>
