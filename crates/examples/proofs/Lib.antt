@@ -19,3 +19,4 @@ pub mod FullChecks
 pub mod FullFactors
 pub mod ThreeSums
 pub mod FullThree
+pub mod ThreeProof

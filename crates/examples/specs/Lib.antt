@@ -6,3 +6,4 @@ pub mod ChangedProofs
 pub mod CountedExample
 pub mod FullExample
 pub mod FullThree
+pub mod ThreeProof

@@ -1,9 +1,9 @@
 -- The example with three repetitions, computed on the definitions.
 -- Assumes nothing.
 use mathlib.Core.Path.{refl}
-use Rattle.protocol.specs.ThreeRepetitions.{key, witness, leaves, H′, χ, Δ, proofWith, ThreeRepetitions}
+use Rattle.protocol.specs.ThreeRepetitions.{key, leaves, H′, χ, Δ, proofWith, ThreeRepetitions}
 use Rattle.protocol.proofs.Computing.{computing}
 
 pub three-repetitions : ThreeRepetitions
-unfolding computing key witness leaves H′ χ Δ proofWith
-three-repetitions = record { header-is = refl; C-is = refl; proof-is = refl; accepts = refl; exchanged = refl; first-spare-set = refl; second-spare-set = refl }
+unfolding computing key leaves H′ χ Δ proofWith
+three-repetitions = record { header-is = refl; C-is = refl; accepts = refl; exchanged = refl; first-spare-set = refl; second-spare-set = refl }

@@ -10,7 +10,7 @@ use mathlib.Core.Path.{_≡_}
 use mathlib.Core.List.{List, [], _∷_, _++_}
 use Prim.Native.Nat.{ℕ}
 use Rattle.protocol.specs.Shape.{Shape, shapeOf}
-use Rattle.protocol.specs.Prover.{cSection, proofOf}
+use Rattle.protocol.specs.Prover.{cSection}
 use Rattle.protocol.specs.Answers.{Answer, accepted, refused}
 use Rattle.protocol.specs.Calls.{verifyAnswer}
 use Rattle.protocol.specs.Counting.{opening}
@@ -64,8 +64,6 @@ pub record ThreeRepetitions : Type 0 where
   pub header-is : shapeOf key ≡ sizes
   -- C_1, then C_2
   pub C-is : cSection bits16 sizes leaves ≡ 0x15 ∷ 0x2E ∷ 0x03 ∷ 0xA4 ∷ 0x78 ∷ 0x03 ∷ []
-  -- QS0 and QS1 among the bytes: the masks of three repetitions
-  pub proof-is : proofOf bits16 key leaves witness H′ χ ≡ proofWith (0x15 ∷ 0x2E ∷ 0x03 ∷ 0xA4 ∷ 0x78 ∷ 0x03 ∷ [])
   pub accepts : reply (proofWith (0x15 ∷ 0x2E ∷ 0x03 ∷ 0xA4 ∷ 0x78 ∷ 0x03 ∷ [])) ≡ accepted
   pub exchanged : reply (proofWith (0xA4 ∷ 0x78 ∷ 0x03 ∷ 0x15 ∷ 0x2E ∷ 0x03 ∷ [])) ≡ refused 15 1
   -- the highest spare bit of the first row, and of the second

@@ -1,0 +1,11 @@
+-- The whole proof of ThreeRepetitions: its QS0 and QS1 have the masks of three repetitions. proofs/ThreeProof computes
+-- it, with bytes of sitting 1 of the vectors masks-degree4.rsp (tests/reference), made from the papers by other hands.
+-- Assumes nothing.
+use mathlib.Core.Path.{_≡_}
+use mathlib.Core.List.{[], _∷_}
+use Rattle.protocol.specs.Prover.{proofOf}
+use Rattle.protocol.specs.SmallExample.{bits16}
+use Rattle.protocol.specs.ThreeRepetitions.{key, witness, leaves, H′, χ, proofWith}
+
+abbrev pub ThreeProof : Type 0
+ThreeProof = proofOf bits16 key leaves witness H′ χ ≡ proofWith (0x15 ∷ 0x2E ∷ 0x03 ∷ 0xA4 ∷ 0x78 ∷ 0x03 ∷ [])
