@@ -31,7 +31,7 @@ step() {
 
 # rt proves each crate from nothing, tries the must-fail edits, and runs each program.
 crates=$(grep -c : crates.txt)
-echo "Every proof and every test, from nothing: about 25 minutes on two cores. First $crates crates, then" \
+echo "Every proof and every test, from nothing: 25 to 35 minutes on two cores. First $crates crates, then" \
     "$(find crates -name '*.edit' | wc -l) edits that must be refused."
 with_progress "$crates" "$log" rt ci || {
     tail -n 60 "$log"
