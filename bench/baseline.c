@@ -567,8 +567,8 @@ INLINE reg load_two(const uint8_t *low, const uint8_t *high)
     return _mm_castps_si128(_mm_loadh_pi(first, (const __m64 *)high));
 }
 
-/* The squares of panel J that are below the diagonal, turned: up to eight at a time, so that there is room for more than
- * there are. */
+/* The squares of panel J that are below the diagonal, turned: up to eight at a time, so that there is room for more
+ * than there are. */
 enum { TURNED = (PANELS + 7) / 8 * 8 };
 
 INLINE void turn_panel(const uint8_t *matrix, size_t row, size_t J, reg turned[TURNED][2])

@@ -1,7 +1,7 @@
 -- An example over GF(256), n = 9, m = 3, τ = 2, t = 5, and what the definitions must give for it.
 -- The files Full.. of proofs/ compute each statement.
--- The data and the expected bytes are sitting 0 of the vectors masks-degree8.rsp (tests/reference), made from the papers
--- by other hands.
+-- The data and the expected bytes are sitting 0 of the vectors masks-degree8.rsp (tests/reference), made from the
+-- papers by other hands.
 --   key, witness, leaves, H′, χ, Δ == what is lent;  proof, opened == the proof and the opened leaves that are expected
 --   sizes == the key's sizes
 --   coordinates f == the bytes of f at the L coordinates;  u-0, u-1, v-0, v-1 == those of u_0, u_1, v_0, v_1

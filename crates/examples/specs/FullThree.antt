@@ -1,7 +1,7 @@
 -- An example over GF(256) with three repetitions, n = 5, m = 2, τ = 3, t = 4, each with a mask of its own, and what the
 -- definitions must give for it. proofs/ThreeSums and proofs/FullThree compute each statement.
--- The data and the expected bytes are sitting 1 of the vectors masks-degree8.rsp (tests/reference), made from the papers
--- by other hands.
+-- The data and the expected bytes are sitting 1 of the vectors masks-degree8.rsp (tests/reference), made from the
+-- papers by other hands.
 --   key, witness, leaves, H′, χ == what is lent;  proof == the proof that is expected;  sizes == the key's sizes
 --   coordinates f == the bytes of f at the L coordinates;  u-0, u-1, u-2, v-0, v-1, v-2 == those of u_e and v_e
 --   factors p == those of the proof p

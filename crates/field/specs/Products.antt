@@ -1,7 +1,8 @@
 -- What pins the moduli: 11D, too, gives a field of 256 elements, and 19 one of 16, but other products.
 --   Monic, Monic16 == the modulus has the field's degree
 --   Product5783, Product5713 == the worked products of FIPS 197, section 4.2;  Product0552 == 05 and 52 are inverse
---   Product0209 == over GF(16), 02 and 09 are inverse;  Product0808 == there 08·08, which takes the modulus twice, is 0C
+--   Product0209 == over GF(16), 02 and 09 are inverse
+--   Product0808 == there 08·08, which takes the modulus twice, is 0C
 -- Assumes nothing.
 use mathlib.Core.Path.{_≡_}
 use Prim.Native.Nat.{_/_, _^_}

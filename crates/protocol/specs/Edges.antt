@@ -117,8 +117,9 @@ pub record FirstEquation : Type 0 where
   pub both-fail : proveAnswer bits16 key leaves (changed witness 0 0x04) H′ χ (replicate 38 0x00) ≡ refused 11 0
   pub second-fails : proveAnswer bits16 key leaves (changed witness 0 0x01) H′ χ (replicate 38 0x00) ≡ refused 11 1
 
--- 01's numbers, over GF(256), at the sizes of its toy: k, L, w, the leaves of a tree and of an opened one. Of the largest
--- key k, L, w, and where the masks of the repetitions 1 and 47 begin; and k and the mask of repetition 1 over GF(16).
+-- 01's numbers, over GF(256), at the sizes of its toy: k, L, w, the leaves of a tree and of an opened one.
+-- Of the largest key k, L, w, and where the masks of the repetitions 1 and 47 begin; and k and the mask of repetition 1
+-- over GF(16).
 pub record Derived : Type 0 where
   pub k-is : kOf bits256 toy ≡ 10
   pub L-is : lOf bits256 toy ≡ 11

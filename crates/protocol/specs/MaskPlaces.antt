@@ -1,4 +1,5 @@
--- Where the masks stand: each repetition has its own, one after another, between the first n coordinates and the last t.
+-- Where the masks stand: each repetition has its own, one after another, between the first n coordinates and the last
+-- t.
 -- proofs/MaskPlaces proves each statement.
 --   first, next, end == the first begins at n, the next where the one before ends, and the last ends at k
 --   alone == where there is one repetition, k is n and one mask. So it was when one mask served every repetition (01):

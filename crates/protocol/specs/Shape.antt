@@ -2,8 +2,9 @@
 --   n variables, m equations, τ repetitions, t hash rows;  shapeOf key == the sizes in the header of a key
 --   mostVariables, mostEquations, mostRepetitions, mostHashRows == the largest n, m, τ, t;  limits s == the sizes are
 --     in range
---   within most x == 1 ≤ x ≤ most;  maskAt A s e == the first mask coordinate of repetition e: each repetition has a mask
---     of its own, one after another from n on (02, Card 4)
+--   within most x == 1 ≤ x ≤ most
+--   maskAt A s e == the first mask coordinate of repetition e: each repetition has a mask of its own, one after another
+--     from n on (request 4; in 01 one mask serves all)
 --   kOf == k = n + rτ, r mask coordinates for each repetition: the coordinates that H′ covers
 --   lOf == L = k + t, all coordinates
 --   wOf == w = ⌈L/8⌉, the bytes of a leaf

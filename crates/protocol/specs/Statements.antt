@@ -122,7 +122,8 @@ module _ (A : Alphabet) where
       → (verifyAnswer A key Δ H′ χ opened proof ≡ accepted)
       ↔ ((e : ℕ) → e < shapeOf key .τ → (consistentIn A (shapeOf key) Δ H′ opened proof e ≡ true) × (productIn A (shapeOf key) key Δ χ opened proof e ≡ true))
 
-  -- A refusal 11 names the first equation that fails, and a refusal 14 or 15 the first repetition where the check fails.
+  -- A refusal 11 names the first equation that fails, and a refusal 14 or 15 the first repetition where the check
+  -- fails.
   pub record FirstNamed : Type 0 where
     pub test-eleven : (key x : List ℕ) (i : ℕ) → testAnswer A key x ≡ refused 11 i → FirstFails key x i
     pub commit-eleven : (key leaves x out : List ℕ) (i : ℕ) → commitAnswer A key leaves x out ≡ refused 11 i → FirstFails key x i

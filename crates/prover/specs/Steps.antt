@@ -6,7 +6,8 @@
 --     form
 --   CommitWritten, HashWritten, BatchWritten == the output is the step's bytes
 --   RestReady, RestWritten == of the steps after the first, in a whole proof
---   MasksReady, FormsReady == two rows of lanes, to which the masks and the batched forms are added, and what that needs
+--   MasksReady, FormsReady == two rows of lanes, to which the masks and the batched forms are added, and what that
+--     needs
 -- Assumes nothing.
 use mathlib.Core.Path.{_≡_}
 use mathlib.Core.Bool.{true}

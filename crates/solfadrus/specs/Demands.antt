@@ -2,8 +2,8 @@
 --   Listed s r == r is 0, or number × 65,536 + place of a refusal in the published list, for a key of sizes s
 --   Asked qs r == r is 0 and every question of qs gets a yes, or r is number × 65,536 + place of the first that gets a
 --     no
---   RefusedByEleven key x r == r is a refusal exactly when some equation of the key fails at x, and then 11 × 65,536 + i
---     with the lowest-numbered one that does
+--   RefusedByEleven key x r == r is a refusal exactly when some equation of the key fails at x, and then 11 × 65,536
+--     + i, i the lowest-numbered one that does
 --   TestTold, CommitWrites, HashWrites, BatchWrites, ProveWrites == the promises of mq_test, mq_commit, mq_hash,
 --     mq_batch, mq_prove: their inputs, the output before and after, the number
 --   VerifyTold == the promise of mq_verify, which writes nothing: its inputs, the number

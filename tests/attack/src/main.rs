@@ -4,8 +4,9 @@
 //! attack [SEED] [--shared]
 //!
 //! The controls are a small prover in this crate: with one mask the attack must recover every witness, with own masks
-//! none; and that the last two repetitions share one must be seen. Then the library's proofs are attacked, and the attack must do no better than guessing. With `--shared` the
-//! library is one of the versions that had one mask, and the attack must recover every witness.
+//! none; and that the last two repetitions share one must be seen. Then the library's proofs are attacked, and the
+//! attack must do no better than guessing. With `--shared` the library is one of the versions that had one mask, and the
+//! attack must recover every witness.
 
 mod attack;
 mod case;

@@ -1,5 +1,5 @@
-//! What a verifier computes from the opened leaves, and a small verifier from the rules of 01: no proof is attacked that
-//! is not one.
+//! What a verifier computes from the opened leaves, and a small verifier from the rules of 01: no proof is attacked
+//! that is not one.
 
 use crate::case::View;
 use crate::field::product;

@@ -118,8 +118,8 @@ pub fn dear(shape: &Shape) -> bool {
     cost(shape) > DEAR
 }
 
-/// Above this its verifier, too, is asked once, and of the damages one in eight is tried; what follows from the equations
-/// is tried beside.
+/// Above this its verifier, too, is asked once, and of the damages one in eight is tried; what follows from the
+/// equations is tried beside.
 const DEAREST: usize = 2_500_000_000;
 
 /// Adds the rendering's proof to honest inputs.

@@ -1,5 +1,5 @@
-//! Each repetition by itself: its mask, and the refusals that name it. What is answered here follows from the equations,
-//! so that the rendering need not be asked where it is dear.
+//! Each repetition by itself: its mask, and the refusals that name it. What is answered here follows from the
+//! equations, so that the rendering need not be asked where it is dear.
 
 use crate::calls::{PROVE, STEPS, VERIFY};
 use crate::forged::{flip, flip_unseen};

@@ -14,8 +14,8 @@ pub struct Shape {
 }
 
 impl Shape {
-    /// From 01: "n variables 1..160, m equations 1..160, τ repetitions 1..48, t hash rows 1..160"; and from 02: "n and m
-    /// go to 320 and t to 288".
+    /// From 01: "n variables 1..160, m equations 1..160, τ repetitions 1..48, t hash rows 1..160"; and from 02: "n and
+    /// m go to 320 and t to 288".
     pub fn in_range(&self) -> bool {
         (1..=320).contains(&self.n)
             && (1..=320).contains(&self.m)

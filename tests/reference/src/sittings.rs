@@ -1,9 +1,9 @@
 //! The computed examples with a mask for each repetition: two files in the form of the older vectors, always with the
 //! same bytes. Nothing here is in 01 or 02 but the layout of what is made.
 //!
-//! Leaves and H′ come from the first seed at which the example tells something: no two masks are alike, nor two bytes of
-//! QS0 or of QS1, none of these is 0, nor d nor ũ, and every change is refused. Of the two changes of C the first is one
-//! that consistency does not see, but the product check does.
+//! Leaves and H′ come from the first seed at which the example tells something: no two masks are alike, nor two bytes
+//! of QS0 or of QS1, none of these is 0, nor d nor ũ, and every change is refused. Of the two changes of C the first is
+//! one that consistency does not see, but the product check does.
 
 use crate::calls::{questions_14_and_15, word};
 use crate::cases::{case_over, Case, Random};

@@ -237,7 +237,8 @@ fn lengths_with_own_masks() {
     assert_eq!([toy.k(), toy.l(), toy.w()], [10, 11, 2]);
 }
 
-/// A correction in a mask that is not the repetition's own is seen by consistency alone: where H′ is 0 there, by nothing.
+/// A correction in a mask that is not the repetition's own is seen by consistency alone: where H′ is 0 there, by
+/// nothing.
 #[test]
 fn corrections_in_the_masks() {
     let mut case = case(43, 4, 2, 3, 2);

@@ -156,8 +156,8 @@ pub fn single() -> Vec<Sizes> {
     shapes
 }
 
-/// Those of the above for the fuzzer, which asks the rendering thousands of times: where the leaves have at most so many
-/// bytes; and the most repetitions. With many variables there is one equation, since the time goes by n² and m.
+/// Those of the above for the fuzzer, which asks the rendering thousands of times: where the leaves have at most so
+/// many bytes; and the most repetitions. With many variables there is one equation, since the time goes by n² and m.
 pub fn light() -> Vec<Sizes> {
     let bytes = |shape: Sizes| LEAVES * shape.2 * leaf_bits(shape).div_ceil(8);
     let fewer = |(n, m, tau, t): Sizes| (n, if n > 160 { 1 } else { m }, tau, t);

@@ -1,5 +1,5 @@
-//! Writes the test vectors: `vectors DIRECTORY` makes proofs.rsp, answers.rsp and digests.rsp there, always with the same
-//! bytes.
+//! Writes the test vectors: `vectors DIRECTORY` makes proofs.rsp, answers.rsp and digests.rsp there, always with the
+//! same bytes.
 //!
 //! The form is that of vectors/README.md. Every expected byte and number is the Rust rendering's; the library is
 //! neither linked nor asked.

@@ -1,5 +1,5 @@
--- `solfadrus::calls::prove` meets its contract: a refusal on form, then question 11's, is its answer; and else the proof
--- is written.
+-- `solfadrus::calls::prove` meets its contract: a refusal on form, then question 11's, is its answer; and else the
+-- proof is written.
 -- Assumes nothing.
 use mathlib.Core.Path.{_≡_, refl, sym, ap, _∙_}
 use mathlib.Core.List.{[], _∷_}
