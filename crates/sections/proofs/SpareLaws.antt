@@ -16,8 +16,9 @@ use lib.Seq.{take-all}
 use Rattle.algebra.proofs.CountLaws.{and-left, and-right}
 use Rattle.protocol.specs.Lists.{allBelow, part, blockAt}
 use Rattle.protocol.specs.Strings.{bytesFor, bit, fromBits, spareZero}
-use Rattle.protocol.specs.Binary.{bits256}
+use Rattle.protocol.specs.Setting.{Setting, alphabetOf}
 use Rattle.protocol.specs.Key.{rowsSpare}
+use Rattle.sections.specs.Spare.{bitsSpare}
 use Rattle.protocol.proofs.TestLaws.{eqb-same, eqb-eq, and-true, both-true, bool-iff, all-of}
 use Rattle.protocol.proofs.ListLaws.{row-end, length-block, block-getD}
 use Rattle.protocol.proofs.StringLaws.{bits-of, bits-congr, spare-at}
@@ -90,12 +91,12 @@ none-spare : (L : ℕ) (row : List ℕ) → L % 8 ≡ 0 → length row ≤ bytes
 unfolding spareZero allBelow bytesFor
 none-spare L row h l = let e : length row * 8 - L ≡ 0 = omega arith in rw e
 
-pub whole-bytes : (L rows : ℕ) (s : List ℕ) → L % 8 ≡ 0 → rowsSpare bits256 L rows s ≡ true
-unfolding rowsSpare
+pub whole-bytes : (L rows : ℕ) (s : List ℕ) → L % 8 ≡ 0 → bitsSpare L rows s ≡ true
+unfolding bitsSpare
 whole-bytes L rows s h = all-of rows _ (λ i l. none-spare L (blockAt s (bytesFor L) i) h (block-most s (bytesFor L) i))
 
-pub one-row : (L : ℕ) (s : List ℕ) → length s ≡ bytesFor L → rowsSpare bits256 L 1 s ≡ spareZero s L
-unfolding rowsSpare allBelow blockAt part
+pub one-row : (L : ℕ) (s : List ℕ) → length s ≡ bytesFor L → bitsSpare L 1 s ≡ spareZero s L
+unfolding bitsSpare allBelow blockAt part
 one-row L s h = rw (zero-mul, take-all (bytesFor L) s (omega arith)) (all-more 0 (λ i. spareZero s L))
 
 last-lt : (L : ℕ) → 1 ≤ L % 8 → L / 8 < bytesFor L
@@ -119,11 +120,16 @@ module _ (s : List ℕ) (L rows : ℕ) (len : length s ≡ rows * bytesFor L) (p
       let b : getD (blockAt s w i) (L / 8) 0 ≡ getD s (i * w + w - 1) 0 = block-getD s w i (L / 8) q ∙ ap (λ k. getD s k 0) e in
       spare-high (blockAt s w i) L (length-block s w i (row-fits i h .1)) part (rw b (byte (i * w + w - 1))) ∙ ap (λ x. eqb (x / 2 ^ (L % 8)) 0) b
 
-  pub rows-more : (i found : ℕ) → i < rows → eqb found 0 ≡ rowsSpare bits256 L i s
-      → eqb (bitOr found (getD s (i * bytesFor L + bytesFor L - 1) 0 / 2 ^ (L % 8))) 0 ≡ rowsSpare bits256 L (i + 1) s
-  unfolding rowsSpare
+  pub rows-more : (i found : ℕ) → i < rows → eqb found 0 ≡ bitsSpare L i s
+      → eqb (bitOr found (getD s (i * bytesFor L + bytesFor L - 1) 0 / 2 ^ (L % 8))) 0 ≡ bitsSpare L (i + 1) s
+  unfolding bitsSpare
   rows-more i found h e = or-zero found _ ∙ ap₂ _&&_ e (sym (row-high i h)) ∙ rw add-one (sym (all-more i (λ i. spareZero (blockAt s (bytesFor L) i) L)))
 
-pub no-rows : (L : ℕ) (s : List ℕ) → eqb 0 0 ≡ rowsSpare bits256 L 0 s
-unfolding rowsSpare allBelow
+pub no-rows : (L : ℕ) (s : List ℕ) → eqb 0 0 ≡ bitsSpare L 0 s
+unfolding bitsSpare allBelow
 no-rows L s = refl
+
+-- rows of bits, in every setting
+pub rows-are : (g : Setting) (L rows : ℕ) (s : List ℕ) {b : Bool} → b ≡ bitsSpare L rows s → b ≡ rowsSpare (alphabetOf g) L rows s
+unfolding bitsSpare rowsSpare
+rows-are g L rows s h = h
