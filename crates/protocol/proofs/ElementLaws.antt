@@ -45,7 +45,7 @@ past-end [] i h = refl
 past-end (x ∷ l) zero h = absurd (omega arith)
 past-end (x ∷ l) (suc i) h = past-end l i (omega arith)
 
-ltb-lt : (m n : ℕ) → ltb m n ≡ true → m < n
+pub ltb-lt : (m n : ℕ) → ltb m n ≡ true → m < n
 ltb-lt m n h = go (decLt m n)
   where
     go : Dec (m < n) → m < n

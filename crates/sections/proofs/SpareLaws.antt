@@ -9,17 +9,21 @@ use native.Mathlib.Nat.{zero-div, zero-mul, min-le-left}
 use native.Mathlib.Numerals.{add-one}
 use native.Mathlib.Omega.{arith}
 use lib.Bits.{bitOr, or-zero-l, or-add-and, and-le-l, and-le-r}
-use lib.Dec.{eqb}
+use lib.Dec.{eqb, ltb}
 use lib.ListN.{length, getD, drop, length-take}
 use lib.Pow.{shr-shr, shr-lt}
 use lib.Seq.{take-all}
 use Rattle.algebra.proofs.CountLaws.{and-left, and-right}
+use Rattle.algebra.specs.Field.{Field}
+use Rattle.algebra.specs.Coded.{Coded}
+use Rattle.field.specs.Gf16.{gf16}
 use Rattle.protocol.specs.Lists.{allBelow, part, blockAt}
 use Rattle.protocol.specs.Strings.{bytesFor, bit, fromBits, spareZero}
 use Rattle.protocol.specs.Setting.{Setting, alphabetOf}
 use Rattle.protocol.specs.Key.{rowsSpare}
 use Rattle.sections.specs.Spare.{bitsSpare}
-use Rattle.protocol.proofs.TestLaws.{eqb-same, eqb-eq, and-true, both-true, bool-iff, all-of}
+use Rattle.protocol.proofs.TestLaws.{eqb-same, eqb-eq, ltb-yes, and-true, both-true, bool-iff, all-of}
+use Rattle.protocol.proofs.ElementLaws.{ltb-lt}
 use Rattle.protocol.proofs.ListLaws.{row-end, length-block, block-getD}
 use Rattle.protocol.proofs.StringLaws.{bits-of, bits-congr, spare-at}
 
@@ -133,3 +137,22 @@ no-rows L s = refl
 pub rows-are : (g : Setting) (L rows : ℕ) (s : List ℕ) {b : Bool} → b ≡ bitsSpare L rows s → b ≡ rowsSpare (alphabetOf g) L rows s
 unfolding bitsSpare rowsSpare
 rows-are g L rows s h = h
+
+-- ---- bytes that are elements of the smaller field
+
+-- the first i bytes are
+unfoldable pub narrowTo : ℕ → List ℕ → Bool
+narrowTo i s = allBelow i (λ k. ltb (getD s k 0) (gf16 .base .size))
+
+pub narrow-none : (s : List ℕ) → eqb 0 0 ≡ narrowTo 0 s
+unfolding narrowTo allBelow
+narrow-none s = refl
+
+below-sixteen : (x : ℕ) → eqb (x / 16) 0 ≡ ltb x 16
+below-sixteen x = bool-iff _ _ (λ h. let e : x / 16 ≡ 0 = eqb-eq (x / 16) 0 h in ltb-yes x 16 (omega arith)) (λ h. let l : x < 16 = ltb-lt x 16 h in eqb-same (x / 16) 0 (omega arith))
+
+pub narrow-more : (i : ℕ) (s : List ℕ) (found : ℕ) → eqb found 0 ≡ narrowTo i s → eqb (bitOr found (getD s i 0 / 16)) 0 ≡ narrowTo (i + 1) s
+unfolding narrowTo
+narrow-more i s found h =
+    or-zero found (getD s i 0 / 16) ∙ ap₂ _&&_ h (below-sixteen (getD s i 0)) ∙ sym (all-more i (λ k. ltb (getD s k 0) (gf16 .base .size)))
+    ∙ ap (λ n. allBelow n (λ k. ltb (getD s k 0) (gf16 .base .size))) (sym (add-one i))
