@@ -30,7 +30,8 @@ step() {
 }
 
 # The folder for rt's temporary files. Each proof and each edit begins with writing the modules of all dependencies
-# there, up to 500 MB, which takes seconds on a disk: so it is in memory, where there is room for four and programs may run.
+# there, up to 500 MB, which takes seconds on a disk: so it is in memory, where there is room for it and programs may
+# run.
 quick_folder() {
     room=$(df -Pk /dev/shm 2>/dev/null | awk 'NR == 2 { print $4 }')
     if [ "${room:-0}" -gt 4000000 ] && [ -w /dev/shm ] && ! grep -q ' /dev/shm [^ ]* [^ ]*noexec' /proc/mounts; then
