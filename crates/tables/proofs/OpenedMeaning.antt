@@ -10,17 +10,18 @@ use Rattle.protocol.specs.Lists.{blockAt}
 use Rattle.protocol.specs.Strings.{bit}
 use Rattle.protocol.specs.Alphabet.{sym as symbol}
 use Rattle.protocol.specs.Binary.{bits256}
-use Rattle.protocol.specs.Shape.{Shape, perTree, perOpened, wOf}
+use Rattle.protocol.specs.Shape.{Shape, perTree, perOpened, lOf, wOf}
 use Rattle.protocol.specs.Leaves.{openedLeaf}
-use Rattle.protocol.specs.Sections.{Sections}
+use Rattle.protocol.specs.Sections.{Sections, sectionsIn}
 use Rattle.protocol.specs.Questions.{treeOf}
 use Rattle.protocol.specs.Verifier.{correctionAt, W}
 use Rattle.protocol.proofs.StringLaws.{bit-lt}
 use Rattle.strings.specs.Sums.{byteAt}
 use Rattle.strings.proofs.SumLaws.{sum-same}
 use Rattle.strings.proofs.Meaning.{byte-sum, byte-bit, byte-times}
-use Rattle.lanes.specs.Lanes.{lanes}
-use Rattle.tables.specs.Opened.{correctionBit, wByte, OpenedTableIs}
+use Rattle.lanes.specs.Lanes.{lanes, laneAt}
+use Rattle.format.proofs.FitLaws.{in-width}
+use Rattle.tables.specs.Opened.{correctionBit, wByte, OpenedTableIs, Opened}
 use Rattle.tables.proofs.SumsMeaning.{byteOf, per-tree}
 
 abbrev Element : Type 0
@@ -73,3 +74,8 @@ module _ (s : Shape) (p : Sections) (opened : List ℕ) (c : ℕ) where
   pub table-w : (table Δ : List ℕ) (τ e : ℕ) → OpenedTableIs table opened Δ (p .C) τ w count → e < τ → c < 8 * w → byteAt Δ e < count
       → byteAt table (c * lanes + e) ≡ byteOf (W bits256 s p e (byteAt Δ e) (treeOf bits256 s opened e) c)
   table-w table Δ τ e is l h d = is e c l h ∙ sym (w-byte e (byteAt Δ e) d)
+
+-- a lane of what was opened
+pub opened-lane : (s : Shape) (Δ opened proof T : List ℕ) → Opened bits256 s Δ opened proof T → ((i : ℕ) → byteAt Δ i < 256)
+    → (e c : ℕ) → e < s .τ → c < lOf bits256 s → laneAt T c e ≡ byteOf (W bits256 s (sectionsIn bits256 s proof) e (byteAt Δ e) (treeOf bits256 s opened e) c)
+opened-lane s Δ opened proof T is challenges e c l h = table-w s (sectionsIn bits256 s proof) opened c T Δ (s .τ) e (is .table-is) l (in-width s c h) (rw per-tree (challenges e))

@@ -6,8 +6,9 @@ use mathlib.Core.List.{List}
 use Prim.Native.Nat.{ℕ, _+_, _*_, _/_, _%_, _≤_, _<_}
 use native.Mathlib.Nat.{mod-eq-of-lt}
 use native.Mathlib.Omega.{arith}
-use lib.Dec.{lit<}
+use lib.Dec.{eqb, lit<}
 use lib.ListN.{length}
+use Rattle.algebra.specs.Coded.{Coded}
 use Rattle.protocol.specs.Lists.{blockAt}
 use Rattle.protocol.specs.Strings.{bit}
 use Rattle.protocol.specs.Alphabet.{sym as symbol}
@@ -17,7 +18,7 @@ use Rattle.protocol.specs.Key.{rowsSpare}
 use Rattle.protocol.specs.Questions.{leavesExact, leavesSpare}
 use Rattle.protocol.specs.Leaves.{leafAt}
 use Rattle.protocol.specs.Prover.{u, v}
-use Rattle.protocol.proofs.TestLaws.{eqb-eq, all-at}
+use Rattle.protocol.proofs.TestLaws.{eqb-eq, eqb-same, bool-iff, all-at}
 use Rattle.protocol.proofs.ListLaws.{row-end, length-block}
 use Rattle.protocol.proofs.StringLaws.{bit-lt, spare-at}
 use Rattle.strings.specs.Sums.{byteAt, bitOf, xorSum}
@@ -34,6 +35,13 @@ per-tree = refl
 
 abbrev pub byteOf : bits256 .K .base .R .F → ℕ
 byteOf = bits256 .K .byte
+
+-- two elements are the same where their bytes are
+pub same-bytes : (K : Coded) (a b : K .base .R .F) → eqb (K .byte a) (K .byte b) ≡ K .base .eqb a b
+same-bytes K a b =
+    bool-iff (eqb (K .byte a) (K .byte b)) (K .base .eqb a b)
+    (λ h. let same : a ≡ b = sym (K .elem-byte a) ∙ ap (K .elem) (eqb-eq (K .byte a) (K .byte b) h) ∙ K .elem-byte b in rw same (K .base .eqb-refl b))
+    (λ h. eqb-same (K .byte a) (K .byte b) (ap (K .byte) (K .base .eqb-sound a b h)))
 
 module _ (s : Shape) (leaves : List ℕ) (e c : ℕ) where
   abbrev w : ℕ

@@ -1,8 +1,5 @@
 // The verifier: its questions on form, and then 14 and 15, 14 over all repetitions before 15 over any. All that it is
 // lent is public.
-mod consistency;
-mod product;
-
 ghost use mathlib.Core.Path.{_≡_};
 ghost use Rattle.protocol.specs.Binary.{bits256};
 ghost use Rattle.protocol.specs.Answers.{ask};
@@ -11,8 +8,7 @@ ghost use Rattle.format.specs.Sizes.{alphabetFor, shapeFor};
 ghost use Rattle.format.specs.Verdict.{answerOf};
 ghost use Rattle.sections.specs.Moved.{PlacesIn};
 ghost use Rattle.verifier.specs.Given.{VerifyFacts, checkQuestions};
-ghost use Rattle.verifier.specs.Proved.{SpaceRoom};
-use consistency::check_consistency;
+ghost use Rattle.verifier_product.specs.Product.{SpaceRoom};
 use format::Reason;
 use format::Verdict;
 use format::sizes::Sizes;
@@ -22,7 +18,6 @@ use format::sizes::sizes_of;
 use format::verdicts::answer;
 use forms_batching::panels::CELLS;
 use lanes::LANES;
-use product::check_product;
 use questions::calls::verify_inputs;
 use questions::key::key_form;
 use questions::proof::C;
@@ -30,6 +25,8 @@ use questions::proof::proof_form;
 use questions::proof::proof_section;
 use sections::reader::Places;
 use strings::BITS;
+use verifier_consistency::check_consistency;
+use verifier_product::check_product;
 
 // The space of a call: it is first the table of the W_e, and then the cells of the forms. These are longer than the
 // longest table.
