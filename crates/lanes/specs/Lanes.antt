@@ -4,6 +4,7 @@
 --   LaneIs e n f T == coordinates f 0, .., f (n - 1) stand in lane e;
 --     LanesKept e old new == the lanes other than e are as they were
 --   LanesAdded n f old new == to each of the first n lanes e, f e is added
+--   ProductsAdded C f t old new == to each lane e, the product of f_e and t_e in the field C is added
 --   maskLane T at e == Σ α^i · coordinate at + i, i below the field's degree, in repetition e
 --   maskBits u at == the same of a string of bits
 --   firstMask s e == the first mask coordinate of repetition e, for a key of the sizes s
@@ -16,7 +17,7 @@ use Prim.Native.Nat.{ℕ, _+_, _*_, _<_, _≤_}
 use lib.ListN.{length}
 use lib.Bits.{bitXor}
 use Rattle.protocol.specs.Shape.{mostRepetitions, maskAt}
-use Rattle.algebra.specs.Coded.{mulByte}
+use Rattle.algebra.specs.Coded.{Coded, mulByte}
 use Rattle.field.specs.Gf256.{gf256, maskElement}
 use Rattle.protocol.specs.Strings.{bit}
 use Rattle.strings.specs.Sums.{byteAt, xorSum}
@@ -37,6 +38,9 @@ LanesKept e old new = (c q : ℕ) → q < lanes → (q ≡ e → ⊥) → byteAt
 
 abbrev pub LanesAdded : ℕ → (ℕ → ℕ) → List ℕ → List ℕ → Type 0
 LanesAdded n f old new = (e : ℕ) → e < n → byteAt new e ≡ bitXor (byteAt old e) (f e)
+
+abbrev pub ProductsAdded : Coded → List ℕ → List ℕ → List ℕ → List ℕ → Type 0
+ProductsAdded C f t old new = LanesAdded lanes (λ e. mulByte C (byteAt f e) (byteAt t e)) old new
 
 abbrev pub maskLane : List ℕ → ℕ → ℕ → ℕ
 maskLane T at e = xorSum (gf256 .degree) (λ i. mulByte gf256 (maskElement i) (laneAt T (at + i) e))

@@ -4,10 +4,12 @@ ghost use mathlib.Core.Path.{_≡_};
 ghost use Prim.Native.Nat.{ℕ, _+_, _*_, _<_, _≤_};
 ghost use lib.ListN.{length};
 ghost use lib.Bits.{bitXor};
-ghost use Rattle.algebra.specs.Coded.{mulByte};
+ghost use Rattle.field.specs.Gf16.{gf16};
 ghost use Rattle.field.specs.Gf256.{gf256};
+ghost use Rattle.field.specs.Degrees.{fieldOf};
 ghost use Rattle.strings.specs.Sums.{byteAt};
-ghost use Rattle.lanes.specs.Lanes.{lanes, laneAt, LanesAdded, maskLane, maskBits, firstMask, MasksIn, MaskBitsIn};
+ghost use Rattle.lanes.specs.Lanes.{lanes, laneAt, LanesAdded, ProductsAdded, maskLane, maskBits, firstMask, MasksIn, MaskBitsIn};
+use field::Gf16;
 use field::Gf256;
 use format::Sizes;
 use format::sizes::MOST_REPETITIONS;
@@ -18,23 +20,48 @@ use strings::MASK_BYTE;
 // fixed, so that loops over it have a constant length.
 pub const LANES: usize = MOST_REPETITIONS;
 
-// n variables, m equations, tau repetitions.
+// n variables, m equations, tau repetitions; the degree of the field.
 pub struct Dimensions {
     pub n: usize,
     pub m: usize,
     pub tau: usize,
+    pub degree: usize,
 }
 
-// acc[e] ^= f[e]·t[e] in GF(256), for each lane. Both factors vary with e: no mask is the same for a whole loop, which
-// the compiler could make a branch.
-pub fn accumulate(acc: &mut [u8], f: &[u8], t: &[u8])
+// acc[e] ^= f[e]·t[e] in GF(16), for each lane.
+fn accumulate_halves(acc: &mut [u8], f: &[u8], t: &[u8])
     requires { ⌜ (length (now acc) ≡ lanes) × (length (now f) ≡ lanes) × (length (now t) ≡ lanes) ⌝ }
-    ensures { λ _. ⌜ ((e : ℕ) → e < lanes → byteAt (now (acc .exit)) e ≡ bitXor (byteAt (now (acc .entry)) e) (mulByte gf256 (byteAt (now (f .entry)) e) (byteAt (now (t .entry)) e))) ⌝ }
+    ensures { λ _. ⌜ ProductsAdded gf16 (now (f .entry)) (now (t .entry)) (now (acc .entry)) (now (acc .exit)) ⌝ }
+{
+    let mut e = 0;
+    while e < LANES {
+        acc[e] ^= Gf16::multiply(f[e], t[e]);
+        e += 1;
+    }
+}
+
+// The same in GF(256).
+fn accumulate_bytes(acc: &mut [u8], f: &[u8], t: &[u8])
+    requires { ⌜ (length (now acc) ≡ lanes) × (length (now f) ≡ lanes) × (length (now t) ≡ lanes) ⌝ }
+    ensures { λ _. ⌜ ProductsAdded gf256 (now (f .entry)) (now (t .entry)) (now (acc .entry)) (now (acc .exit)) ⌝ }
 {
     let mut e = 0;
     while e < LANES {
         acc[e] ^= Gf256::multiply(f[e], t[e]);
         e += 1;
+    }
+}
+
+// acc[e] ^= f[e]·t[e] in the field of the degree, for each lane. Both factors vary with e: no mask is the same for a
+// whole loop, which the compiler could make a branch. The degree is public, and each field has its own loop.
+pub fn accumulate(acc: &mut [u8], f: &[u8], t: &[u8], degree: usize)
+    requires { ⌜ (length (now acc) ≡ lanes) × (length (now f) ≡ lanes) × (length (now t) ≡ lanes) ⌝ }
+    ensures { λ _. ⌜ ProductsAdded (fieldOf degree) (now (f .entry)) (now (t .entry)) (now (acc .entry)) (now (acc .exit)) ⌝ }
+{
+    if degree == Gf16::DEGREE {
+        accumulate_halves(acc, f, t);
+    } else {
+        accumulate_bytes(acc, f, t);
     }
 }
 
@@ -76,7 +103,7 @@ pub fn add_masks(acc: &mut [u8], table: &[u8], s: Sizes)
         let weight = [Gf256::mask_element(i); LANES];
         let mut row = [0u8; LANES];
         gather_mask(&mut row, table, i, s);
-        accumulate(acc, &weight, &row);
+        accumulate(acc, &weight, &row, Gf256::DEGREE);
         i += 1;
     }
 }
