@@ -8,7 +8,7 @@ ghost use Rattle.algebra.specs.Bits.{elem, byte};
 ghost use Rattle.algebra.specs.BitField.{xtime};
 ghost use Rattle.algebra.specs.Coded.{mulByte};
 ghost use Rattle.field.specs.Gf256.{modulus, gf256, maskElement};
-ghost use Rattle.field.specs.Degrees.{fieldOf};
+ghost use Rattle.field.specs.Degrees.{fieldOf, degreeOf, sizeOf, maskElementOf};
 
 // The byte whose bit is the highest.
 const TOP: u8 = 128;
@@ -92,5 +92,38 @@ pub fn multiply(degree: usize, a: u8, b: u8) -> u8
         Gf16::multiply(a, b)
     } else {
         Gf256::multiply(a, b)
+    }
+}
+
+// The degree itself: 4, or 8 for any other number.
+pub fn degree_of(degree: usize) -> usize
+    ensures { λ r. ⌜ r ≡ degreeOf degree ⌝ }
+{
+    if degree == Gf16::DEGREE {
+        Gf16::DEGREE
+    } else {
+        Gf256::DEGREE
+    }
+}
+
+// How many elements the field of the degree has.
+pub fn size_of(degree: usize) -> usize
+    ensures { λ r. ⌜ r ≡ sizeOf degree ⌝ }
+{
+    if degree == Gf16::DEGREE {
+        Gf16::SIZE
+    } else {
+        Gf256::SIZE
+    }
+}
+
+// The weight of mask coordinate s in the field of the degree.
+pub fn mask_element(degree: usize, s: usize) -> u8
+    ensures { λ r. ⌜ r ≡ maskElementOf degree s ⌝ }
+{
+    if degree == Gf16::DEGREE {
+        Gf16::mask_element(s)
+    } else {
+        Gf256::mask_element(s)
     }
 }
