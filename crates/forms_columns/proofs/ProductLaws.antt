@@ -2,7 +2,7 @@
 -- Assumes nothing.
 use mathlib.Core.Path.{_≡_, sym, ap, ap₂, _∙_}
 use mathlib.Core.Bool.{Bool}
-use Prim.Native.Nat.{ℕ, zero, suc, _+_, _*_, _^_, _≤_, _<_}
+use Prim.Native.Nat.{ℕ, zero, suc, _+_, _*_, _%_, _^_, _≤_, _<_}
 use native.Mathlib.Nat.{mod-eq-of-lt, add-zero, add-suc, add-comm, zero-mul, one-mul}
 use native.Mathlib.Omega.{arith}
 use lib.Dec.{T, eqb, eqb→eq, lit<}
@@ -17,6 +17,7 @@ use Rattle.algebra.proofs.TestLaws.{everyBelow, every-at}
 use Rattle.field.specs.Gf256.{gf256}
 use Rattle.field.specs.Gf16.{gf16}
 use Rattle.field.specs.Degrees.{fieldOf, degreeOf}
+use Rattle.field.proofs.ProductLaws.{elem-low}
 use Rattle.field.proofs.DegreeLaws.{each-field, degree-least, degree-most}
 use Rattle.protocol.proofs.StringLaws.{bits-of}
 use Rattle.strings.specs.Sums.{bitOf, xorSum}
@@ -97,8 +98,16 @@ alpha-low d s =
     (λ h. eqb→eq (2 ^ s) (powByte gf16 2 s) (every-at (gf16 .degree) (weighs gf16) few-powers s h))
     (λ h. eqb→eq (2 ^ s) (powByte gf256 2 s) (every-at (gf256 .degree) (weighs gf256) low-powers s h)) d
 
+-- a product takes the low bits of its factors
+pub product-low : (d a x : ℕ) → byteProduct d a (x % 2 ^ degreeOf d) ≡ byteProduct d a x
+unfolding byteProduct degreeOf
+product-low d a x =
+    each-field (λ C. mulByte C a (x % 2 ^ C .degree) ≡ mulByte C a x)
+    (ap (λ y. gf16 .byte (gf16 .base .R .mul (gf16 .elem a) y)) (elem-low 4 x))
+    (ap (λ y. gf256 .byte (gf256 .base .R .mul (gf256 .elem a) y)) (elem-low 8 x)) d
+
 -- an element is the sum of the powers that its bits weigh
-low-bits : (d v : ℕ) → v < 2 ^ degreeOf d → xorSum (degreeOf d) (λ i. bitOf v i * alpha d i) ≡ v
+pub low-bits : (d v : ℕ) → v < 2 ^ degreeOf d → xorSum (degreeOf d) (λ i. bitOf v i * alpha d i) ≡ v
 unfolding bitOf
 low-bits d v h =
     sum-same (degreeOf d) _ _ (λ i l. ap (λ x. bitOf v i * x) (sym (alpha-low d i l))) ∙ bits-sum (degreeOf d) (bitOf v) (bitOf-lt v) ∙ bits-of (degreeOf d) v h

@@ -6,7 +6,7 @@ ghost use lib.ListN.{length};
 ghost use lib.Bits.{bitXor};
 ghost use Rattle.field.specs.Gf16.{gf16};
 ghost use Rattle.field.specs.Gf256.{gf256};
-ghost use Rattle.field.specs.Degrees.{fieldOf};
+ghost use Rattle.field.specs.Degrees.{fieldOf, degreeOf};
 ghost use Rattle.strings.specs.Sums.{byteAt};
 ghost use Rattle.lanes.specs.Lanes.{lanes, laneAt, LanesAdded, ProductsAdded, maskLane, maskBits, firstMask, MasksIn, MaskBitsIn};
 use field::Gf16;
@@ -81,7 +81,7 @@ pub fn add_masked(acc: &mut [u8], bit: u8, src: &[u8])
 
 // row[e] = mask coordinate i of repetition e.
 fn gather_mask(row: &mut [u8], table: &[u8], i: usize, s: Sizes)
-    requires { ⌜ (length (now row) ≡ lanes) × MasksIn s (now table) × (i < gf256 .degree) ⌝ }
+    requires { ⌜ (length (now row) ≡ lanes) × MasksIn s (now table) × (i < degreeOf (s .degree)) ⌝ }
     ensures { λ _. ⌜ ((e : ℕ) → e < s .tau → byteAt (now (row .exit)) e ≡ laneAt (now (table .entry)) (firstMask s e + i) e) ⌝ }
 {
     let tau = s.tau;
@@ -96,27 +96,31 @@ fn gather_mask(row: &mut [u8], table: &[u8], i: usize, s: Sizes)
 // rules).
 pub fn add_masks(acc: &mut [u8], table: &[u8], s: Sizes)
     requires { ⌜ (length (now acc) ≡ lanes) × MasksIn s (now table) ⌝ }
-    ensures { λ _. ⌜ LanesAdded (s .tau) (λ e. maskLane (now (table .entry)) (firstMask s e) e) (now (acc .entry)) (now (acc .exit)) ⌝ }
+    ensures { λ _. ⌜ LanesAdded (s .tau) (λ e. maskLane (s .degree) (now (table .entry)) (firstMask s e) e) (now (acc .entry)) (now (acc .exit)) ⌝ }
 {
+    let degree = s.degree;
+    let count = field::degree_of(degree);
     let mut i = 0;
-    while i < Gf256::DEGREE {
-        let weight = [Gf256::mask_element(i); LANES];
+    while i < count {
+        let weight = [field::mask_element(degree, i); LANES];
         let mut row = [0u8; LANES];
         gather_mask(&mut row, table, i, s);
-        accumulate(acc, &weight, &row, Gf256::DEGREE);
+        accumulate(acc, &weight, &row, degree);
         i += 1;
     }
 }
 
 // Σ α^i·u[at + i].
-fn mask_byte(u: &[u8], at: usize) -> u8
-    requires { ⌜ (at + gf256 .degree ≤ length (now u) * 8) × (at < 65536) ⌝ }
-    ensures { λ r. ⌜ r ≡ maskBits (now (u .entry)) at ⌝ }
+fn mask_byte(u: &[u8], at: usize, degree: usize) -> u8
+    requires { ⌜ (at + degreeOf degree ≤ length (now u) * 8) × (at < 65536) ⌝ }
+    ensures { λ r. ⌜ r ≡ maskBits degree (now (u .entry)) at ⌝ }
 {
+    let count = field::degree_of(degree);
     let mut sum: u8 = 0;
     let mut i = 0;
-    while i < Gf256::DEGREE {
-        sum ^= Gf256::multiply(Gf256::mask_element(i), strings::bit_at(u, at + i));
+    while i < count {
+        let weight = field::mask_element(degree, i);
+        sum ^= field::multiply(degree, weight, strings::bit_at(u, at + i));
         i += 1;
     }
     sum
@@ -126,12 +130,13 @@ fn mask_byte(u: &[u8], at: usize) -> u8
 // rules).
 pub fn add_mask_bits(acc: &mut [u8], u: &[u8], s: Sizes)
     requires { ⌜ (length (now acc) ≡ lanes) × MaskBitsIn s (now u) ⌝ }
-    ensures { λ _. ⌜ LanesAdded (s .tau) (λ e. maskBits (now (u .entry)) (firstMask s e)) (now (acc .entry)) (now (acc .exit)) ⌝ }
+    ensures { λ _. ⌜ LanesAdded (s .tau) (λ e. maskBits (s .degree) (now (u .entry)) (firstMask s e)) (now (acc .entry)) (now (acc .exit)) ⌝ }
 {
     let tau = s.tau;
+    let degree = s.degree;
     let mut e = 0;
     while e < tau {
-        acc[e] ^= mask_byte(u, mask_at(s, e));
+        acc[e] ^= mask_byte(u, mask_at(s, e), degree);
         e += 1;
     }
 }
