@@ -3,8 +3,9 @@
 use mathlib.Core.Path.{_≡_, sym, ap, ap₂, _∙_}
 use mathlib.Core.Bool.{Bool}
 use Prim.Native.Nat.{ℕ, zero, suc, _+_, _*_, _%_, _^_, _≤_, _<_}
-use native.Mathlib.Nat.{mod-eq-of-lt, add-zero, add-suc, add-comm, zero-mul, one-mul}
+use native.Mathlib.Nat.{mod-lt, mod-eq-of-lt, add-zero, add-suc, add-comm, zero-mul, one-mul}
 use native.Mathlib.Omega.{arith}
+use lib.Pow.{pow-pos}
 use lib.Dec.{T, eqb, eqb→eq, lit<}
 use Rattle.algebra.specs.Ring.{Ring}
 use Rattle.algebra.specs.Field.{Field}
@@ -22,7 +23,7 @@ use Rattle.field.proofs.DegreeLaws.{each-field, degree-least, degree-most}
 use Rattle.protocol.proofs.StringLaws.{bits-of}
 use Rattle.strings.specs.Sums.{bitOf, xorSum}
 use Rattle.strings.proofs.SumLaws.{sum-same, sum-short}
-use Rattle.strings.proofs.BitLaws.{bits-sum, cut-bit}
+use Rattle.strings.proofs.BitLaws.{bits-sum, kept-bit, cut-bit}
 use Rattle.strings.proofs.Meaning.{bitOf-lt, elem-sum, byte-sum}
 use Rattle.forms_columns.specs.Stacks.{alpha, byteProduct}
 
@@ -107,13 +108,19 @@ product-low d a x =
     (ap (λ y. gf256 .byte (gf256 .base .R .mul (gf256 .elem a) y)) (elem-low 8 x)) d
 
 -- an element is the sum of the powers that its bits weigh
-pub low-bits : (d v : ℕ) → v < 2 ^ degreeOf d → xorSum (degreeOf d) (λ i. bitOf v i * alpha d i) ≡ v
+low-bits : (d v : ℕ) → v < 2 ^ degreeOf d → xorSum (degreeOf d) (λ i. bitOf v i * alpha d i) ≡ v
 unfolding bitOf
 low-bits d v h =
     sum-same (degreeOf d) _ _ (λ i l. ap (λ x. bitOf v i * x) (sym (alpha-low d i l))) ∙ bits-sum (degreeOf d) (bitOf v) (bitOf-lt v) ∙ bits-of (degreeOf d) v h
 
 high-bit : (r v i : ℕ) → v < 2 ^ r → r ≤ i → bitOf v i ≡ 0
 high-bit r v i h l = ap (λ x. bitOf x i) (sym (mod-eq-of-lt h)) ∙ cut-bit v r i l
+
+-- under another factor, of any number
+pub product-weights : (d a x : ℕ) → byteProduct d a (xorSum (degreeOf d) (λ i. bitOf x i * alpha d i)) ≡ byteProduct d a x
+product-weights d a x =
+    ap (byteProduct d a) (sum-same (degreeOf d) _ _ (λ i l. ap (λ y. y * alpha d i) (sym (kept-bit x (degreeOf d) i l))) ∙ low-bits d (x % 2 ^ degreeOf d) (mod-lt x (pow-pos (degreeOf d))))
+    ∙ product-low d a x
 
 -- the same over eight bits, whatever the degree
 pub byte-bits : (d v : ℕ) → v < 2 ^ degreeOf d → xorSum 8 (λ i. bitOf v i * alpha d i) ≡ v
