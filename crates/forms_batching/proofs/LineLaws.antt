@@ -153,7 +153,7 @@ planes-sum S χ m f z small =
     (λ p l. ap₂ _*_ (bitOf-sum m (λ i. bitOf (χ i) p * cellAt S i f) z ∙ sum-same m _ _ (λ i k. bit-times (bitOf (χ i) p) (cellAt S i f) z (bitOf-lt (χ i) p)))
     (sym (product-comm degree (alpha degree p) 1 ∙ product-one degree (alpha degree p) (alpha-lt p))))
     ∙ planes-added degree m 1 χ (λ i. bitOf (cellAt S i f) z) (λ i. bitOf-lt (cellAt S i f) z)
-    ∙ product-one degree _ (sum-lt 8 m _ (omega arith) (λ i l. scaled-lt (bitOf (cellAt S i f) z) (χ i) (bitOf-lt (cellAt S i f) z) (small i l)))
+    ∙ product-one degree _ (sum-lt 8 m _ (omega arith) (λ i l. scaled-lt 256 (bitOf (cellAt S i f) z) (χ i) (bitOf-lt (cellAt S i f) z) (small i l)))
 
 -- an element whose bits are those of the planes at its coordinate
 pub element-is : (S : List ℕ) (χ : ℕ → ℕ) (m : ℕ) (sums W : List ℕ) (G r : ℕ) (planes : List ℕ) (v c : ℕ) → Weighed S χ m sums W G r → v < 256 → c < chunkBits

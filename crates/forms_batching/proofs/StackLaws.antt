@@ -6,7 +6,6 @@ use Prim.Native.Nat.{ℕ, zero, suc, _+_, _*_, _%_, _≤_, _<_}
 use native.Mathlib.Nat.{zero-mul, one-mul, mul-comm, mul-assoc}
 use native.Mathlib.Omega.{arith}
 use lib.Bits.{bitXor, xor-zero-r}
-use lib.Dec.{lit<}
 use Rattle.field.specs.Degrees.{degreeOf}
 use Rattle.field.proofs.DegreeLaws.{each-field, degree-most}
 use Rattle.strings.specs.Sums.{byteAt, bitOf, xorSum}
@@ -22,10 +21,11 @@ use Rattle.forms_columns.specs.Stacks.{alpha, byteProduct, planes, stackAt, sta
 use Rattle.forms_columns.proofs.ProductLaws.{product-comm, product-bits, product-weights}
 use Rattle.forms_batching.specs.Batched.{weighedBit, planeTimes}
 
-pub scaled-lt : (q x : ℕ) → q < 2 → x < 256 → q * x < 256
-scaled-lt zero x h k = rw (zero-mul x) (lit< tt)
-scaled-lt (suc zero) x h k = rw (one-mul x) k
-scaled-lt (suc (suc q)) x h k = absurd (omega arith)
+-- what x is below, a bit times x is below
+pub scaled-lt : (n q x : ℕ) → q < 2 → x < n → q * x < n
+scaled-lt n zero x h k = rw (zero-mul x) (omega arith)
+scaled-lt n (suc zero) x h k = rw (one-mul x) k
+scaled-lt n (suc (suc q)) x h k = absurd (omega arith)
 
 -- ---- all planes of a sum that bytes weigh
 
