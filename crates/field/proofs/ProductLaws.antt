@@ -30,7 +30,7 @@ times-lt (suc zero) x n hq hx = omega arith
 times-lt (suc (suc q)) x n hq hx = absurd (omega arith)
 
 -- an element takes the low bits of its number
-elem-low : (r x : ℕ) → elem r (x % 2 ^ r) ≡ elem r x
+pub elem-low : (r x : ℕ) → elem r (x % 2 ^ r) ≡ elem r x
 unfolding elem
 elem-low zero x = refl
 elem-low (suc r) x =

@@ -8,7 +8,7 @@ use native.Mathlib.Nat.{add-assoc, add-mul, mul-le-mul, le-refl}
 use lib.ListN.{take, drop}
 use lib.Bits.{bitXor}
 use Rattle.algebra.specs.Coded.{mulByte}
-use Rattle.field.specs.Gf256.{gf256}
+use Rattle.field.specs.Degrees.{fieldOf}
 use Rattle.protocol.specs.Strings.{bytesFor}
 use Rattle.strings.specs.Sums.{byteAt, xorSum}
 use Rattle.strings.proofs.XorLaws.{xor-assoc}
@@ -28,7 +28,7 @@ sums-more a v from count f is =
     ∙ xor-assoc a (xorSum from f) (xorSum count (λ i. f (from + i)))
     ∙ ap (bitXor a) (sym (sum-parts from count f))
 
-module _ (n m from count e : ℕ) (A b χ : List ℕ) (g : ℕ → ℕ) where
+module _ (d n m from count e : ℕ) (A b χ : List ℕ) (g : ℕ → ℕ) where
   abbrev size : ℕ
   size = n * bytesFor n
 
@@ -44,11 +44,11 @@ module _ (n m from count e : ℕ) (A b χ : List ℕ) (g : ℕ → ℕ) where
   matrix-at : (i : ℕ) → i < count → matrixOf n matrices i ≡ matrixOf n A (from + i)
   matrix-at i l = block-part A size from count i l
 
-  pub forms-part : blockForms n m from count matrices χ e g ≡ xorSum count (λ i. mulByte gf256 (byteAt χ (e * m + (from + i))) (formByte n (matrixOf n A (from + i)) g))
-  forms-part = sum-same count _ _ (λ i l. ap₂ (mulByte gf256) (byte-at i) (ap (λ M. formByte n M g) (matrix-at i l)))
+  pub forms-part : blockForms d n m from count matrices χ e g ≡ xorSum count (λ i. mulByte (fieldOf d) (byteAt χ (e * m + (from + i))) (formByte d n (matrixOf n A (from + i)) g))
+  forms-part = sum-same count _ _ (λ i l. ap₂ (mulByte (fieldOf d)) (byte-at i) (ap (λ M. formByte d n M g) (matrix-at i l)))
 
-  pub middles-part : (x : ℕ → ℕ) → blockMiddles n m from count matrices rows x χ e g
-      ≡ xorSum count (λ i. mulByte gf256 (byteAt χ (e * m + (from + i))) (middleByte n (matrixOf n A (from + i)) (rowOf n b (from + i)) x g))
+  pub middles-part : (x : ℕ → ℕ) → blockMiddles d n m from count matrices rows x χ e g
+      ≡ xorSum count (λ i. mulByte (fieldOf d) (byteAt χ (e * m + (from + i))) (middleByte n (matrixOf n A (from + i)) (rowOf n b (from + i)) x g))
   middles-part x =
       sum-same count _ _ (λ i l.
-      ap₂ (mulByte gf256) (byte-at i) (ap₂ (λ M row. middleByte n M row x g) (matrix-at i l) (block-part b (bytesFor n) from count i l)))
+      ap₂ (mulByte (fieldOf d)) (byte-at i) (ap₂ (λ M row. middleByte n M row x g) (matrix-at i l) (block-part b (bytesFor n) from count i l)))

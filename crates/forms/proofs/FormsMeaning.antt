@@ -13,15 +13,16 @@ use Rattle.algebra.specs.Coded.{Coded, mulByte, powByte}
 use Rattle.algebra.specs.Sum.{sum, power}
 use Rattle.algebra.proofs.RingLaws.{ring}
 use Rattle.algebra.proofs.SumLaws.{sum-add}
-use Rattle.field.specs.Gf256.{gf256, maskElement}
+use Rattle.field.specs.Degrees.{fieldOf, degreeOf, maskElementOf}
 use Rattle.protocol.specs.Lists.{blockAt}
 use Rattle.protocol.specs.Strings.{bytesFor, bit}
 use Rattle.protocol.specs.Alphabet.{Alphabet, sym as symbol, elemAt}
-use Rattle.protocol.specs.Binary.{binary, bits256}
+use Rattle.protocol.specs.Binary.{binary}
 use Rattle.protocol.specs.Shape.{Shape, maskAt, kOf}
 use Rattle.protocol.specs.Key.{sectionA, sectionB, aSym, bSym}
 use Rattle.protocol.specs.Forms.{α, quad, lin, middle, maskOf, χAt, batch}
 use Rattle.protocol.specs.Prover.{u, v, a₀, a₁, qs0, qs1}
+use Rattle.protocol.proofs.ListLaws.{row-end}
 use Rattle.protocol.proofs.TestLaws.{ltb-yes}
 use Rattle.protocol.proofs.StringLaws.{bit-lt}
 use Rattle.strings.specs.Sums.{byteAt, xorSum}
@@ -29,7 +30,6 @@ use Rattle.strings.proofs.SumLaws.{sum-same}
 use Rattle.strings.proofs.Meaning.{byte-sum, byte-scale}
 use Rattle.strings.proofs.ProductLaws.{product-lt, product-sum}
 use Rattle.lanes.specs.Lanes.{laneAt, maskLane, maskBits}
-use Rattle.format.proofs.FitLaws.{mask-below}
 use Rattle.equations.specs.Equations.{rowOf, matrixOf}
 use Rattle.forms.specs.Forms.{rowBit}
 use Rattle.forms.specs.Batch.{formsByte, middlesByte}
@@ -113,42 +113,50 @@ module _ (C : Coded) (s : Shape) where
       sum-same (s .m) _ _ (λ i l. ap (λ z. byte (elem (byteAt χ (e * s .m + i)) ⊗ z)) (ap elem (h i) ∙ C .elem-byte (g i)))
       ∙ sym (byte-sum C (s .m) (λ i. elem (byteAt χ (e * s .m + i)) ⊗ g i))
 
--- ---- at GF(256), which the code computes in
+-- ---- at the field of a degree, which the code computes in
 
-abbrev byteOf : bits256 .K .base .R .F → ℕ
-byteOf = bits256 .K .byte
+module _ (d : ℕ) (s : Shape) where
+  abbrev K : Coded
+  K = fieldOf d
 
-mask-element : (i : ℕ) → i < gf256 .degree → maskElement i ≡ powByte gf256 2 i
-unfolding maskElement
-mask-element i h = ap (λ b. cond b (powByte gf256 2 i) 0) (ltb-yes i (gf256 .degree) h)
+  abbrev bits : Alphabet
+  bits = binary K
 
-module _ (s : Shape) where
+  mask-element : (i : ℕ) → i < degreeOf d → maskElementOf d i ≡ powByte K 2 i
+  unfolding maskElementOf
+  mask-element i h = ap (λ b. cond b (powByte K 2 i) 0) (ltb-yes i (degreeOf d) h)
+
+  -- the mask coordinates of a repetition are among the first k
+  mask-in : (e i : ℕ) → e < s .τ → i < degreeOf d → maskAt bits s e + i < kOf bits s
+  unfolding maskAt kOf degreeOf
+  mask-in e i le h = omega (arith, row-end e (s .τ) (K .degree) le)
+
   -- the mask coordinates, of a lane or of a string
-  pub mask-is : (e : ℕ) (g : ℕ → ℕ) (f : ℕ → bits256 .K .base .R .F) → e < s .τ → ((c : ℕ) → c < kOf bits256 s → g c ≡ byteOf (f c))
-      → xorSum (gf256 .degree) (λ i. mulByte gf256 (maskElement i) (g (maskAt bits256 s e + i))) ≡ byteOf (maskOf bits256 s e f)
-  unfolding maskOf α
+  pub mask-is : (e : ℕ) (g : ℕ → ℕ) (f : ℕ → K .base .R .F) → e < s .τ → ((c : ℕ) → c < kOf bits s → g c ≡ K .byte (f c))
+      → xorSum (degreeOf d) (λ i. mulByte K (maskElementOf d i) (g (maskAt bits s e + i))) ≡ K .byte (maskOf bits s e f)
+  unfolding maskOf α degreeOf
   mask-is e g f le h =
-      sum-same (gf256 .degree) _ _
-      (λ i l. ap₂ (mulByte gf256) (mask-element i l) (h (maskAt bits256 s e + i) (omega (arith, mask-below s e le)))
-      ∙ sym (byte-product gf256 (power (gf256 .base .R) (gf256 .elem 2) i) (f (maskAt bits256 s e + i))))
-      ∙ sym (byte-sum gf256 (gf256 .degree) (λ i. gf256 .base .R .mul (power (gf256 .base .R) (gf256 .elem 2) i) (f (maskAt bits256 s e + i))))
+      sum-same (K .degree) _ _
+      (λ i l. ap₂ (mulByte K) (mask-element i l) (h (maskAt bits s e + i) (mask-in e i le l))
+      ∙ sym (byte-product K (power (K .base .R) (K .elem 2) i) (f (maskAt bits s e + i))))
+      ∙ sym (byte-sum K (K .degree) (λ i. K .base .R .mul (power (K .base .R) (K .elem 2) i) (f (maskAt bits s e + i))))
 
   -- QS0 and QS1: the mask, and what is added to it
-  module _ (leaves key χ T : List ℕ) (e : ℕ) (le : e < s .τ) (holds : (c : ℕ) → c < kOf bits256 s → laneAt T c e ≡ byteOf (v bits256 s leaves e c))
-      (g : ℕ → ℕ) (front : (c : ℕ) → c < s .n → g c ≡ byteOf (v bits256 s leaves e c)) where
-    pub qs0-is : bitXor (maskLane T (maskAt bits256 s e) e) (formsByte (s .n) (s .m) (sectionA bits256 s key) χ e g) ≡ byteOf (qs0 bits256 s leaves key χ e)
+  module _ (leaves key χ T : List ℕ) (e : ℕ) (le : e < s .τ) (holds : (c : ℕ) → c < kOf bits s → laneAt T c e ≡ K .byte (v bits s leaves e c))
+      (g : ℕ → ℕ) (front : (c : ℕ) → c < s .n → g c ≡ K .byte (v bits s leaves e c)) where
+    pub qs0-is : bitXor (maskLane d T (maskAt bits s e) e) (formsByte d (s .n) (s .m) (sectionA bits s key) χ e g) ≡ K .byte (qs0 bits s leaves key χ e)
     unfolding qs0 a₀
     qs0-is =
-        xor-comm (maskLane T (maskAt bits256 s e) e) (formsByte (s .n) (s .m) (sectionA bits256 s key) χ e g)
-        ∙ ap₂ bitXor (batch-is gf256 s χ e _ (λ i. quad bits256 s key i (v bits256 s leaves e) (v bits256 s leaves e)) (λ i. form-is gf256 s key i g (v bits256 s leaves e) front))
-        (mask-is e (λ c. laneAt T c e) (v bits256 s leaves e) le holds)
-        ∙ sym (gf256 .byte-add _ _)
+        xor-comm (maskLane d T (maskAt bits s e) e) (formsByte d (s .n) (s .m) (sectionA bits s key) χ e g)
+        ∙ ap₂ bitXor (batch-is K s χ e _ (λ i. quad bits s key i (v bits s leaves e) (v bits s leaves e)) (λ i. form-is K s key i g (v bits s leaves e) front))
+        (mask-is e (λ c. laneAt T c e) (v bits s leaves e) le holds)
+        ∙ sym (K .byte-add _ _)
 
-    pub qs1-is : (x us : List ℕ) → ((c : ℕ) → c < kOf bits256 s → bit us c ≡ byteOf (u bits256 s leaves 0 c))
-        → bitXor (maskBits us (maskAt bits256 s e)) (middlesByte (s .n) (s .m) (sectionA bits256 s key) (sectionB bits256 s key) (bit x) χ e g) ≡ byteOf (qs1 bits256 s leaves key x χ e)
+    pub qs1-is : (x us : List ℕ) → ((c : ℕ) → c < kOf bits s → bit us c ≡ K .byte (u bits s leaves 0 c))
+        → bitXor (maskBits d us (maskAt bits s e)) (middlesByte d (s .n) (s .m) (sectionA bits s key) (sectionB bits s key) (bit x) χ e g) ≡ K .byte (qs1 bits s leaves key x χ e)
     unfolding qs1 a₁
-    qs1-is x us bits =
-        xor-comm (maskBits us (maskAt bits256 s e)) (middlesByte (s .n) (s .m) (sectionA bits256 s key) (sectionB bits256 s key) (bit x) χ e g)
-        ∙ ap₂ bitXor (batch-is gf256 s χ e _ (λ i. middle bits256 s key i (v bits256 s leaves e) (symbol bits256 x)) (λ i. middle-is gf256 s key i g (v bits256 s leaves e) front x))
-        (mask-is e (bit us) (u bits256 s leaves 0) le bits)
-        ∙ sym (gf256 .byte-add _ _)
+    qs1-is x us are =
+        xor-comm (maskBits d us (maskAt bits s e)) (middlesByte d (s .n) (s .m) (sectionA bits s key) (sectionB bits s key) (bit x) χ e g)
+        ∙ ap₂ bitXor (batch-is K s χ e _ (λ i. middle bits s key i (v bits s leaves e) (symbol bits x)) (λ i. middle-is K s key i g (v bits s leaves e) front x))
+        (mask-is e (bit us) (u bits s leaves 0) le are)
+        ∙ sym (K .byte-add _ _)

@@ -72,7 +72,7 @@ fn rows_at(table: &[u8], width: usize, first: usize, count: usize) -> &[u8]
 }
 
 // A block of a key's equations: `count` of its m, from `from` on, in n variables, for tau repetitions. The polar form
-// is asked for or not.
+// is asked for or not. The degree of the field.
 pub struct Block {
     pub n: usize,
     pub m: usize,
@@ -80,6 +80,7 @@ pub struct Block {
     pub from: usize,
     pub count: usize,
     pub polar: bool,
+    pub degree: usize,
 }
 
 // What a block of equations adds: see `batch_forms`. The sections a and b are lent from the block's first equation to
@@ -95,11 +96,11 @@ fn batch_block(
     vectors: &[u8],
     k: Block,
 )
-    requires { ⌜ BlockInputs (k .n) (k .m) (k .tau) (k .from) (k .count) (now quad) (now lin) (now cells) (now a) (now b) (now xs) (now chi) (now vectors) (k .polar) ⌝ }
-    ensures { λ _. ⌜ LanesAdded (k .tau) (λ e. blockForms (k .n) (k .m) (k .from) (k .count) (now (a .entry)) (now (chi .entry)) e (coordinateOf (now (vectors .entry)) e))
+    requires { ⌜ BlockInputs (k .degree) (k .n) (k .m) (k .tau) (k .from) (k .count) (now quad) (now lin) (now cells) (now a) (now b) (now xs) (now chi) (now vectors) (k .polar) ⌝ }
+    ensures { λ _. ⌜ LanesAdded (k .tau) (λ e. blockForms (k .degree) (k .n) (k .m) (k .from) (k .count) (now (a .entry)) (now (chi .entry)) e (coordinateOf (now (vectors .entry)) e))
         (now (quad .entry)) (now (quad .exit)) ⌝ }
     ensures { λ _. ⌜ LanesAdded (k .tau)
-        (λ e. blockMiddles (k .n) (k .m) (k .from) (k .count) (now (a .entry)) (now (b .entry)) (byteAt (now (xs .entry))) (now (chi .entry)) e (coordinateOf (now (vectors .entry)) e))
+        (λ e. blockMiddles (k .degree) (k .n) (k .m) (k .from) (k .count) (now (a .entry)) (now (b .entry)) (byteAt (now (xs .entry))) (now (chi .entry)) e (coordinateOf (now (vectors .entry)) e))
         (now (lin .entry)) (now (lin .exit)) ⌝ }
 {
     let n = k.n;
@@ -108,6 +109,7 @@ fn batch_block(
     let from = k.from;
     let count = k.count;
     let polar = k.polar;
+    let degree = k.degree;
     let groups = forms_choices::fives::groups_for(count);
     let width = (n + 7) / BITS;
     let mut words = [0u64; WORDS];
@@ -121,17 +123,19 @@ fn batch_block(
         tau,
         groups,
         polar,
+        degree,
     };
     add_forms(quad, lin, &mut lines, cells, a, &words, vectors, xs, s);
 }
 
-// How many equations there are, of how many variables, for how many repetitions; and whether the polar form is asked
-// for.
+// How many equations there are, of how many variables, for how many repetitions; whether the polar form is asked for;
+// and the degree of the field.
 pub struct Forms {
     pub n: usize,
     pub m: usize,
     pub tau: usize,
     pub polar: bool,
+    pub degree: usize,
 }
 
 // The batched forms of a key, added to what stands there: fᵀ·A·f to quad, and xᵀ·A·f + (A·x)ᵀ·f + b·f to lin, where f
@@ -148,17 +152,18 @@ pub fn batch_forms(
     vectors: &[u8],
     f: Forms,
 )
-    requires { ⌜ FormsInputs (f .n) (f .m) (f .tau) (now quad) (now lin) (now cells) (now a) (now b) (now xs) (now chi) (now vectors) (f .polar) ⌝ }
-    ensures { λ _. ⌜ LanesAdded (f .tau) (λ e. formsByte (f .n) (f .m) (now (a .entry)) (now (chi .entry)) e (coordinateOf (now (vectors .entry)) e))
+    requires { ⌜ FormsInputs (f .degree) (f .n) (f .m) (f .tau) (now quad) (now lin) (now cells) (now a) (now b) (now xs) (now chi) (now vectors) (f .polar) ⌝ }
+    ensures { λ _. ⌜ LanesAdded (f .tau) (λ e. formsByte (f .degree) (f .n) (f .m) (now (a .entry)) (now (chi .entry)) e (coordinateOf (now (vectors .entry)) e))
         (now (quad .entry)) (now (quad .exit)) ⌝ }
     ensures { λ _. ⌜ LanesAdded (f .tau)
-        (λ e. middlesByte (f .n) (f .m) (now (a .entry)) (now (b .entry)) (byteAt (now (xs .entry))) (now (chi .entry)) e (coordinateOf (now (vectors .entry)) e))
+        (λ e. middlesByte (f .degree) (f .n) (f .m) (now (a .entry)) (now (b .entry)) (byteAt (now (xs .entry))) (now (chi .entry)) e (coordinateOf (now (vectors .entry)) e))
         (now (lin .entry)) (now (lin .exit)) ⌝ }
 {
     let n = f.n;
     let m = f.m;
     let tau = f.tau;
     let polar = f.polar;
+    let degree = f.degree;
     let width = (n + 7) / BITS;
     let size = n * width;
     let mut from = 0;
@@ -172,6 +177,7 @@ pub fn batch_forms(
             from,
             count,
             polar,
+            degree,
         };
         batch_block(
             quad,
@@ -201,16 +207,17 @@ pub fn batch_lanes(
     vectors: &[u8],
     d: Dimensions,
 )
-    requires { ⌜ BatchInputs (d .n) (d .m) (d .tau) (now qs0) (now qs1) (now cells) (now a) (now b) (now x) (now chi) (now vectors) ⌝ }
-    ensures { λ _. ⌜ LanesAdded (d .tau) (λ e. formsByte (d .n) (d .m) (now (a .entry)) (now (chi .entry)) e (coordinateOf (now (vectors .entry)) e))
+    requires { ⌜ BatchInputs (d .degree) (d .n) (d .m) (d .tau) (now qs0) (now qs1) (now cells) (now a) (now b) (now x) (now chi) (now vectors) ⌝ }
+    ensures { λ _. ⌜ LanesAdded (d .tau) (λ e. formsByte (d .degree) (d .n) (d .m) (now (a .entry)) (now (chi .entry)) e (coordinateOf (now (vectors .entry)) e))
         (now (qs0 .entry)) (now (qs0 .exit)) ⌝ }
     ensures { λ _. ⌜ LanesAdded (d .tau)
-        (λ e. middlesByte (d .n) (d .m) (now (a .entry)) (now (b .entry)) (bit (now (x .entry))) (now (chi .entry)) e (coordinateOf (now (vectors .entry)) e))
+        (λ e. middlesByte (d .degree) (d .n) (d .m) (now (a .entry)) (now (b .entry)) (bit (now (x .entry))) (now (chi .entry)) e (coordinateOf (now (vectors .entry)) e))
         (now (qs1 .entry)) (now (qs1 .exit)) ⌝ }
 {
     let n = d.n;
     let m = d.m;
     let tau = d.tau;
+    let degree = d.degree;
     let mut xs = [0u8; MOST_VARIABLES];
     equations::unpack(&mut xs, x, n);
     let f = Forms {
@@ -218,6 +225,7 @@ pub fn batch_lanes(
         m,
         tau,
         polar: true,
+        degree,
     };
     batch_forms(qs0, qs1, cells, a, b, &xs, chi, vectors, f);
 }

@@ -13,7 +13,6 @@ use lib.Bits.{bitXor, xor-zero-l, xor-zero-r, xor-comm, xor-lt}
 use lib.Dec.{ltb, lit<}
 use Rattle.protocol.proofs.TestLaws.{ltb-yes, ltb-no}
 use Rattle.protocol.specs.Lists.{blockAt}
-use Rattle.field.specs.Degrees.{degree}
 use Rattle.strings.specs.Sums.{xorSum}
 use Rattle.strings.proofs.SumLaws.{sum-same, sum-both, sum-none, sum-short, xor-scale, scale-xor}
 use Rattle.strings.proofs.Meaning.{bitOf-lt}
@@ -103,14 +102,14 @@ module _ (E φ : ℕ → ℕ → ℕ) (bits : (ρ c : ℕ) → E ρ c < 2) (even
 abbrev batched : ℕ → (ℕ → ℕ → ℕ → ℕ) → (ℕ → ℕ) → ℕ → ℕ → ℕ
 batched m E χ ρ c = xorSum m (λ i. folded (E i) ρ c * χ i)
 
-abbrev between : ℕ → ℕ → (ℕ → ℕ → ℕ → ℕ) → (ℕ → ℕ) → (ℕ → ℕ) → (ℕ → ℕ) → ℕ
-between N m E χ y W = xorSum N (λ J. xorSum 16 (λ s. byteProduct degree (y (J * 16 + s)) (xorSum ((J + 1) * 16) (λ ρ. byteProduct degree (W ρ) (batched m E χ ρ (J * 16 + s))))))
+abbrev between : ℕ → ℕ → ℕ → (ℕ → ℕ → ℕ → ℕ) → (ℕ → ℕ) → (ℕ → ℕ) → (ℕ → ℕ) → ℕ
+between d N m E χ y W = xorSum N (λ J. xorSum 16 (λ s. byteProduct d (y (J * 16 + s)) (xorSum ((J + 1) * 16) (λ ρ. byteProduct d (W ρ) (batched m E χ ρ (J * 16 + s))))))
 
-abbrev straight : ℕ → ℕ → (ℕ → ℕ → ℕ → ℕ) → (ℕ → ℕ) → (ℕ → ℕ) → (ℕ → ℕ) → ℕ
-straight n m E χ y W = xorSum m (λ i. byteProduct degree (χ i) (xorSum n (λ ρ. byteProduct degree (W ρ) (xorSum n (λ c. E i ρ c * y c)))))
+abbrev straight : ℕ → ℕ → ℕ → (ℕ → ℕ → ℕ → ℕ) → (ℕ → ℕ) → (ℕ → ℕ) → (ℕ → ℕ) → ℕ
+straight d n m E χ y W = xorSum m (λ i. byteProduct d (χ i) (xorSum n (λ ρ. byteProduct d (W ρ) (xorSum n (λ c. E i ρ c * y c)))))
 
-product-left : (p q r : ℕ) → byteProduct degree p (byteProduct degree q r) ≡ byteProduct degree q (byteProduct degree p r)
-product-left p q r = product-outer p q r ∙ ap (byteProduct degree r) (product-comm degree q p) ∙ sym (product-outer q p r)
+product-left : (d p q r : ℕ) → byteProduct d p (byteProduct d q r) ≡ byteProduct d q (byteProduct d p r)
+product-left d p q r = product-outer d p q r ∙ ap (byteProduct d r) (product-comm d q p) ∙ sym (product-outer d q p r)
 
 folded-lt : (E : ℕ → ℕ → ℕ) → ((ρ c : ℕ) → E ρ c < 2) → (ρ c : ℕ) → folded E ρ c < 2
 folded-lt E bits ρ c = go (ltb (ρ / 16) (c / 16))
@@ -131,39 +130,39 @@ to-front N m R F =
     (λ J l. sum-same 16 _ (λ s. xorSum m (λ i. xorSum (R J) (λ ρ. F J s ρ i))) (λ s k. sum-swap (R J) m (λ ρ i. F J s ρ i)) ∙ sum-swap 16 m (λ s i. xorSum (R J) (λ ρ. F J s ρ i)))
     ∙ sum-swap N m (λ J i. xorSum 16 (λ s. xorSum (R J) (λ ρ. F J s ρ i)))
 
-module _ (N n m : ℕ) (E : ℕ → ℕ → ℕ → ℕ) (χ : ℕ → ℕ) (bits : (i ρ c : ℕ) → E i ρ c < 2) (most : n ≤ N * 16) where
+module _ (d N n m : ℕ) (E : ℕ → ℕ → ℕ → ℕ) (χ : ℕ → ℕ) (bits : (i ρ c : ℕ) → E i ρ c < 2) (most : n ≤ N * 16) where
   weight : (ℕ → ℕ) → (ℕ → ℕ) → ℕ → ℕ → ℕ → ℕ
-  weight y W i ρ c = byteProduct degree (y c) (byteProduct degree (W ρ) (χ i))
+  weight y W i ρ c = byteProduct d (y c) (byteProduct d (W ρ) (χ i))
 
   -- every term by itself
-  between-terms : (y W : ℕ → ℕ) → between N m E χ y W ≡ xorSum m (λ i. panels N (λ ρ c. folded (E i) ρ c * weight y W i ρ c))
+  between-terms : (y W : ℕ → ℕ) → between d N m E χ y W ≡ xorSum m (λ i. panels N (λ ρ c. folded (E i) ρ c * weight y W i ρ c))
   unfolding weight
   between-terms y W =
-      sum-same N _ _ (λ J l. sum-same 16 _ (λ s. xorSum ((J + 1) * 16) (λ ρ. xorSum m (λ i. folded (E i) ρ (J * 16 + s) * byteProduct degree (y (J * 16 + s)) (byteProduct degree (W ρ) (χ i)))))
-      (λ s k. product-rows ((J + 1) * 16) W (y (J * 16 + s)) m χ (λ ρ i. folded (E i) ρ (J * 16 + s)) (λ ρ i. folded-lt (E i) (bits i) ρ (J * 16 + s))))
-      ∙ to-front N m (λ J. (J + 1) * 16) (λ J s ρ i. folded (E i) ρ (J * 16 + s) * byteProduct degree (y (J * 16 + s)) (byteProduct degree (W ρ) (χ i)))
+      sum-same N _ _ (λ J l. sum-same 16 _ (λ s. xorSum ((J + 1) * 16) (λ ρ. xorSum m (λ i. folded (E i) ρ (J * 16 + s) * byteProduct d (y (J * 16 + s)) (byteProduct d (W ρ) (χ i)))))
+      (λ s k. product-rows d ((J + 1) * 16) W (y (J * 16 + s)) m χ (λ ρ i. folded (E i) ρ (J * 16 + s)) (λ ρ i. folded-lt (E i) (bits i) ρ (J * 16 + s))))
+      ∙ to-front N m (λ J. (J + 1) * 16) (λ J s ρ i. folded (E i) ρ (J * 16 + s) * byteProduct d (y (J * 16 + s)) (byteProduct d (W ρ) (χ i)))
 
   straight-terms : (y W : ℕ → ℕ) → ((c : ℕ) → n ≤ c → c < N * 16 → y c ≡ 0) → ((ρ : ℕ) → n ≤ ρ → ρ < N * 16 → W ρ ≡ 0)
-      → xorSum m (λ i. xorSum (N * 16) (λ ρ. xorSum (N * 16) (λ c. E i ρ c * weight y W i ρ c))) ≡ straight n m E χ y W
+      → xorSum m (λ i. xorSum (N * 16) (λ ρ. xorSum (N * 16) (λ c. E i ρ c * weight y W i ρ c))) ≡ straight d n m E χ y W
   unfolding weight
   straight-terms y W gone none =
       sum-same m _ _ (λ i l.
       sum-same (N * 16) _ (λ ρ. xorSum n (λ c. E i ρ c * weight y W i ρ c)) (λ ρ k. sum-short n (N * 16) (λ c. E i ρ c * weight y W i ρ c) most (λ c j h.
-      ap (λ x. E i ρ c * x) (ap (λ x. byteProduct degree x (byteProduct degree (W ρ) (χ i))) (gone c j h) ∙ product-zero degree _) ∙ mul-zero (E i ρ c)))
+      ap (λ x. E i ρ c * x) (ap (λ x. byteProduct d x (byteProduct d (W ρ) (χ i))) (gone c j h) ∙ product-zero d _) ∙ mul-zero (E i ρ c)))
       ∙ sum-short n (N * 16) (λ ρ. xorSum n (λ c. E i ρ c * weight y W i ρ c)) most (λ ρ j h.
-      sum-same n _ (λ c. 0) (λ c k. ap (λ x. E i ρ c * x) (ap (λ x. byteProduct degree (y c) (byteProduct degree x (χ i))) (none ρ j h) ∙ ap (byteProduct degree (y c)) (product-zero degree (χ i)) ∙ product-comm degree (y c) 0 ∙ product-zero degree (y c)) ∙ mul-zero (E i ρ c)) ∙ sum-none n)
-      ∙ sum-same n _ (λ ρ. xorSum n (λ c. E i ρ c * byteProduct degree (χ i) (byteProduct degree (W ρ) (y c)))) (λ ρ k. sum-same n _ _ (λ c j. ap (λ x. E i ρ c * x) (product-outer (y c) (W ρ) (χ i))))
-      ∙ sym (product-rows n W (χ i) n y (E i) (bits i)))
+      sum-same n _ (λ c. 0) (λ c k. ap (λ x. E i ρ c * x) (ap (λ x. byteProduct d (y c) (byteProduct d x (χ i))) (none ρ j h) ∙ ap (byteProduct d (y c)) (product-zero d (χ i)) ∙ product-comm d (y c) 0 ∙ product-zero d (y c)) ∙ mul-zero (E i ρ c)) ∙ sum-none n)
+      ∙ sum-same n _ (λ ρ. xorSum n (λ c. E i ρ c * byteProduct d (χ i) (byteProduct d (W ρ) (y c)))) (λ ρ k. sum-same n _ _ (λ c j. ap (λ x. E i ρ c * x) (product-outer d (y c) (W ρ) (χ i))))
+      ∙ sym (product-rows d n W (χ i) n y (E i) (bits i)))
 
   -- a form
-  pub quad-folded : (y : ℕ → ℕ) → ((c : ℕ) → n ≤ c → c < N * 16 → y c ≡ 0) → between N m E χ y y ≡ straight n m E χ y y
+  pub quad-folded : (y : ℕ → ℕ) → ((c : ℕ) → n ≤ c → c < N * 16 → y c ≡ 0) → between d N m E χ y y ≡ straight d n m E χ y y
   unfolding weight
   quad-folded y gone =
-      between-terms y y ∙ sum-same m _ _ (λ i l. fold-sum (E i) (weight y y i) (bits i) (λ ρ c. product-left (y c) (y ρ) (χ i)) N) ∙ straight-terms y y gone gone
+      between-terms y y ∙ sum-same m _ _ (λ i l. fold-sum (E i) (weight y y i) (bits i) (λ ρ c. product-left d (y c) (y ρ) (χ i)) N) ∙ straight-terms y y gone gone
 
   -- a polar form
   pub polar-folded : (y x : ℕ → ℕ) → ((c : ℕ) → n ≤ c → c < N * 16 → y c ≡ 0) → ((c : ℕ) → n ≤ c → c < N * 16 → x c ≡ 0)
-      → bitXor (between N m E χ y x) (between N m E χ x y) ≡ bitXor (straight n m E χ y x) (straight n m E χ x y)
+      → bitXor (between d N m E χ y x) (between d N m E χ x y) ≡ bitXor (straight d n m E χ y x) (straight d n m E χ x y)
   unfolding weight
   polar-folded y x gone none =
       ap₂ bitXor (between-terms y x) (between-terms x y)
@@ -171,7 +170,7 @@ module _ (N n m : ℕ) (E : ℕ → ℕ → ℕ → ℕ) (χ : ℕ → ℕ) (bit
       ∙ sum-same m _ _ (λ i l.
       panels-both N (λ ρ c. folded (E i) ρ c * weight y x i ρ c) (λ ρ c. folded (E i) ρ c * weight x y i ρ c)
       ∙ panels-same N _ (λ ρ c. folded (E i) ρ c * bitXor (weight y x i ρ c) (weight x y i ρ c)) (λ ρ c. sym (scale-xor (folded (E i) ρ c) (weight y x i ρ c) (weight x y i ρ c) (folded-lt (E i) (bits i) ρ c)))
-      ∙ fold-sum (E i) (λ ρ c. bitXor (weight y x i ρ c) (weight x y i ρ c)) (bits i) (λ ρ c. ap₂ bitXor (product-left (y c) (x ρ) (χ i)) (product-left (x c) (y ρ) (χ i)) ∙ xor-comm (weight x y i c ρ) (weight y x i c ρ)) N
+      ∙ fold-sum (E i) (λ ρ c. bitXor (weight y x i ρ c) (weight x y i ρ c)) (bits i) (λ ρ c. ap₂ bitXor (product-left d (y c) (x ρ) (χ i)) (product-left d (x c) (y ρ) (χ i)) ∙ xor-comm (weight x y i c ρ) (weight y x i c ρ)) N
       ∙ sum-same (N * 16) _ (λ ρ. bitXor (xorSum (N * 16) (λ c. E i ρ c * weight y x i ρ c)) (xorSum (N * 16) (λ c. E i ρ c * weight x y i ρ c)))
       (λ ρ k. sum-same (N * 16) _ _ (λ c j. scale-xor (E i ρ c) (weight y x i ρ c) (weight x y i ρ c) (bits i ρ c)) ∙ sum-both (N * 16) (λ c. E i ρ c * weight y x i ρ c) (λ c. E i ρ c * weight x y i ρ c))
       ∙ sum-both (N * 16) (λ ρ. xorSum (N * 16) (λ c. E i ρ c * weight y x i ρ c)) (λ ρ. xorSum (N * 16) (λ c. E i ρ c * weight x y i ρ c)))
@@ -180,13 +179,13 @@ module _ (N n m : ℕ) (E : ℕ → ℕ → ℕ → ℕ) (χ : ℕ → ℕ) (bit
 
 -- ---- as the code has them
 
-module _ (N n w m : ℕ) (A : List ℕ) (χ : ℕ → ℕ → ℕ) (e : ℕ) (most : n ≤ N * 16) (y : ℕ → ℕ) (gone : (c : ℕ) → n ≤ c → c < N * 16 → y c ≡ 0) where
-  pub form-is : xorSum N (λ J. xorSum 16 (λ s. byteProduct degree (y (J * 16 + s)) (leftSum w (n * w) m A χ e y J (J * 16 + s)))) ≡ formSum n w m A χ e y y
+module _ (d N n w m : ℕ) (A : List ℕ) (χ : ℕ → ℕ → ℕ) (e : ℕ) (most : n ≤ N * 16) (y : ℕ → ℕ) (gone : (c : ℕ) → n ≤ c → c < N * 16 → y c ≡ 0) where
+  pub form-is : xorSum N (λ J. xorSum 16 (λ s. byteProduct d (y (J * 16 + s)) (leftSum d w (n * w) m A χ e y J (J * 16 + s)))) ≡ formSum d n w m A χ e y y
   unfolding batchedByte foldedBit formSum
-  form-is = quad-folded N n m (λ i. entry w (blockAt A (n * w) i)) (χ e) (λ i ρ c. bitOf-lt _ (c % 8)) most y gone
+  form-is = quad-folded d N n m (λ i. entry w (blockAt A (n * w) i)) (χ e) (λ i ρ c. bitOf-lt _ (c % 8)) most y gone
 
   pub polar-is : (x : ℕ → ℕ) → ((c : ℕ) → n ≤ c → c < N * 16 → x c ≡ 0)
-      → bitXor (xorSum N (λ J. xorSum 16 (λ s. byteProduct degree (y (J * 16 + s)) (leftSum w (n * w) m A χ e x J (J * 16 + s))))) (xorSum N (λ J. xorSum 16 (λ s. byteProduct degree (x (J * 16 + s)) (leftSum w (n * w) m A χ e y J (J * 16 + s)))))
-      ≡ bitXor (formSum n w m A χ e y x) (formSum n w m A χ e x y)
+      → bitXor (xorSum N (λ J. xorSum 16 (λ s. byteProduct d (y (J * 16 + s)) (leftSum d w (n * w) m A χ e x J (J * 16 + s))))) (xorSum N (λ J. xorSum 16 (λ s. byteProduct d (x (J * 16 + s)) (leftSum d w (n * w) m A χ e y J (J * 16 + s)))))
+      ≡ bitXor (formSum d n w m A χ e y x) (formSum d n w m A χ e x y)
   unfolding batchedByte foldedBit formSum
-  polar-is x none = polar-folded N n m (λ i. entry w (blockAt A (n * w) i)) (χ e) (λ i ρ c. bitOf-lt _ (c % 8)) most y x gone none
+  polar-is x none = polar-folded d N n m (λ i. entry w (blockAt A (n * w) i)) (χ e) (λ i ρ c. bitOf-lt _ (c % 8)) most y x gone none

@@ -1,7 +1,7 @@
 -- Laws of products of two and of three factors; a bit as an element; and a sum over rows of products, each under a bit.
 -- Assumes nothing.
-use mathlib.Core.Path.{_≡_, sym, ap, _∙_}
-use Prim.Native.Nat.{ℕ, zero, suc, _*_, _<_}
+use mathlib.Core.Path.{_≡_, sym, ap, subst, _∙_}
+use Prim.Native.Nat.{ℕ, zero, suc, _*_, _^_, _<_}
 use native.Mathlib.Nat.{zero-mul, one-mul}
 use native.Mathlib.Omega.{arith}
 use lib.Bits.{bitXor}
@@ -9,11 +9,11 @@ use Rattle.algebra.specs.Ring.{Ring}
 use Rattle.algebra.specs.Field.{Field}
 use Rattle.algebra.specs.Coded.{Coded, mulByte}
 use Rattle.algebra.proofs.RingLaws.{ring}
-use Rattle.field.specs.Degrees.{fieldOf, degree}
+use Rattle.field.specs.Degrees.{fieldOf, degreeOf}
 use Rattle.strings.specs.Sums.{xorSum}
 use Rattle.strings.proofs.SumLaws.{sum-same}
 use Rattle.forms_columns.specs.Stacks.{byteProduct}
-use Rattle.forms_columns.proofs.ProductLaws.{product-sum, product-bits, product-comm, product-bit}
+use Rattle.forms_columns.proofs.ProductLaws.{product-sum, product-bits, product-comm, product-zero}
 
 module _ (C : Coded) where
   open Coded C using (base, elem, byte)
@@ -32,6 +32,10 @@ module _ (C : Coded) where
   coded-one : (a : ℕ) → a < base .size → mulByte C 1 a ≡ a
   coded-one a h = ap byte (ap (λ x. x ⊗ elem a) (C .elem-one) ∙ R .mul-comm 𝟙 (elem a) ∙ R .mul-one (elem a)) ∙ C .byte-elem a h
 
+  coded-unit : (v a : ℕ) → mulByte C v (mulByte C 1 a) ≡ mulByte C v a
+  coded-unit v a =
+      ap (λ x. byte (elem v ⊗ x)) (C .elem-byte (elem 1 ⊗ elem a) ∙ ap (λ x. x ⊗ elem a) (C .elem-one) ∙ R .mul-comm 𝟙 (elem a) ∙ R .mul-one (elem a))
+
   coded-xor : (a u v : ℕ) → mulByte C a (bitXor u v) ≡ bitXor (mulByte C a u) (mulByte C a v)
   coded-xor a u v =
       ap (λ x. byte (elem a ⊗ x)) (C .elem-xor u v) ∙ ap byte (R .mul-add (elem a) (elem u) (elem v)) ∙ C .byte-add (elem a ⊗ elem u) (elem a ⊗ elem v)
@@ -39,32 +43,42 @@ module _ (C : Coded) where
   coded-lt : (a b : ℕ) → mulByte C a b < base .size
   coded-lt a b = C .byte-lt (elem a ⊗ elem b)
 
-pub product-outer : (a b c : ℕ) → byteProduct degree a (byteProduct degree b c) ≡ byteProduct degree c (byteProduct degree b a)
-unfolding byteProduct fieldOf
-product-outer a b c = coded-outer (fieldOf degree) a b c
+pub product-outer : (d a b c : ℕ) → byteProduct d a (byteProduct d b c) ≡ byteProduct d c (byteProduct d b a)
+unfolding byteProduct
+product-outer d a b c = coded-outer (fieldOf d) a b c
 
-pub product-xor : (a u v : ℕ) → byteProduct degree a (bitXor u v) ≡ bitXor (byteProduct degree a u) (byteProduct degree a v)
-unfolding byteProduct fieldOf
-product-xor a u v = coded-xor (fieldOf degree) a u v
+pub product-xor : (d a u v : ℕ) → byteProduct d a (bitXor u v) ≡ bitXor (byteProduct d a u) (byteProduct d a v)
+unfolding byteProduct
+product-xor d a u v = coded-xor (fieldOf d) a u v
 
-pub product-one : (a : ℕ) → a < 256 → byteProduct degree 1 a ≡ a
-unfolding byteProduct fieldOf
-product-one a h = coded-one (fieldOf degree) a h
+pub product-one : (d a : ℕ) → a < 2 ^ degreeOf d → byteProduct d 1 a ≡ a
+unfolding byteProduct degreeOf
+product-one d a h = coded-one (fieldOf d) a (subst (λ s. a < s) (sym (fieldOf d .size-is)) h)
 
-pub product-lt : (a b : ℕ) → byteProduct degree a b < 256
-unfolding byteProduct fieldOf
-product-lt a b = coded-lt (fieldOf degree) a b
+pub product-lt : (d a b : ℕ) → byteProduct d a b < 2 ^ degreeOf d
+unfolding byteProduct degreeOf
+product-lt d a b = subst (λ s. byteProduct d a b < s) (fieldOf d .size-is) (coded-lt (fieldOf d) a b)
+
+product-unit : (d v a : ℕ) → byteProduct d v (byteProduct d 1 a) ≡ byteProduct d v a
+unfolding byteProduct
+product-unit d v a = coded-unit (fieldOf d) v a
 
 -- a bit, as an element
-pub product-scale : (q a : ℕ) → q < 2 → a < 256 → byteProduct degree q a ≡ q * a
-product-scale zero a h k = product-comm degree 0 a ∙ ap (byteProduct degree a) (sym (zero-mul 0)) ∙ product-bit degree a 0 0 h ∙ zero-mul (byteProduct degree a 0) ∙ sym (zero-mul a)
-product-scale (suc zero) a h k = product-one a k ∙ sym (one-mul a)
-product-scale (suc (suc q)) a h k = absurd (omega arith)
+pub product-scale : (d q a : ℕ) → q < 2 → a < 2 ^ degreeOf d → byteProduct d q a ≡ q * a
+product-scale d zero a h k = product-zero d a ∙ sym (zero-mul a)
+product-scale d (suc zero) a h k = product-one d a k ∙ sym (one-mul a)
+product-scale d (suc (suc q)) a h k = absurd (omega arith)
+
+-- the same under another factor, whatever is scaled
+pub product-inner : (d v q a : ℕ) → q < 2 → byteProduct d v (byteProduct d q a) ≡ q * byteProduct d v a
+product-inner d v zero a h = ap (byteProduct d v) (product-zero d a) ∙ product-comm d v 0 ∙ product-zero d v ∙ sym (zero-mul (byteProduct d v a))
+product-inner d v (suc zero) a h = product-unit d v a ∙ sym (one-mul (byteProduct d v a))
+product-inner d v (suc (suc q)) a h = absurd (omega arith)
 
 -- a bit at each place, and the factors of its row and of the two other indices
-pub product-rows : (n : ℕ) (W : ℕ → ℕ) (x k : ℕ) (f : ℕ → ℕ) (q : ℕ → ℕ → ℕ) → ((ρ j : ℕ) → q ρ j < 2)
-    → byteProduct degree x (xorSum n (λ ρ. byteProduct degree (W ρ) (xorSum k (λ j. q ρ j * f j)))) ≡ xorSum n (λ ρ. xorSum k (λ j. q ρ j * byteProduct degree x (byteProduct degree (W ρ) (f j))))
-product-rows n W x k f q h =
-    product-sum degree x n (λ ρ. byteProduct degree (W ρ) (xorSum k (λ j. q ρ j * f j)))
+pub product-rows : (d n : ℕ) (W : ℕ → ℕ) (x k : ℕ) (f : ℕ → ℕ) (q : ℕ → ℕ → ℕ) → ((ρ j : ℕ) → q ρ j < 2)
+    → byteProduct d x (xorSum n (λ ρ. byteProduct d (W ρ) (xorSum k (λ j. q ρ j * f j)))) ≡ xorSum n (λ ρ. xorSum k (λ j. q ρ j * byteProduct d x (byteProduct d (W ρ) (f j))))
+product-rows d n W x k f q h =
+    product-sum d x n (λ ρ. byteProduct d (W ρ) (xorSum k (λ j. q ρ j * f j)))
     ∙ sum-same n _ _ (λ ρ l.
-    ap (byteProduct degree x) (sym (product-bits degree (W ρ) k (q ρ) f (h ρ))) ∙ sym (product-bits degree x k (q ρ) (λ j. byteProduct degree (W ρ) (f j)) (h ρ)))
+    ap (byteProduct d x) (sym (product-bits d (W ρ) k (q ρ) f (h ρ))) ∙ sym (product-bits d x k (q ρ) (λ j. byteProduct d (W ρ) (f j)) (h ρ)))

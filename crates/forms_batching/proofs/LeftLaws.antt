@@ -8,25 +8,21 @@ use native.Mathlib.Decide.{decLt}
 use native.Mathlib.Omega.{arith}
 use lib.Arith.{digits-div}
 use lib.Bits.{bitXor, xor-comm, xor-zero-r}
-use lib.Dec.{lit<}
 use Rattle.protocol.specs.Lists.{blockAt}
-use Rattle.field.specs.Degrees.{degree}
 use Rattle.strings.specs.Sums.{byteAt, bitOf, xorSum}
 use Rattle.strings.proofs.XorLaws.{xor-assoc}
-use Rattle.strings.proofs.SumLaws.{sum-same, sum-none, sum-short, sum-both, sum-parts, sum-lt, xor-scale}
+use Rattle.strings.proofs.SumLaws.{sum-same, sum-none, sum-short, sum-both, sum-parts, xor-scale}
 use Rattle.strings.proofs.ProductLaws.{bit-times-lt}
 use Rattle.strings.proofs.Meaning.{bitOf-lt}
 use Rattle.chunks.specs.Chunks.{chunk, cellAt}
 use Rattle.chunks.proofs.BitSumLaws.{sum-swap, sum-blocks, bits-lt, times-sum, bit-sum}
-use Rattle.forms_choices.specs.Entries.{IsBytes}
 use Rattle.forms_folds.specs.Folds.{foldedBit}
 use Rattle.forms_columns.specs.Stacks.{byteProduct}
-use Rattle.forms_columns.proofs.ProductLaws.{product-zero}
+use Rattle.forms_columns.proofs.ProductLaws.{product-sum, product-bits, product-zero}
 use Rattle.forms_batching.specs.Batched.{batchedByte, leftSum}
 use Rattle.forms_batching.specs.Lines.{lineByte, lineBit, leftBit, lineSum, leftPart, leftOf, LinesBeside}
-use Rattle.forms_batching.proofs.FormLaws.{product-scale, product-xor}
+use Rattle.forms_batching.proofs.FormLaws.{product-xor, product-inner}
 use Rattle.forms_batching.proofs.FoldLaws.{folded-bit-lt}
-use Rattle.forms_batching.proofs.StackLaws.{scaled-lt}
 
 -- ---- the lines, part by part
 
@@ -130,45 +126,48 @@ module _ (w size : ℕ) (A : List ℕ) (x : ℕ → ℕ) (bits : (c : ℕ) → x
   unfolding leftOf
   left-lt i c = bits-lt ((c / 16 + 1) * 16) _ (λ ρ. term-lt i ρ c)
 
-module _ (w size m : ℕ) (A : List ℕ) (χ : ℕ → ℕ → ℕ) (e : ℕ) (small : IsBytes χ) (x : ℕ → ℕ) (bits : (c : ℕ) → x c < 2) where
-  batched-lt : (ρ c : ℕ) → batchedByte w size m A χ e ρ c < 256
-  unfolding batchedByte
-  batched-lt ρ c = sum-lt 8 m _ (lit< tt) (λ i l. scaled-lt (foldedBit w (blockAt A size i) ρ c) (χ e i) (folded-bit-lt w (blockAt A size i) ρ c) (small e i))
-
-  left-sum : (c : ℕ) → xorSum m (λ i. leftOf w size A x i c * χ e i) ≡ leftSum w size m A χ e x (c / 16) c
+module _ (d w size m : ℕ) (A : List ℕ) (χ : ℕ → ℕ → ℕ) (e : ℕ) (x : ℕ → ℕ) (bits : (c : ℕ) → x c < 2) where
+  -- what is added to the lines, batched, times an element
+  left-sum : (v c : ℕ) → byteProduct d v (xorSum m (λ i. leftOf w size A x i c * χ e i)) ≡ byteProduct d v (leftSum d w size m A χ e x (c / 16) c)
   unfolding leftOf batchedByte
-  left-sum c =
-      sum-same m _ (λ i. xorSum ((c / 16 + 1) * 16) (λ ρ. x ρ * foldedBit w (blockAt A size i) ρ c * χ e i))
+  left-sum v c =
+      ap (byteProduct d v)
+      (sum-same m _ (λ i. xorSum ((c / 16 + 1) * 16) (λ ρ. x ρ * foldedBit w (blockAt A size i) ρ c * χ e i))
       (λ i l. times-sum ((c / 16 + 1) * 16) (λ ρ. x ρ * foldedBit w (blockAt A size i) ρ c) (χ e i) (λ ρ. term-lt w size A x bits i ρ c))
       ∙ sum-swap m ((c / 16 + 1) * 16) (λ i ρ. x ρ * foldedBit w (blockAt A size i) ρ c * χ e i)
-      ∙ sum-same ((c / 16 + 1) * 16) _ _ (λ ρ l.
+      ∙ sum-same ((c / 16 + 1) * 16) _ (λ ρ. x ρ * batchedByte w size m A χ e ρ c) (λ ρ l.
       sum-same m _ _ (λ i k. mul-assoc (x ρ) (foldedBit w (blockAt A size i) ρ c) (χ e i))
-      ∙ sym (bit-sum (x ρ) m (λ i. foldedBit w (blockAt A size i) ρ c * χ e i) (bits ρ))
-      ∙ sym (product-scale (x ρ) (batchedByte w size m A χ e ρ c) (bits ρ) (batched-lt ρ c)))
+      ∙ sym (bit-sum (x ρ) m (λ i. foldedBit w (blockAt A size i) ρ c * χ e i) (bits ρ))))
+      ∙ sym (product-bits d v ((c / 16 + 1) * 16) x (λ ρ. batchedByte w size m A χ e ρ c) bits)
+      ∙ sum-same ((c / 16 + 1) * 16) _ _ (λ ρ l. sym (product-inner d v (x ρ) (batchedByte w size m A χ e ρ c) (bits ρ)))
+      ∙ sym (product-sum d v ((c / 16 + 1) * 16) (λ ρ. byteProduct d (x ρ) (batchedByte w size m A χ e ρ c)))
 
-  line-added : (L₀ L : List ℕ) (c : ℕ) → ((i : ℕ) → i < m → Added w size m A x L₀ L i c) → lineSum L m χ e c ≡ bitXor (lineSum L₀ m χ e c) (leftSum w size m A χ e x (c / 16) c)
+  line-added : (L₀ L : List ℕ) (v c : ℕ) → ((i : ℕ) → i < m → Added w size m A x L₀ L i c)
+      → byteProduct d v (lineSum L m χ e c) ≡ bitXor (byteProduct d v (lineSum L₀ m χ e c)) (byteProduct d v (leftSum d w size m A χ e x (c / 16) c))
   unfolding lineSum
-  line-added L₀ L c are =
-      sum-same m _ (λ i. bitXor (lineBit L₀ m i c * χ e i) (leftOf w size A x i c * χ e i))
+  line-added L₀ L v c are =
+      ap (byteProduct d v)
+      (sum-same m _ (λ i. bitXor (lineBit L₀ m i c * χ e i) (leftOf w size A x i c * χ e i))
       (λ i l. ap (λ b. b * χ e i) (are i l) ∙ xor-scale (lineBit L₀ m i c) (leftOf w size A x i c) (χ e i) (bitOf-lt _ (c % 8)) (left-lt w size A x bits i c))
-      ∙ sum-both m (λ i. lineBit L₀ m i c * χ e i) (λ i. leftOf w size A x i c * χ e i)
-      ∙ ap (bitXor (lineSum L₀ m χ e c)) (left-sum c)
+      ∙ sum-both m (λ i. lineBit L₀ m i c * χ e i) (λ i. leftOf w size A x i c * χ e i))
+      ∙ product-xor d v (lineSum L₀ m χ e c) (xorSum m (λ i. leftOf w size A x i c * χ e i))
+      ∙ ap (bitXor (byteProduct d v (lineSum L₀ m χ e c))) (left-sum v c)
 
   module _ (N n : ℕ) (enough : n ≤ N * 16) (y : ℕ → ℕ) (gone : (c : ℕ) → n ≤ c → c < N * 16 → y c ≡ 0) where
-    by-panels : xorSum n (λ c. byteProduct degree (y c) (leftSum w size m A χ e x (c / 16) c)) ≡ xorSum N (λ J. xorSum 16 (λ s. byteProduct degree (y (J * 16 + s)) (leftSum w size m A χ e x J (J * 16 + s))))
+    by-panels : xorSum n (λ c. byteProduct d (y c) (leftSum d w size m A χ e x (c / 16) c)) ≡ xorSum N (λ J. xorSum 16 (λ s. byteProduct d (y (J * 16 + s)) (leftSum d w size m A χ e x J (J * 16 + s))))
     by-panels =
-        sym (sum-short n (N * 16) (λ c. byteProduct degree (y c) (leftSum w size m A χ e x (c / 16) c)) enough (λ c h l. ap (λ v. byteProduct degree v (leftSum w size m A χ e x (c / 16) c)) (gone c h l) ∙ product-zero degree _))
-        ∙ sym (sum-blocks N 16 (λ c. byteProduct degree (y c) (leftSum w size m A χ e x (c / 16) c)))
-        ∙ sum-same N _ _ (λ J l. sum-same 16 _ _ (λ s k. ap (λ j. byteProduct degree (y (J * 16 + s)) (leftSum w size m A χ e x j (J * 16 + s))) (digits-div J k)))
+        sym (sum-short n (N * 16) (λ c. byteProduct d (y c) (leftSum d w size m A χ e x (c / 16) c)) enough (λ c h l. ap (λ v. byteProduct d v (leftSum d w size m A χ e x (c / 16) c)) (gone c h l) ∙ product-zero d _))
+        ∙ sym (sum-blocks N 16 (λ c. byteProduct d (y c) (leftSum d w size m A χ e x (c / 16) c)))
+        ∙ sum-same N _ _ (λ J l. sum-same 16 _ _ (λ s k. ap (λ j. byteProduct d (y (J * 16 + s)) (leftSum d w size m A χ e x j (J * 16 + s))) (digits-div J k)))
 
     pub lines-added : (L₀ L : List ℕ) → ((i c : ℕ) → i < m → c < n → Added w size m A x L₀ L i c)
-        → xorSum n (λ c. byteProduct degree (y c) (lineSum L m χ e c))
-        ≡ bitXor (xorSum n (λ c. byteProduct degree (y c) (lineSum L₀ m χ e c))) (xorSum N (λ J. xorSum 16 (λ s. byteProduct degree (y (J * 16 + s)) (leftSum w size m A χ e x J (J * 16 + s)))))
+        → xorSum n (λ c. byteProduct d (y c) (lineSum L m χ e c))
+        ≡ bitXor (xorSum n (λ c. byteProduct d (y c) (lineSum L₀ m χ e c))) (xorSum N (λ J. xorSum 16 (λ s. byteProduct d (y (J * 16 + s)) (leftSum d w size m A χ e x J (J * 16 + s)))))
     lines-added L₀ L are =
-        sum-same n _ (λ c. bitXor (byteProduct degree (y c) (lineSum L₀ m χ e c)) (byteProduct degree (y c) (leftSum w size m A χ e x (c / 16) c)))
-        (λ c l. ap (byteProduct degree (y c)) (line-added L₀ L c (λ i k. are i c k l)) ∙ product-xor (y c) (lineSum L₀ m χ e c) (leftSum w size m A χ e x (c / 16) c))
-        ∙ sum-both n (λ c. byteProduct degree (y c) (lineSum L₀ m χ e c)) (λ c. byteProduct degree (y c) (leftSum w size m A χ e x (c / 16) c))
-        ∙ ap (bitXor (xorSum n (λ c. byteProduct degree (y c) (lineSum L₀ m χ e c)))) by-panels
+        sum-same n _ (λ c. bitXor (byteProduct d (y c) (lineSum L₀ m χ e c)) (byteProduct d (y c) (leftSum d w size m A χ e x (c / 16) c)))
+        (λ c l. line-added L₀ L (y c) c (λ i k. are i c k l))
+        ∙ sum-both n (λ c. byteProduct d (y c) (lineSum L₀ m χ e c)) (λ c. byteProduct d (y c) (leftSum d w size m A χ e x (c / 16) c))
+        ∙ ap (bitXor (xorSum n (λ c. byteProduct d (y c) (lineSum L₀ m χ e c)))) by-panels
 
 -- the columns q, and then the lines b with what was added, p
 pub both-halves : (v b p q : ℕ) → bitXor (bitXor v q) (bitXor b p) ≡ bitXor (bitXor v (bitXor p q)) b

@@ -147,12 +147,13 @@ alpha-lt p = fieldOf degree .byte-lt _
 -- all planes of a batched bit
 planes-sum : (S : List ℕ) (χ : ℕ → ℕ) (m f z : ℕ) → ((i : ℕ) → i < m → χ i < 256)
     → xorSum 8 (λ p. bitOf (xorSum m (λ i. bitOf (χ i) p * cellAt S i f)) z * alpha degree p) ≡ xorSum m (λ i. bitOf (cellAt S i f) z * χ i)
+unfolding degreeOf fieldOf
 planes-sum S χ m f z small =
     sum-same 8 _ (λ p. xorSum m (λ i. bitOf (χ i) p * bitOf (cellAt S i f) z) * byteProduct degree (alpha degree p) 1)
     (λ p l. ap₂ _*_ (bitOf-sum m (λ i. bitOf (χ i) p * cellAt S i f) z ∙ sum-same m _ _ (λ i k. bit-times (bitOf (χ i) p) (cellAt S i f) z (bitOf-lt (χ i) p)))
-    (sym (product-comm degree (alpha degree p) 1 ∙ product-one (alpha degree p) (alpha-lt p))))
-    ∙ planes-added m 1 χ (λ i. bitOf (cellAt S i f) z) small (λ i. bitOf-lt (cellAt S i f) z)
-    ∙ product-one _ (sum-lt 8 m _ (omega arith) (λ i l. scaled-lt (bitOf (cellAt S i f) z) (χ i) (bitOf-lt (cellAt S i f) z) (small i l)))
+    (sym (product-comm degree (alpha degree p) 1 ∙ product-one degree (alpha degree p) (alpha-lt p))))
+    ∙ planes-added degree m 1 χ (λ i. bitOf (cellAt S i f) z) (λ i. bitOf-lt (cellAt S i f) z)
+    ∙ product-one degree _ (sum-lt 8 m _ (omega arith) (λ i l. scaled-lt 256 (bitOf (cellAt S i f) z) (χ i) (bitOf-lt (cellAt S i f) z) (small i l)))
 
 -- an element whose bits are those of the planes at its coordinate
 pub element-is : (S : List ℕ) (χ : ℕ → ℕ) (m : ℕ) (sums W : List ℕ) (G r : ℕ) (planes : List ℕ) (v c : ℕ) → Weighed S χ m sums W G r → v < 256 → c < chunkBits

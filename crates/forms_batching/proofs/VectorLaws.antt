@@ -2,19 +2,21 @@
 -- Assumes nothing.
 use mathlib.Core.Path.{_≡_, sym, ap, _∙_}
 use mathlib.Core.List.{List}
-use Prim.Native.Nat.{ℕ, _+_, _*_, _-_, _/_, _%_, _≤_, _<_}
+use Prim.Native.Nat.{ℕ, _+_, _*_, _-_, _/_, _%_, _^_, _≤_, _<_}
 use native.Mathlib.Decide.{decLt}
 use native.Mathlib.Omega.{arith}
 use lib.ListN.{length}
+use lib.Pow.{pow-pos}
 use borrow.Rule.Slice.PartMut.{putMid}
 use Rattle.protocol.specs.Shape.{mostVariables}
+use Rattle.field.specs.Degrees.{degreeOf}
 use Rattle.strings.specs.Sums.{byteAt}
 use Rattle.strings.proofs.Rows.{put-before, put-in, put-after}
 use Rattle.lanes.specs.Lanes.{lanes, laneAt}
 use Rattle.forms_choices.specs.Entries.{upTo}
 use Rattle.forms_choices.proofs.ChoiceLaws.{up-to-first, up-to-past}
 use Rattle.forms_columns.specs.Stacks.{coordinateOf, BlockTurned, BesideBlock}
-use Rattle.forms_batching.specs.Batched.{VectorsAre, SixteenTurned, BesideSixteen}
+use Rattle.forms_batching.specs.Batched.{VectorsNarrow, VectorsAre, SixteenTurned, BesideSixteen}
 use Rattle.forms_batching.specs.Lines.{VectorsEnd}
 
 -- the sixteens of coordinates of a vector
@@ -89,3 +91,10 @@ vectors-are n τ count T l l′ few turned rest kept e c he hc = go (decLt c (co
 
 pub vectors-end : (n τ : ℕ) (T vs : List ℕ) → VectorsAre n τ T vs → VectorsEnd n τ vs
 vectors-end n τ T vs are e c he past hc = are e c he hc ∙ up-to-past n (λ k. laneAt T k e) c past
+
+pub vectors-narrow : (d n τ : ℕ) (T vs : List ℕ) → n ≤ mostVariables → ((e c : ℕ) → e < τ → c < n → laneAt T c e < 2 ^ degreeOf d) → VectorsAre n τ T vs → VectorsNarrow d τ vs
+vectors-narrow d n τ T vs most small are e c he hc = go (decLt c n)
+  where
+    go : Dec (c < n) → coordinateOf vs e c < 2 ^ degreeOf d
+    go (yes lt) = rw (are e c he hc ∙ up-to-first n (λ k. laneAt T k e) c lt) (small e c he lt)
+    go (no ge) = rw (are e c he hc ∙ up-to-past n (λ k. laneAt T k e) c (omega arith)) (pow-pos (degreeOf d))

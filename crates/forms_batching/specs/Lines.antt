@@ -20,18 +20,20 @@
 --     columns of panel J
 --   LinesBeside m J old new == the lines are as they were at the other columns
 --   weighedLine S χ m c == Σ_i χ(i)·(bit c of chunk i of the table S)
---   lineProduct vs e from count f == Σ_c f(c)·(coordinate from + c of vector e of vs), over so many coordinates
+--   dotOf C f t count == the sum of the products of so many coordinates of f and of t, in the field C
+--   lineProduct d vs e from count f == Σ_c f(c)·(coordinate from + c of vector e of vs), over so many coordinates, in
+--     the field of degree d
 --   VectorsEnd n τ vs == the vectors of τ repetitions have no coordinates from n on
---   lineForm n L m χ e y == Σ_c y(c)·lineSum L m χ e c, over n coordinates
+--   lineForm d n L m χ e y == Σ_c y(c)·lineSum L m χ e c, over n coordinates, in that field
 -- Assumes nothing.
 use mathlib.Core.Path.{_≡_}
 use mathlib.Core.List.{List}
 use Prim.Native.Nat.{ℕ, _+_, _*_, _-_, _/_, _%_, _≤_, _<_}
 use lib.Bits.{bitAnd, bitXor}
 use lib.ListN.{length}
+use Rattle.algebra.specs.Coded.{Coded, mulByte}
 use Rattle.protocol.specs.Lists.{blockAt}
 use Rattle.protocol.specs.Shape.{mostVariables}
-use Rattle.field.specs.Degrees.{degree}
 use Rattle.strings.specs.Sums.{byteAt, bitOf, xorSum, maskByte}
 use Rattle.chunks.specs.Chunks.{chunk, cellAt}
 use Rattle.forms_folds.specs.Folds.{foldedBit}
@@ -84,11 +86,14 @@ LinesBeside m J old new = (i k : ℕ) → i < m → (k / 2 ≡ J → ⊥) → li
 abbrev pub weighedLine : List ℕ → (ℕ → ℕ) → ℕ → ℕ → ℕ
 weighedLine S χ m c = xorSum m (λ i. bitOf (cellAt S i (c / 8)) (c % 8) * χ i)
 
-abbrev pub lineProduct : List ℕ → ℕ → ℕ → ℕ → (ℕ → ℕ) → ℕ
-lineProduct vs e from count f = xorSum count (λ c. byteProduct degree (byteAt vs (e * mostVariables + (from + c))) (f c))
+abbrev pub dotOf : Coded → List ℕ → List ℕ → ℕ → ℕ
+dotOf C f t count = xorSum count (λ c. mulByte C (byteAt f c) (byteAt t c))
+
+abbrev pub lineProduct : ℕ → List ℕ → ℕ → ℕ → ℕ → (ℕ → ℕ) → ℕ
+lineProduct d vs e from count f = xorSum count (λ c. byteProduct d (byteAt vs (e * mostVariables + (from + c))) (f c))
 
 abbrev pub VectorsEnd : ℕ → ℕ → List ℕ → Type 0
 VectorsEnd n τ vs = (e c : ℕ) → e < τ → n ≤ c → c < mostVariables → coordinateOf vs e c ≡ 0
 
-abbrev pub lineForm : ℕ → List ℕ → ℕ → (ℕ → ℕ → ℕ) → ℕ → (ℕ → ℕ) → ℕ
-lineForm n L m χ e y = xorSum n (λ c. byteProduct degree (y c) (lineSum L m χ e c))
+abbrev pub lineForm : ℕ → ℕ → List ℕ → ℕ → (ℕ → ℕ → ℕ) → ℕ → (ℕ → ℕ) → ℕ
+lineForm d n L m χ e y = xorSum n (λ c. byteProduct d (y c) (lineSum L m χ e c))

@@ -9,21 +9,24 @@ ghost use Prim.Native.Nat.{ℕ, _+_, _*_, _/_, _%_, _<_, _≤_};
 ghost use lib.ListN.{length};
 ghost use lib.Bits.{bitXor, bitAnd};
 ghost use Rattle.protocol.specs.Shape.{mostVariables};
-ghost use Rattle.field.specs.Degrees.{degree};
+ghost use Rattle.field.specs.Gf16.{gf16};
+ghost use Rattle.field.specs.Gf256.{gf256};
+ghost use Rattle.field.specs.Degrees.{fieldOf};
 ghost use Rattle.strings.specs.Sums.{byteAt, bitOf, xorSum, byteValues};
 ghost use Rattle.strings.specs.Rows.{RowsKept};
 ghost use Rattle.lanes.specs.Lanes.{lanes};
 ghost use Rattle.chunks.specs.Chunks.{mostBlock, chunk, cellAt};
 ghost use Rattle.forms_choices.specs.Entries.{mostSums, lookedUp, InWords, IsBytes, ChosenAll, WordsFit, GroupsFor, Weighed};
-ghost use Rattle.forms_columns.specs.Stacks.{byteProduct, coordinateOf};
+ghost use Rattle.forms_columns.specs.Stacks.{coordinateOf};
 ghost use Rattle.forms_batching.specs.Batched.{WeighedAll, VectorsFit, SumsRoom};
-ghost use Rattle.forms_batching.specs.Lines.{chunkBits, LinesFit, lineByte, PartCells, leftByte, LeftAdded, LinesBeside, weighedLine, lineProduct, VectorsEnd, lineForm};
+ghost use Rattle.forms_batching.specs.Lines.{chunkBits, LinesFit, lineByte, PartCells, leftByte, LeftAdded, LinesBeside, weighedLine, dotOf, lineProduct, VectorsEnd, lineForm};
 use super::panels::Batch;
 use chunks::CHUNK;
 use chunks::MOST_BLOCK;
 use chunks::cells::copy_part;
 use chunks::turns::EIGHT_ROWS;
 use chunks::turns::turn_rows;
+use field::Gf16;
 use field::Gf256;
 use format::sizes::MOST_VARIABLES;
 use strings::BITS;
@@ -142,10 +145,24 @@ pub fn add_left(lines: &mut [u8], sums: &mut [u8], cells: &[u8], bits: &[u8], po
     }
 }
 
-// The sum of the products of so many coordinates.
-fn dot(f: &[u8], t: &[u8], count: usize) -> u8
+// The sum of the products of so many coordinates, in GF(16).
+fn dot_halves(f: &[u8], t: &[u8], count: usize) -> u8
     requires { ⌜ (count ≤ length (now f)) × (count ≤ length (now t)) ⌝ }
-    ensures { λ r. ⌜ r ≡ xorSum count (λ c. byteProduct degree (byteAt (now (f .entry)) c) (byteAt (now (t .entry)) c)) ⌝ }
+    ensures { λ r. ⌜ r ≡ dotOf gf16 (now (f .entry)) (now (t .entry)) count ⌝ }
+{
+    let mut sum: u8 = 0;
+    let mut c = 0;
+    while c < count {
+        sum ^= Gf16::multiply(f[c], t[c]);
+        c += 1;
+    }
+    sum
+}
+
+// The same in GF(256).
+fn dot_bytes(f: &[u8], t: &[u8], count: usize) -> u8
+    requires { ⌜ (count ≤ length (now f)) × (count ≤ length (now t)) ⌝ }
+    ensures { λ r. ⌜ r ≡ dotOf gf256 (now (f .entry)) (now (t .entry)) count ⌝ }
 {
     let mut sum: u8 = 0;
     let mut c = 0;
@@ -154,6 +171,18 @@ fn dot(f: &[u8], t: &[u8], count: usize) -> u8
         c += 1;
     }
     sum
+}
+
+// The same in the field of the degree: each field has its own loop.
+fn dot(f: &[u8], t: &[u8], count: usize, degree: usize) -> u8
+    requires { ⌜ (count ≤ length (now f)) × (count ≤ length (now t)) ⌝ }
+    ensures { λ r. ⌜ r ≡ dotOf (fieldOf degree) (now (f .entry)) (now (t .entry)) count ⌝ }
+{
+    if degree == Gf16::DEGREE {
+        dot_halves(f, t, count)
+    } else {
+        dot_bytes(f, t, count)
+    }
 }
 
 // Plane p becomes the sum of the entries that row r of the words chooses.
@@ -204,11 +233,12 @@ fn line_product(
     vectors: &[u8],
     from: usize,
     count: usize,
+    degree: usize,
 ) -> u8
     requires { ⌜ ((e * 8 + 8) * 4 ≤ length (now words)) × (e < lanes) × InWords groups × (mostSums ≤ length (now sums)) × (e * mostVariables + mostVariables ≤ length (now vectors))
         × (from + count ≤ mostVariables) × (count ≤ chunkBits) ⌝ }
     ensures { λ r. ⌜ ((S : List ℕ) (χ : ℕ → ℕ) (m : ℕ) → Weighed S χ m (now (sums .entry)) (now (words .entry)) groups (e * 8)
-        → r ≡ lineProduct (now (vectors .entry)) e from count (weighedLine S χ m)) ⌝ }
+        → r ≡ lineProduct degree (now (vectors .entry)) e from count (weighedLine S χ m)) ⌝ }
 {
     let mut planes = [0u8; ELEMENT_PLANES];
     let mut elements = [0u8; ELEMENTS];
@@ -216,7 +246,7 @@ fn line_product(
     turn_half(&mut elements, 0, &planes);
     turn_half(&mut elements, 1, &planes);
     let at = e * MOST_VARIABLES + from;
-    dot(&vectors[at..at + count], &elements, count)
+    dot(&vectors[at..at + count], &elements, count, degree)
 }
 
 // Adds to each of the first tau places of mid the product of its repetition.
@@ -229,15 +259,16 @@ fn add_products(
     vectors: &[u8],
     from: usize,
     count: usize,
+    degree: usize,
 )
     requires { ⌜ (length (now mid) ≡ lanes) × (tau ≤ lanes) × WordsFit tau (now words) × InWords groups × (mostSums ≤ length (now sums)) × VectorsFit tau (now vectors)
         × (from + count ≤ mostVariables) × (count ≤ chunkBits) ⌝ }
     ensures { λ _. ⌜ ((S : List ℕ) (χ : ℕ → ℕ → ℕ) (m e : ℕ) → WeighedAll S χ m (now (sums .entry)) (now (words .entry)) groups tau → e < tau
-        → byteAt (now (mid .exit)) e ≡ bitXor (byteAt (now (mid .entry)) e) (lineProduct (now (vectors .entry)) e from count (weighedLine S (χ e) m))) ⌝ }
+        → byteAt (now (mid .exit)) e ≡ bitXor (byteAt (now (mid .entry)) e) (lineProduct degree (now (vectors .entry)) e from count (weighedLine S (χ e) m))) ⌝ }
 {
     let mut e = 0;
     while e < tau {
-        mid[e] ^= line_product(words, e, groups, sums, vectors, from, count);
+        mid[e] ^= line_product(words, e, groups, sums, vectors, from, count, degree);
         e += 1;
     }
 }
@@ -256,18 +287,19 @@ pub fn add_lines(
         × GroupsFor (s .m) (s .groups) × WordsFit (s .tau) (now words) × VectorsFit (s .tau) (now vectors) × VectorsEnd (s .n) (s .tau) (now vectors) ⌝ }
     ensures { λ _. ⌜ ((χ : ℕ → ℕ → ℕ) (e : ℕ) → IsBytes χ → ChosenAll χ (s .m) (s .tau) (now (words .entry)) → e < s .tau
         → byteAt (now (mid .exit)) e
-        ≡ bitXor (byteAt (now (mid .entry)) e) (lineForm (s .n) (now (lines .entry)) (s .m) χ e (coordinateOf (now (vectors .entry)) e))) ⌝ }
+        ≡ bitXor (byteAt (now (mid .entry)) e) (lineForm (s .degree) (s .n) (now (lines .entry)) (s .m) χ e (coordinateOf (now (vectors .entry)) e))) ⌝ }
 {
     let n = s.n;
     let m = s.m;
     let tau = s.tau;
     let groups = s.groups;
+    let degree = s.degree;
     let mut g = 0;
     while g * ELEMENTS < n {
         let from = g * ELEMENTS;
         forms_choices::sums::fill_sums(sums, groups, m, strings::row_at(lines, m * CHUNK, g));
         let count = least(ELEMENTS, MOST_VARIABLES - from);
-        add_products(mid, tau, words, groups, sums, vectors, from, count);
+        add_products(mid, tau, words, groups, sums, vectors, from, count, degree);
         g += 1;
     }
 }

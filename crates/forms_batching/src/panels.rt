@@ -51,7 +51,7 @@ fn widen(bits: &mut [u8], xs: &[u8])
 }
 
 // How equations are batched: m of them, of n variables, with rows of `width` bytes, for tau repetitions. So many
-// groups of five are looked up. Whether the polar form is asked for.
+// groups of five are looked up. Whether the polar form is asked for. The degree of the field.
 pub struct Batch {
     pub n: usize,
     pub width: usize,
@@ -59,6 +59,7 @@ pub struct Batch {
     pub tau: usize,
     pub groups: usize,
     pub polar: bool,
+    pub degree: usize,
 }
 
 // Where a walk over the pieces stands: at panel p of the set from `first` on, in its piece from the sixteen `top` on.
@@ -162,7 +163,7 @@ fn stack_part(
     s: Batch,
 )
     requires { ⌜ CollectFits (s .m) (s .tau) (s .groups) top rows (now stacks) (now sums) (now cells) (now words) (now vectors) ⌝ }
-    ensures { λ _. ⌜ PartStacked (s .tau) top rows (s .m) (now (words .entry)) (now (cells .entry)) (now (vectors .entry)) (now (stacks .exit)) ⌝ }
+    ensures { λ _. ⌜ PartStacked (s .degree) (s .tau) top rows (s .m) (now (words .entry)) (now (cells .entry)) (now (vectors .entry)) (now (stacks .exit)) ⌝ }
 {
     let tau = s.tau;
     strings::clear(&mut stacks[..tau * STACK]);
@@ -184,20 +185,21 @@ pub fn add_forms(
     xs: &[u8],
     s: Batch,
 )
-    requires { ⌜ BatchFits (s .n) (s .width) (s .m) (s .tau) (s .groups) (s .polar) (now quad) (now mid) (now lines) (now cells) (now a) (now words) (now vectors) (now xs) ⌝ }
+    requires { ⌜ BatchFits (s .degree) (s .n) (s .width) (s .m) (s .tau) (s .groups) (s .polar) (now quad) (now mid) (now lines) (now cells) (now a) (now words) (now vectors) (now xs) ⌝ }
     ensures { λ _. ⌜ ((χ : ℕ → ℕ → ℕ) (e : ℕ) → IsBytes χ → ChosenAll χ (s .m) (s .tau) (now (words .entry)) → e < s .tau
         → byteAt (now (quad .exit)) e
-        ≡ bitXor (byteAt (now (quad .entry)) e) (formSum (s .n) (s .width) (s .m) (now (a .entry)) χ e (coordinateOf (now (vectors .entry)) e) (coordinateOf (now (vectors .entry)) e))) ⌝ }
+        ≡ bitXor (byteAt (now (quad .entry)) e) (formSum (s .degree) (s .n) (s .width) (s .m) (now (a .entry)) χ e (coordinateOf (now (vectors .entry)) e) (coordinateOf (now (vectors .entry)) e))) ⌝ }
     ensures { λ _. ⌜ ((χ : ℕ → ℕ → ℕ) (e : ℕ) → IsBytes χ → ChosenAll χ (s .m) (s .tau) (now (words .entry)) → e < s .tau
         → byteAt (now (mid .exit)) e
-        ≡ bitXor (bitXor (byteAt (now (mid .entry)) e) (polarSum (s .n) (s .width) (s .m) (now (a .entry)) χ e (byteAt (now (xs .entry))) (coordinateOf (now (vectors .entry)) e)))
-        (lineForm (s .n) (now (lines .entry)) (s .m) χ e (coordinateOf (now (vectors .entry)) e))) ⌝ }
+        ≡ bitXor (bitXor (byteAt (now (mid .entry)) e) (polarSum (s .degree) (s .n) (s .width) (s .m) (now (a .entry)) χ e (byteAt (now (xs .entry))) (coordinateOf (now (vectors .entry)) e)))
+        (lineForm (s .degree) (s .n) (now (lines .entry)) (s .m) χ e (coordinateOf (now (vectors .entry)) e))) ⌝ }
 {
     let n = s.n;
     let m = s.m;
     let tau = s.tau;
     let width = s.width;
     let polar = s.polar;
+    let degree = s.degree;
     let mut sums = [0u8; SUMS];
     let mut bits = [0u8; MOST_VARIABLES];
     let mut stacks = [0u8; LANES * STACK];
@@ -221,7 +223,7 @@ pub fn add_forms(
         };
         super::lines::add_left(lines, &mut sums, held, &bits, polar, part);
         stack_part(&mut stacks, &mut sums, held, words, vectors, top, rows, s);
-        forms_columns::finish(quad, mid, &stacks, panel, tau, vectors, xs, polar);
+        forms_columns::finish(quad, mid, &stacks, panel, tau, vectors, xs, polar, degree);
         let then = next(first, p, piece);
         first = then.first;
         top = then.top;

@@ -2,18 +2,18 @@
 // vectors and the stacks are secret: no branch and no index goes by them.
 ghost use mathlib.Core.Path.{_≡_};
 ghost use mathlib.Core.List.{List};
-ghost use Prim.Native.Nat.{ℕ, _+_, _*_, _<_, _≤_};
+ghost use Prim.Native.Nat.{ℕ, _+_, _*_, _^_, _<_, _≤_};
 ghost use lib.ListN.{length};
 ghost use lib.Bits.{bitXor};
 ghost use Rattle.protocol.specs.Shape.{mostVariables};
-ghost use Rattle.field.specs.Degrees.{degree};
-ghost use Rattle.strings.specs.Sums.{byteAt, byteValues};
+ghost use Rattle.field.specs.Degrees.{degreeOf};
+ghost use Rattle.strings.specs.Sums.{byteAt};
 ghost use Rattle.strings.specs.Rows.{RowsKept};
 ghost use Rattle.lanes.specs.Lanes.{lanes, laneAt};
 ghost use Rattle.chunks.specs.Chunks.{chunk, Masks};
 ghost use Rattle.forms_choices.specs.Entries.{mostSums, upTo, InWords, WordsFit, Weighed};
 ghost use Rattle.forms_columns.specs.Stacks.{byteProduct, planes, stackAt, stackOf, coordinateOf, VectorsRoom, StacksFit};
-ghost use Rattle.forms_batching.specs.Batched.{weighedBit, WeighedAll, VectorsFit, VectorsAre, SixteenTurned, BesideSixteen, rowTimes, CollectFits, Collected};
+ghost use Rattle.forms_batching.specs.Batched.{weighedBit, WeighedAll, VectorsFit, VectorsNarrow, VectorsAre, SixteenTurned, BesideSixteen, planeTimes, rowTimes, CollectFits, Collected};
 ghost use Rattle.forms_batching.specs.Lines.{VectorsEnd};
 use super::panels::Batch;
 use chunks::CHUNK;
@@ -29,6 +29,9 @@ use strings::SIXTEEN;
 
 // A mask for each bit of an element, each a chunk.
 const MASKS: usize = Gf256::DEGREE * CHUNK;
+
+// The pairs of planes of an element of the larger field.
+const PLANE_PAIRS: usize = Gf256::DEGREE / 2;
 
 // The vectors of as many repetitions as there are lanes, one after the other.
 pub const VECTORS: usize = LANES * MOST_VARIABLES;
@@ -138,19 +141,48 @@ fn fill_halves(v: &mut [u8], src: &[u8], from: usize)
     copy_part(v, 1, SIXTEEN, src, from);
 }
 
+// Adds to a stack planes 2·k and 2·k + 1 of a chunk of the batched matrix, times v.
+fn absorb_two(
+    t: &mut [u8],
+    k: usize,
+    words: &[u64],
+    base: usize,
+    groups: usize,
+    sums: &[u8],
+    masks: &[u8],
+)
+    requires { ⌜ (length (now t) ≡ planes * chunk) × (k < 4) × ((base + 8) * 4 ≤ length (now words)) × InWords groups × (mostSums ≤ length (now sums)) × (length (now masks) ≡ 8 * chunk) ⌝ }
+    ensures { λ _. ⌜ ((d : ℕ) (S v : List ℕ) (χ : ℕ → ℕ) (m f z : ℕ) → Weighed S χ m (now (sums .entry)) (now (words .entry)) groups base
+        → Masks v (now (masks .entry)) → byteAt v f < 2 ^ degreeOf d → f < chunk
+        → stackAt d (now (t .exit)) f z ≡ bitXor (stackAt d (now (t .entry)) f z) (bitXor (planeTimes d v S χ m f z (2 * k)) (planeTimes d v S χ m f z (2 * k + 1)))) ⌝ }
+{
+    let mut both = [0u8; PAIR];
+    forms_choices::sums::look_up_two(&mut both, words, base + 2 * k, groups, sums);
+    forms_planes::absorb_planes(t, 2 * k, &both, masks);
+}
+
 // Adds a chunk of the batched matrix to a stack, times v: it is the sum of the rows S, each times its byte χ, whose
-// bits the words hold.
-fn absorb(t: &mut [u8], words: &[u64], base: usize, groups: usize, sums: &[u8], masks: &[u8])
+// bits the words hold; r is the degree of the field, and an element has so many planes. The loop has a constant length,
+// and so is unrolled.
+fn absorb(
+    t: &mut [u8],
+    words: &[u64],
+    base: usize,
+    groups: usize,
+    sums: &[u8],
+    masks: &[u8],
+    r: usize,
+)
     requires { ⌜ (length (now t) ≡ planes * chunk) × ((base + 8) * 4 ≤ length (now words)) × InWords groups × (mostSums ≤ length (now sums)) × (length (now masks) ≡ 8 * chunk) ⌝ }
-    ensures { λ _. ⌜ ((S v : List ℕ) (χ : ℕ → ℕ) (m f z : ℕ) → Weighed S χ m (now (sums .entry)) (now (words .entry)) groups base
-        → Masks v (now (masks .entry)) → byteAt v f < byteValues → f < chunk
-        → stackAt degree (now (t .exit)) f z ≡ bitXor (stackAt degree (now (t .entry)) f z) (byteProduct degree (byteAt v f) (weighedBit S χ m f z))) ⌝ }
+    ensures { λ _. ⌜ ((d : ℕ) (S v : List ℕ) (χ : ℕ → ℕ) (m f z : ℕ) → r ≡ degreeOf d → Weighed S χ m (now (sums .entry)) (now (words .entry)) groups base
+        → Masks v (now (masks .entry)) → byteAt v f < 2 ^ degreeOf d → f < chunk
+        → stackAt d (now (t .exit)) f z ≡ bitXor (stackAt d (now (t .entry)) f z) (byteProduct d (byteAt v f) (weighedBit S χ m f z))) ⌝ }
 {
     let mut k = 0;
-    while k < Gf256::DEGREE / 2 {
-        let mut both = [0u8; PAIR];
-        forms_choices::sums::look_up_two(&mut both, words, base + 2 * k, groups, sums);
-        forms_planes::absorb_planes(t, 2 * k, &both, masks);
+    while k < PLANE_PAIRS {
+        if 2 * k < r {
+            absorb_two(t, k, words, base, groups, sums, masks);
+        }
         k += 1;
     }
 }
@@ -164,11 +196,13 @@ fn absorb_lane(
     sums: &[u8],
     vectors: &[u8],
     first: usize,
+    r: usize,
 )
     requires { ⌜ (e * (planes * chunk) + planes * chunk ≤ length (now stacks)) × ((e * 8 + 8) * 4 ≤ length (now words)) × InWords groups
         × (mostSums ≤ length (now sums)) × (e * mostVariables + mostVariables ≤ length (now vectors)) × (first + 16 ≤ mostVariables) × (e < lanes) ⌝ }
-    ensures { λ _. ⌜ ((S : List ℕ) (χ : ℕ → ℕ) (m h f z : ℕ) → Weighed S χ m (now (sums .entry)) (now (words .entry)) groups (e * 8) → h < 2 → f < 16
-        → stackOf degree (now (stacks .exit)) e (h * 16 + f) z ≡ bitXor (stackOf degree (now (stacks .entry)) e (h * 16 + f) z) (rowTimes (now (vectors .entry)) e first S χ m h f z)) ⌝ }
+    ensures { λ _. ⌜ ((d : ℕ) (S : List ℕ) (χ : ℕ → ℕ) (m h f z : ℕ) → r ≡ degreeOf d → Weighed S χ m (now (sums .entry)) (now (words .entry)) groups (e * 8)
+        → coordinateOf (now (vectors .entry)) e (first + f) < 2 ^ degreeOf d → h < 2 → f < 16
+        → stackOf d (now (stacks .exit)) e (h * 16 + f) z ≡ bitXor (stackOf d (now (stacks .entry)) e (h * 16 + f) z) (rowTimes d (now (vectors .entry)) e first S χ m h f z)) ⌝ }
     ensures { λ _. ⌜ RowsKept (planes * chunk) e (now (stacks .entry)) (now (stacks .exit)) ⌝ }
 {
     let mut v = [0u8; CHUNK];
@@ -183,6 +217,7 @@ fn absorb_lane(
         groups,
         sums,
         &masks,
+        r,
     );
 }
 
@@ -195,15 +230,17 @@ fn absorb_lanes(
     sums: &[u8],
     vectors: &[u8],
     first: usize,
+    r: usize,
 )
     requires { ⌜ StacksFit tau (now stacks) × WordsFit tau (now words) × InWords groups × (mostSums ≤ length (now sums))
         × VectorsFit tau (now vectors) × (first + 16 ≤ mostVariables) × (tau ≤ lanes) ⌝ }
-    ensures { λ _. ⌜ ((S : List ℕ) (χ : ℕ → ℕ → ℕ) (m e h f z : ℕ) → WeighedAll S χ m (now (sums .entry)) (now (words .entry)) groups tau → e < tau → h < 2 → f < 16
-        → stackOf degree (now (stacks .exit)) e (h * 16 + f) z ≡ bitXor (stackOf degree (now (stacks .entry)) e (h * 16 + f) z) (rowTimes (now (vectors .entry)) e first S (χ e) m h f z)) ⌝ }
+    ensures { λ _. ⌜ ((d : ℕ) (S : List ℕ) (χ : ℕ → ℕ → ℕ) (m e h f z : ℕ) → r ≡ degreeOf d → WeighedAll S χ m (now (sums .entry)) (now (words .entry)) groups tau
+        → VectorsNarrow d tau (now (vectors .entry)) → e < tau → h < 2 → f < 16
+        → stackOf d (now (stacks .exit)) e (h * 16 + f) z ≡ bitXor (stackOf d (now (stacks .entry)) e (h * 16 + f) z) (rowTimes d (now (vectors .entry)) e first S (χ e) m h f z)) ⌝ }
 {
     let mut e = 0;
     while e < tau {
-        absorb_lane(stacks, e, words, groups, sums, vectors, first);
+        absorb_lane(stacks, e, words, groups, sums, vectors, first, r);
         e += 1;
     }
 }
@@ -222,11 +259,12 @@ pub fn collect(
     s: Batch,
 )
     requires { ⌜ CollectFits (s .m) (s .tau) (s .groups) top rows (now stacks) (now sums) (now cells) (now words) (now vectors) ⌝ }
-    ensures { λ _. ⌜ Collected (s .tau) top rows (s .m) (now (words .entry)) (now (cells .entry)) (now (vectors .entry)) (now (stacks .entry)) (now (stacks .exit)) ⌝ }
+    ensures { λ _. ⌜ Collected (s .degree) (s .tau) top rows (s .m) (now (words .entry)) (now (cells .entry)) (now (vectors .entry)) (now (stacks .entry)) (now (stacks .exit)) ⌝ }
 {
     let m = s.m;
     let tau = s.tau;
     let groups = s.groups;
+    let r = field::degree_of(s.degree);
     let mut q = 0;
     while q < rows {
         forms_choices::sums::fill_sums(sums, groups, m, strings::row_at(cells, m * CHUNK, q));
@@ -239,6 +277,7 @@ pub fn collect(
             sums,
             vectors,
             (top + q) * SIXTEEN,
+            r,
         );
         q += 1;
     }

@@ -2,9 +2,10 @@
 -- Assumes nothing.
 use mathlib.Core.Path.{_≡_, sym, ap, ap₂, _∙_}
 use mathlib.Core.Bool.{Bool}
-use Prim.Native.Nat.{ℕ, zero, suc, _+_, _*_, _^_, _≤_, _<_}
-use native.Mathlib.Nat.{mod-eq-of-lt, add-zero, add-suc, add-comm, zero-mul, one-mul}
+use Prim.Native.Nat.{ℕ, zero, suc, _+_, _*_, _%_, _^_, _≤_, _<_}
+use native.Mathlib.Nat.{mod-lt, mod-eq-of-lt, add-zero, add-suc, add-comm, zero-mul, one-mul}
 use native.Mathlib.Omega.{arith}
+use lib.Pow.{pow-pos}
 use lib.Dec.{T, eqb, eqb→eq, lit<}
 use Rattle.algebra.specs.Ring.{Ring}
 use Rattle.algebra.specs.Field.{Field}
@@ -17,11 +18,12 @@ use Rattle.algebra.proofs.TestLaws.{everyBelow, every-at}
 use Rattle.field.specs.Gf256.{gf256}
 use Rattle.field.specs.Gf16.{gf16}
 use Rattle.field.specs.Degrees.{fieldOf, degreeOf}
+use Rattle.field.proofs.ProductLaws.{elem-low}
 use Rattle.field.proofs.DegreeLaws.{each-field, degree-least, degree-most}
 use Rattle.protocol.proofs.StringLaws.{bits-of}
 use Rattle.strings.specs.Sums.{bitOf, xorSum}
 use Rattle.strings.proofs.SumLaws.{sum-same, sum-short}
-use Rattle.strings.proofs.BitLaws.{bits-sum, cut-bit}
+use Rattle.strings.proofs.BitLaws.{bits-sum, kept-bit, cut-bit}
 use Rattle.strings.proofs.Meaning.{bitOf-lt, elem-sum, byte-sum}
 use Rattle.forms_columns.specs.Stacks.{alpha, byteProduct}
 
@@ -97,6 +99,14 @@ alpha-low d s =
     (λ h. eqb→eq (2 ^ s) (powByte gf16 2 s) (every-at (gf16 .degree) (weighs gf16) few-powers s h))
     (λ h. eqb→eq (2 ^ s) (powByte gf256 2 s) (every-at (gf256 .degree) (weighs gf256) low-powers s h)) d
 
+-- a product takes the low bits of its factors
+pub product-low : (d a x : ℕ) → byteProduct d a (x % 2 ^ degreeOf d) ≡ byteProduct d a x
+unfolding byteProduct degreeOf
+product-low d a x =
+    each-field (λ C. mulByte C a (x % 2 ^ C .degree) ≡ mulByte C a x)
+    (ap (λ y. gf16 .byte (gf16 .base .R .mul (gf16 .elem a) y)) (elem-low 4 x))
+    (ap (λ y. gf256 .byte (gf256 .base .R .mul (gf256 .elem a) y)) (elem-low 8 x)) d
+
 -- an element is the sum of the powers that its bits weigh
 low-bits : (d v : ℕ) → v < 2 ^ degreeOf d → xorSum (degreeOf d) (λ i. bitOf v i * alpha d i) ≡ v
 unfolding bitOf
@@ -105,6 +115,12 @@ low-bits d v h =
 
 high-bit : (r v i : ℕ) → v < 2 ^ r → r ≤ i → bitOf v i ≡ 0
 high-bit r v i h l = ap (λ x. bitOf x i) (sym (mod-eq-of-lt h)) ∙ cut-bit v r i l
+
+-- under another factor, of any number
+pub product-weights : (d a x : ℕ) → byteProduct d a (xorSum (degreeOf d) (λ i. bitOf x i * alpha d i)) ≡ byteProduct d a x
+product-weights d a x =
+    ap (byteProduct d a) (sum-same (degreeOf d) _ _ (λ i l. ap (λ y. y * alpha d i) (sym (kept-bit x (degreeOf d) i l))) ∙ low-bits d (x % 2 ^ degreeOf d) (mod-lt x (pow-pos (degreeOf d))))
+    ∙ product-low d a x
 
 -- the same over eight bits, whatever the degree
 pub byte-bits : (d v : ℕ) → v < 2 ^ degreeOf d → xorSum 8 (λ i. bitOf v i * alpha d i) ≡ v

@@ -1,7 +1,8 @@
 -- Polynomials in α whose coefficients are bits, in planes: plane s of a stack holds the coefficients of α^s, one bit
 -- for each place. In each definition d is the degree of the field (field's Degrees).
 --   alpha d s == α^s as a byte, where α is the element 02;  byteProduct d x y == the product of two bytes as elements
---   planes == the planes of a stack: as many coefficients as a product of two elements has before it is reduced
+--   planes == the planes of a stack: as many coefficients as a product of two elements of the larger field has before it
+--     is reduced
 --   stackAt d t f z == the value of a stack at bit z of byte f;  stackOf d T e f z == that of stack e of a table
 --   foldOf d T e h z == the sum of the values of stack e at bit z of the sixteen bytes of half h
 --   columnOf d T e s == the same for column s of sixteen
@@ -21,7 +22,7 @@
 --   Weights d weights == byte s is α^s, for each plane
 --   IsBits xs == each byte is 0 or 1
 --   StacksFit tau T == T has a stack for each repetition below tau
---   ColumnsFit == lanes, planes, front, weights and bits have their lengths, and the bits are bits
+--   ColumnsFit d == lanes, planes, front, weights and bits have their lengths, and the bits are bits
 --   PanelFits == the same of lanes, of τ stacks and of the vectors, and the panel's sixteen columns are coordinates
 --   MasksAt v f masks == the masks have at byte f those of the bits of v
 -- Assumes nothing.
@@ -91,10 +92,10 @@ IsBits xs = (c : ℕ) → byteAt xs c < 2
 abbrev pub StacksFit : ℕ → List ℕ → Type 0
 StacksFit tau T = tau * (planes * chunk) ≤ length T
 
-abbrev pub ColumnsFit : List ℕ → List ℕ → List ℕ → List ℕ → List ℕ → List ℕ → Type 0
-ColumnsFit quad mid rows front xs weights =
+abbrev pub ColumnsFit : ℕ → List ℕ → List ℕ → List ℕ → List ℕ → List ℕ → List ℕ → Type 0
+ColumnsFit d quad mid rows front xs weights =
     (length quad ≡ lanes) × (length mid ≡ lanes) × (length rows ≡ planes * lanes) × (length front ≡ 16 * lanes)
-    × (length xs ≡ 16) × IsBits xs × Weights degree weights
+    × (length xs ≡ 16) × IsBits xs × Weights d weights
 
 abbrev pub PanelFits : List ℕ → List ℕ → List ℕ → ℕ → ℕ → List ℕ → List ℕ → Type 0
 PanelFits quad mid stacks panel tau vectors xs =

@@ -4,7 +4,6 @@ ghost use mathlib.Core.Path.{_≡_};
 ghost use mathlib.Core.Bool.{true, false};
 ghost use Prim.Native.Nat.{ℕ, _+_, _*_, _<_, _≤_};
 ghost use lib.ListN.{length};
-ghost use Rattle.field.specs.Degrees.{degree};
 ghost use Rattle.strings.specs.Sums.{byteAt, bitOf, xorSum};
 ghost use Rattle.strings.specs.Rows.{RowsKept};
 ghost use Rattle.lanes.specs.Lanes.{lanes, laneAt, LanesAdded};
@@ -21,7 +20,8 @@ use strings::word_at;
 
 pub mod fronts;
 
-// The planes of a stack: as many as a product of two elements has coefficients before it is reduced.
+// The planes of a stack: as many as a product of two elements of the larger field has coefficients before it is
+// reduced.
 pub const PLANES: usize = 2 * Gf256::DEGREE - 1;
 
 // The bytes of a stack.
@@ -90,7 +90,7 @@ fn add_weighted(u: &mut [u8], row: &[u8], z: usize, weight: u8)
 }
 
 // The powers of α, one for each plane. They are lent to `weigh`, which would else make them anew for each column.
-fn fill_weights(weights: &mut [u8; PLANES])
+fn fill_weights(weights: &mut [u8; PLANES], degree: usize)
     requires { ⌜ length (now weights) ≡ planes ⌝ }
     ensures { λ _. ⌜ Weights degree (now (weights .exit)) ⌝ }
 {
@@ -98,15 +98,15 @@ fn fill_weights(weights: &mut [u8; PLANES])
     let mut s = 0;
     while s < PLANES {
         weights[s] = weight;
-        weight = Gf256::multiply(2, weight);
+        weight = field::multiply(degree, 2, weight);
         s += 1;
     }
 }
 
 // u[e] = the value at bit z of the planes of repetition e.
 fn weigh(u: &mut [u8], rows: &[u8], z: usize, weights: &[u8])
-    requires { ⌜ (length (now u) ≡ lanes) × (length (now rows) ≡ planes * lanes) × (z < 8) × Weights degree (now weights) ⌝ }
-    ensures { λ _. ⌜ ((e : ℕ) → e < lanes → byteAt (now (u .exit)) e ≡ valueOf degree (now (rows .entry)) z e) ⌝ }
+    requires { ⌜ (length (now u) ≡ lanes) × (length (now rows) ≡ planes * lanes) × (z < 8) × (length (now weights) ≡ planes) ⌝ }
+    ensures { λ _. ⌜ ((d e : ℕ) → Weights d (now (weights .entry)) → e < lanes → byteAt (now (u .exit)) e ≡ valueOf d (now (rows .entry)) z e) ⌝ }
 {
     strings::clear(u);
     let mut s = 0;
@@ -117,11 +117,11 @@ fn weigh(u: &mut [u8], rows: &[u8], z: usize, weights: &[u8])
 }
 
 // acc[e] ^= coordinate k of the front of repetition e, times u[e].
-fn add_product(acc: &mut [u8], k: usize, front: &[u8], u: &[u8])
+fn add_product(acc: &mut [u8], k: usize, front: &[u8], u: &[u8], degree: usize)
     requires { ⌜ (length (now acc) ≡ lanes) × (length (now front) ≡ 16 * lanes) × (k < 16) × (length (now u) ≡ lanes) ⌝ }
     ensures { λ _. ⌜ LanesAdded lanes (λ e. byteProduct degree (laneAt (now (front .entry)) k e) (byteAt (now (u .entry)) e)) (now (acc .entry)) (now (acc .exit)) ⌝ }
 {
-    lanes::accumulate(acc, strings::row_at(front, LANES, k), u);
+    lanes::accumulate(acc, strings::row_at(front, LANES, k), u, degree);
 }
 
 // Adds u times bit c of xs to mid, where the polar form is asked for.
@@ -147,15 +147,16 @@ fn add_column(
     xs: &[u8],
     polar: bool,
     weights: &[u8],
+    degree: usize,
 )
-    requires { ⌜ ColumnsFit (now quad) (now mid) (now rows) (now front) (now xs) (now weights) × (k < 16) × (z < 8) ⌝ }
+    requires { ⌜ ColumnsFit degree (now quad) (now mid) (now rows) (now front) (now xs) (now weights) × (k < 16) × (z < 8) ⌝ }
     ensures { λ _. ⌜ LanesAdded lanes (λ e. byteProduct degree (laneAt (now (front .entry)) k e) (valueOf degree (now (rows .entry)) z e)) (now (quad .entry)) (now (quad .exit)) ⌝ }
     ensures { λ _. ⌜ (polar ≡ true → LanesAdded lanes (λ e. byteAt (now (xs .entry)) k * valueOf degree (now (rows .entry)) z e) (now (mid .entry)) (now (mid .exit))) ⌝ }
     ensures { λ _. ⌜ (polar ≡ false → now (mid .exit) ≡ now (mid .entry)) ⌝ }
 {
     let mut u = [0u8; LANES];
     weigh(&mut u, rows, z, weights);
-    add_product(quad, k, front, &u);
+    add_product(quad, k, front, &u, degree);
     add_polar(mid, &u, k, xs, polar);
 }
 
@@ -169,8 +170,9 @@ fn add_columns(
     xs: &[u8],
     polar: bool,
     weights: &[u8],
+    degree: usize,
 )
-    requires { ⌜ ColumnsFit (now quad) (now mid) (now rows) (now front) (now xs) (now weights) × (h < 2) ⌝ }
+    requires { ⌜ ColumnsFit degree (now quad) (now mid) (now rows) (now front) (now xs) (now weights) × (h < 2) ⌝ }
     ensures { λ _. ⌜ LanesAdded lanes (λ e. xorSum 8 (λ z. byteProduct degree (laneAt (now (front .entry)) (h * 8 + z) e) (valueOf degree (now (rows .entry)) z e)))
         (now (quad .entry)) (now (quad .exit)) ⌝ }
     ensures { λ _. ⌜ (polar ≡ true → LanesAdded lanes (λ e. xorSum 8 (λ z. byteAt (now (xs .entry)) (h * 8 + z) * valueOf degree (now (rows .entry)) z e))
@@ -179,7 +181,18 @@ fn add_columns(
 {
     let mut z = 0;
     while z < BITS {
-        add_column(quad, mid, rows, h * BITS + z, z, front, xs, polar, weights);
+        add_column(
+            quad,
+            mid,
+            rows,
+            h * BITS + z,
+            z,
+            front,
+            xs,
+            polar,
+            weights,
+            degree,
+        );
         z += 1;
     }
 }
@@ -195,6 +208,7 @@ pub fn finish(
     vectors: &[u8],
     xs: &[u8],
     polar: bool,
+    degree: usize,
 )
     requires { ⌜ PanelFits (now quad) (now mid) (now stacks) panel tau (now vectors) (now xs) ⌝ }
     ensures { λ _. ⌜ LanesAdded tau (λ e. xorSum 16 (λ s. byteProduct degree (coordinateOf (now (vectors .entry)) e (panel * 16 + s)) (columnOf degree (now (stacks .entry)) e s)))
@@ -206,13 +220,13 @@ pub fn finish(
     let mut front = [0u8; FRONT];
     let mut weights = [0u8; PLANES];
     fronts::fill_front(&mut front, vectors, panel * SIXTEEN, tau);
-    fill_weights(&mut weights);
+    fill_weights(&mut weights, degree);
     let bits = strings::row_at(xs, SIXTEEN, panel);
     let mut h = 0;
     while h < 2 {
         let mut rows = [0u8; GATHERED];
         gather(&mut rows, stacks, h, tau);
-        add_columns(quad, mid, &rows, h, &front, bits, polar, &weights);
+        add_columns(quad, mid, &rows, h, &front, bits, polar, &weights, degree);
         h += 1;
     }
 }

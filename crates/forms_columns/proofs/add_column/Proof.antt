@@ -5,7 +5,6 @@ use Prim.Native.Nat.{ℕ, _*_}
 use mathlib.Core.Path.{ap, _∙_}
 use denote.Ref.{now}
 use lib.Bits.{bitXor}
-use Rattle.field.specs.Degrees.{degree}
 use Rattle.strings.specs.Sums.{byteAt}
 use Rattle.lanes.specs.Lanes.{laneAt}
 use Rattle.forms_columns.specs.Stacks.{byteProduct}
@@ -39,11 +38,12 @@ same-length-2 c = search needs
 returns : tie.Need-returns
 returns c =
     let a = c .before .before .before .before .before .before .before .before .before .before .before .before .before .before .before .before .before .before .before .args in
+    let weights = c .before .before .before .before .before .before .before .before .before .before .before .before .before .before .before .before .before .before .before .pre .0 .6 in
     let u = c .before .before .before .before .before .before .before .before .before .before .before .weigh in
     let done = c .before .before .add-polar in (
-      (λ e h. c .before .before .before .before .before .before .before .add-product .ensures e h ∙ ap (λ (x : ℕ). bitXor (byteAt (now (a .quad)) e) (byteProduct degree (laneAt (now (a .front)) (a .k) e) x)) (u .ensures e h)),
+      (λ e h. c .before .before .before .before .before .before .before .add-product .ensures e h ∙ ap (λ (x : ℕ). bitXor (byteAt (now (a .quad)) e) (byteProduct (a .degree) (laneAt (now (a .front)) (a .k) e) x)) (u .ensures (a .degree) e weights h)),
       (
-        (λ on e h. done .ensures .0 on e h ∙ ap (λ (x : ℕ). bitXor (byteAt (now (a .mid)) e) (byteAt (now (a .xs)) (a .k) * x)) (u .ensures e h)),
+        (λ on e h. done .ensures .0 on e h ∙ ap (λ (x : ℕ). bitXor (byteAt (now (a .mid)) e) (byteAt (now (a .xs)) (a .k) * x)) (u .ensures (a .degree) e weights h)),
         done .ensures .1,
       ),
     )

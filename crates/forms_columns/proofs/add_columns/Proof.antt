@@ -9,7 +9,6 @@ use native.Mathlib.Omega.{arith}
 use denote.Ref.{now}
 use lib.ListN.{length}
 use lib.Bits.{xor-zero-r}
-use Rattle.field.specs.Degrees.{degree}
 use Rattle.strings.specs.Sums.{byteAt, xorSum}
 use Rattle.strings.proofs.SumLaws.{sum-step}
 use Rattle.lanes.specs.Lanes.{lanes, laneAt, LanesAdded}
@@ -18,19 +17,19 @@ use Rattle.forms_columns.proofs.add_columns.Statement.{statement}
 use Rattle.forms_columns.proofs.add_columns.Tie as tie
 
 -- what column z adds
-abbrev quadTerm : List ℕ → List ℕ → ℕ → ℕ → ℕ → ℕ
-quadTerm rows front h e z = byteProduct degree (laneAt front (h * 8 + z) e) (valueOf degree rows z e)
+abbrev quadTerm : ℕ → List ℕ → List ℕ → ℕ → ℕ → ℕ → ℕ
+quadTerm d rows front h e z = byteProduct d (laneAt front (h * 8 + z) e) (valueOf d rows z e)
 
-abbrev midTerm : List ℕ → List ℕ → ℕ → ℕ → ℕ → ℕ
-midTerm rows xs h e z = byteAt xs (h * 8 + z) * valueOf degree rows z e
+abbrev midTerm : ℕ → List ℕ → List ℕ → ℕ → ℕ → ℕ → ℕ
+midTerm d rows xs h e z = byteAt xs (h * 8 + z) * valueOf d rows z e
 
 abbrev Inv-loop : tie.InvT-loop
-Inv-loop quad₀ mid₀ rows h front xs polar weights z₀ quad mid z =
-    (z ≤ 8) × (length quad ≡ lanes) × (length mid ≡ lanes) × LanesAdded lanes (λ e. xorSum z (quadTerm rows front h e)) quad₀ quad
-    × (polar ≡ true → LanesAdded lanes (λ e. xorSum z (midTerm rows xs h e)) mid₀ mid) × (polar ≡ false → mid ≡ mid₀)
+Inv-loop quad₀ mid₀ rows h front xs polar weights degree z₀ quad mid z =
+    (z ≤ 8) × (length quad ≡ lanes) × (length mid ≡ lanes) × LanesAdded lanes (λ e. xorSum z (quadTerm degree rows front h e)) quad₀ quad
+    × (polar ≡ true → LanesAdded lanes (λ e. xorSum z (midTerm degree rows xs h e)) mid₀ mid) × (polar ≡ false → mid ≡ mid₀)
 
 abbrev μ-loop : tie.MeasureT-loop
-μ-loop quad₀ mid₀ rows h front xs polar weights z₀ quad mid z = 8 - z
+μ-loop quad₀ mid₀ rows h front xs polar weights degree z₀ quad mid z = 8 - z
 
 loop-holds : tie.Need-loop-holds Inv-loop μ-loop
 unfolding xorSum
@@ -63,8 +62,8 @@ loop-again c =
       omega arith,
       done .kept .0 ∙ l .inv .1,
       done .kept .1 .0 ∙ l .inv .2,
-      (λ e h. done .ensures .0 e h ∙ sum-step (byteAt (now (a .quad)) e) (byteAt (l .quad) e) (l .z) (quadTerm (now (a .rows)) (now (a .front)) (a .h) e) (l .inv .3 e h)),
-      (λ on e h. done .ensures .1 .0 on e h ∙ sum-step (byteAt (now (a .mid)) e) (byteAt (l .mid) e) (l .z) (midTerm (now (a .rows)) (now (a .xs)) (a .h) e) (l .inv .4 on e h)),
+      (λ e h. done .ensures .0 e h ∙ sum-step (byteAt (now (a .quad)) e) (byteAt (l .quad) e) (l .z) (quadTerm (a .degree) (now (a .rows)) (now (a .front)) (a .h) e) (l .inv .3 e h)),
+      (λ on e h. done .ensures .1 .0 on e h ∙ sum-step (byteAt (now (a .mid)) e) (byteAt (l .mid) e) (l .z) (midTerm (a .degree) (now (a .rows)) (now (a .xs)) (a .h) e) (l .inv .4 on e h)),
       (λ off. done .ensures .1 .1 off ∙ l .inv .5 off),
     )
 

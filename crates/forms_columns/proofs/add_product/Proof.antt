@@ -6,7 +6,6 @@ use mathlib.Core.Path.{ap, _∙_}
 use mathlib.Core.List.{List}
 use denote.Ref.{now}
 use lib.Bits.{bitXor}
-use Rattle.field.specs.Degrees.{fieldOf, degree}
 use Rattle.strings.specs.Sums.{byteAt}
 use Rattle.strings.proofs.Rows.{row-byte}
 use Rattle.lanes.specs.Lanes.{lanes}
@@ -24,11 +23,11 @@ same-length : tie.Need-same-length
 same-length c = search needs
 
 returns : tie.Need-returns
-unfolding byteProduct fieldOf
+unfolding byteProduct
 returns c e h =
     let a = c .before .before .before .before .before .before .before .before .args in
     c .before .before .accumulate .ensures e h
-    ∙ ap (λ (x : ℕ). bitXor (byteAt (now (a .acc)) e) (byteProduct degree x (byteAt (now (a .u)) e))) (ap (λ (r : List ℕ). byteAt r e) (c .before .before .before .row-at .ensures .0) ∙ row-byte (now (a .front)) lanes (a .k) e h)
+    ∙ ap (λ (x : ℕ). bitXor (byteAt (now (a .acc)) e) (byteProduct (a .degree) x (byteAt (now (a .u)) e))) (ap (λ (r : List ℕ). byteAt r e) (c .before .before .before .row-at .ensures .0) ∙ row-byte (now (a .front)) lanes (a .k) e h)
 
 pub add-product-spec : {M : Type 1} → statement M
 add-product-spec = tie.close (tie.spec row-at-requires accumulate-requires same-length returns)

@@ -11,7 +11,6 @@ use lib.Arith.{digits-div, digits-mod}
 use lib.Dec.{lit<}
 use lib.ListN.{length}
 use lib.Bits.{xor-zero-r}
-use Rattle.field.specs.Degrees.{degree}
 use Rattle.strings.specs.Sums.{byteAt, xorSum}
 use Rattle.strings.proofs.Rows.{row-byte, row-lt}
 use Rattle.lanes.specs.Lanes.{lanes, laneAt, LanesAdded}
@@ -22,23 +21,23 @@ use Rattle.forms_columns.proofs.finish.Statement.{statement}
 use Rattle.forms_columns.proofs.finish.Tie as tie
 
 -- what column s of a panel adds
-abbrev quadTerm : List ℕ → ℕ → List ℕ → ℕ → ℕ → ℕ
-quadTerm stacks panel vs e s = byteProduct degree (coordinateOf vs e (panel * 16 + s)) (columnOf degree stacks e s)
+abbrev quadTerm : ℕ → List ℕ → ℕ → List ℕ → ℕ → ℕ → ℕ
+quadTerm d stacks panel vs e s = byteProduct d (coordinateOf vs e (panel * 16 + s)) (columnOf d stacks e s)
 
-abbrev midTerm : List ℕ → ℕ → List ℕ → ℕ → ℕ → ℕ
-midTerm stacks panel xs e s = byteAt xs (panel * 16 + s) * columnOf degree stacks e s
+abbrev midTerm : ℕ → List ℕ → ℕ → List ℕ → ℕ → ℕ → ℕ
+midTerm d stacks panel xs e s = byteAt xs (panel * 16 + s) * columnOf d stacks e s
 
-column-is : (rows T : List ℕ) (e h z : ℕ) → z < 8 → ((s : ℕ) → s < planes → laneAt rows s e ≡ xorSum 16 (λ f. byteAt T (e * (planes * chunk) + (s * chunk + h * 16 + f))))
-    → valueOf degree rows z e ≡ columnOf degree T e (h * 8 + z)
-column-is rows T e h z k are = fold-is rows T e h z are ∙ sym (ap₂ (foldOf degree T e) (digits-div h k) (digits-mod h k))
+column-is : (d : ℕ) (rows T : List ℕ) (e h z : ℕ) → z < 8 → ((s : ℕ) → s < planes → laneAt rows s e ≡ xorSum 16 (λ f. byteAt T (e * (planes * chunk) + (s * chunk + h * 16 + f))))
+    → valueOf d rows z e ≡ columnOf d T e (h * 8 + z)
+column-is d rows T e h z k are = fold-is d rows T e h z are ∙ sym (ap₂ (foldOf d T e) (digits-div h k) (digits-mod h k))
 
 abbrev Inv-loop : tie.InvT-loop
-Inv-loop quad₀ mid₀ stacks panel tau vectors xs polar front weights bits h₀ quad mid h =
-    (h ≤ 2) × (length quad ≡ lanes) × (length mid ≡ lanes) × LanesAdded tau (λ e. xorSum (h * 8) (quadTerm stacks panel vectors e)) quad₀ quad
-    × (polar ≡ true → LanesAdded tau (λ e. xorSum (h * 8) (midTerm stacks panel xs e)) mid₀ mid) × (polar ≡ false → mid ≡ mid₀)
+Inv-loop quad₀ mid₀ stacks panel tau vectors xs polar degree front weights bits h₀ quad mid h =
+    (h ≤ 2) × (length quad ≡ lanes) × (length mid ≡ lanes) × LanesAdded tau (λ e. xorSum (h * 8) (quadTerm degree stacks panel vectors e)) quad₀ quad
+    × (polar ≡ true → LanesAdded tau (λ e. xorSum (h * 8) (midTerm degree stacks panel xs e)) mid₀ mid) × (polar ≡ false → mid ≡ mid₀)
 
 abbrev μ-loop : tie.MeasureT-loop
-μ-loop quad₀ mid₀ stacks panel tau vectors xs polar front weights bits h₀ quad mid h = 2 - h
+μ-loop quad₀ mid₀ stacks panel tau vectors xs polar degree front weights bits h₀ quad mid h = 2 - h
 
 slice-aggregate-fill-front : tie.Need-slice-aggregate-fill-front Inv-loop μ-loop
 slice-aggregate-fill-front c = search needs
@@ -98,18 +97,18 @@ loop-again c =
     let front = c .before .before .before .before .before .before .before .before .before .before .before .before .before .before .before .before .before .before .before .fill-front in
     let bits = c .before .before .before .before .before .before .before .before .before .before .before .before .before .before .before .row-at .ensures .0 in
     let done = c .before .before .before .before .add-columns in
-    let value : (e : ℕ) → e < a .tau → (z : ℕ) → z < 8 → valueOf degree (rows .last .0) z e ≡ columnOf degree (now (a .stacks)) e (l .h * 8 + z) =
-    λ e h z k. column-is (rows .last .0) (now (a .stacks)) e (l .h) z k (λ s q. rows .ensures s e q h) in (
+    let value : (e : ℕ) → e < a .tau → (z : ℕ) → z < 8 → valueOf (a .degree) (rows .last .0) z e ≡ columnOf (a .degree) (now (a .stacks)) e (l .h * 8 + z) =
+    λ e h z k. column-is (a .degree) (rows .last .0) (now (a .stacks)) e (l .h) z k (λ s q. rows .ensures s e q h) in (
       omega (arith, c .before .before .before .before .before .before .before .before .before .before .before .before .before .loop-test .taken),
       done .kept .0 ∙ l .inv .1,
       done .kept .1 .0 ∙ l .inv .2,
       (λ e h.
           done .ensures .0 e (omega arith)
-          ∙ eight-more (byteAt (now (a .quad)) e) (byteAt (l .quad) e) (l .h) (quadTerm (now (a .stacks)) (a .panel) (now (a .vectors)) e) _ (l .inv .3 e h)
-          (λ z k. ap₂ (byteProduct degree) (front .ensures (l .h * 8 + z) e (omega arith) h) (value e h z k))),
+          ∙ eight-more (byteAt (now (a .quad)) e) (byteAt (l .quad) e) (l .h) (quadTerm (a .degree) (now (a .stacks)) (a .panel) (now (a .vectors)) e) _ (l .inv .3 e h)
+          (λ z k. ap₂ (byteProduct (a .degree)) (front .ensures (l .h * 8 + z) e (omega arith) h) (value e h z k))),
       (λ on e h.
           done .ensures .1 .0 on e (omega arith)
-          ∙ eight-more (byteAt (now (a .mid)) e) (byteAt (l .mid) e) (l .h) (midTerm (now (a .stacks)) (a .panel) (now (a .xs)) e) _ (l .inv .4 on e h)
+          ∙ eight-more (byteAt (now (a .mid)) e) (byteAt (l .mid) e) (l .h) (midTerm (a .degree) (now (a .stacks)) (a .panel) (now (a .xs)) e) _ (l .inv .4 on e h)
           (λ z k. ap₂ (λ (x y : ℕ). x * y) (ap (λ (r : List ℕ). byteAt r (l .h * 8 + z)) bits ∙ row-byte (now (a .xs)) 16 (a .panel) (l .h * 8 + z) (omega arith)) (value e h z k))),
       (λ off. done .ensures .1 .1 off ∙ l .inv .5 off),
     )

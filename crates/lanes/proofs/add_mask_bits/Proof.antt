@@ -16,13 +16,13 @@ use Rattle.lanes.proofs.add_mask_bits.Statement.{statement}
 use Rattle.lanes.proofs.add_mask_bits.Tie as tie
 
 abbrev change : List ℕ → Sizes → ℕ → ℕ → ℕ
-change u s k x = bitXor x (maskBits u (firstMask s k))
+change u s k x = bitXor x (maskBits (s .degree) u (firstMask s k))
 
 abbrev Inv-loop : tie.InvT-loop
-Inv-loop acc₀ u s tau e₀ acc e = (e ≤ tau) × (acc ≡ changed (change u s) acc₀ e) × (length acc ≡ length acc₀)
+Inv-loop acc₀ u s tau degree e₀ acc e = (e ≤ tau) × (acc ≡ changed (change u s) acc₀ e) × (length acc ≡ length acc₀)
 
 abbrev μ-loop : tie.MeasureT-loop
-μ-loop acc₀ u s tau e₀ acc e = tau - e
+μ-loop acc₀ u s tau degree e₀ acc e = tau - e
 
 loop-holds : tie.Need-loop-holds Inv-loop μ-loop
 unfolding changed
@@ -54,7 +54,7 @@ loop-again c =
     let l = c .before .before .before .before .loop in (
       omega arith,
       changed-more (change (now (a .u)) (a .s)) (now (a .acc)) (l .acc) (l .e) _ (l .inv .1)
-          (ap (bitXor (byteAt (l .acc) (l .e))) (c .before .mask-byte .ensures ∙ ap (maskBits (now (a .u))) (c .before .before .mask-at .ensures))),
+          (ap (bitXor (byteAt (l .acc) (l .e))) (c .before .mask-byte .ensures ∙ ap (maskBits (a .s .degree) (now (a .u))) (c .before .before .mask-at .ensures))),
       simp length-set (l .inv .2),
     )
 

@@ -7,10 +7,10 @@ use mathlib.Core.Path.{_≡_, refl, sym, ap, ap₂, _∙_}
 use native.Mathlib.Nat.{mul-le-mul}
 use native.Mathlib.Omega.{arith}
 use denote.Ref.{now}
-use lib.ListN.{length, take, drop}
+use lib.ListN.{length}
 use lib.Bits.{bitXor, xor-zero-r}
 use Rattle.algebra.specs.Coded.{mulByte}
-use Rattle.field.specs.Gf256.{gf256}
+use Rattle.field.specs.Degrees.{fieldOf}
 use Rattle.protocol.specs.Strings.{bytesFor}
 use Rattle.strings.specs.Sums.{byteAt, xorSum}
 use Rattle.lanes.specs.Lanes.{lanes}
@@ -25,17 +25,17 @@ use Rattle.forms.proofs.batch.batch_forms.Statement.{statement}
 use Rattle.forms.proofs.batch.batch_forms.Tie as tie
 
 -- what equation i adds in repetition e
-abbrev formTerm : ℕ → ℕ → List ℕ → List ℕ → List ℕ → ℕ → ℕ → ℕ
-formTerm n m A χ vs e i = mulByte gf256 (byteAt χ (e * m + i)) (formByte n (matrixOf n A i) (coordinateOf vs e))
+abbrev formTerm : ℕ → ℕ → ℕ → List ℕ → List ℕ → List ℕ → ℕ → ℕ → ℕ
+formTerm d n m A χ vs e i = mulByte (fieldOf d) (byteAt χ (e * m + i)) (formByte d n (matrixOf n A i) (coordinateOf vs e))
 
-abbrev middleTerm : ℕ → ℕ → List ℕ → List ℕ → List ℕ → List ℕ → List ℕ → ℕ → ℕ → ℕ
-middleTerm n m A b xs χ vs e i = mulByte gf256 (byteAt χ (e * m + i)) (middleByte n (matrixOf n A i) (rowOf n b i) (byteAt xs) (coordinateOf vs e))
+abbrev middleTerm : ℕ → ℕ → ℕ → List ℕ → List ℕ → List ℕ → List ℕ → List ℕ → ℕ → ℕ → ℕ
+middleTerm d n m A b xs χ vs e i = mulByte (fieldOf d) (byteAt χ (e * m + i)) (middleByte n (matrixOf n A i) (rowOf n b i) (byteAt xs) (coordinateOf vs e))
 
 abbrev Inv-loop : tie.InvT-loop
-Inv-loop quad₀ lin₀ cells₀ a b xs chi vectors n m tau polar width size from₀ quad lin cells from = (from ≤ m) × (length quad ≡ lanes) × (length lin ≡ lanes) × ((e : ℕ) → e < tau → byteAt quad e ≡ bitXor (byteAt quad₀ e) (xorSum from (formTerm n m a chi vectors e))) × ((e : ℕ) → e < tau → byteAt lin e ≡ bitXor (byteAt lin₀ e) (xorSum from (middleTerm n m a b xs chi vectors e))) × (length cells ≡ length cells₀)
+Inv-loop quad₀ lin₀ cells₀ a b xs chi vectors n m tau polar degree width size from₀ quad lin cells from = (from ≤ m) × (length quad ≡ lanes) × (length lin ≡ lanes) × ((e : ℕ) → e < tau → byteAt quad e ≡ bitXor (byteAt quad₀ e) (xorSum from (formTerm degree n m a chi vectors e))) × ((e : ℕ) → e < tau → byteAt lin e ≡ bitXor (byteAt lin₀ e) (xorSum from (middleTerm degree n m a b xs chi vectors e))) × (length cells ≡ length cells₀)
 
 abbrev μ-loop : tie.MeasureT-loop
-μ-loop quad₀ lin₀ cells₀ a b xs chi vectors n m tau polar width size from₀ quad lin cells from = m - from
+μ-loop quad₀ lin₀ cells₀ a b xs chi vectors n m tau polar degree width size from₀ quad lin cells from = m - from
 
 add-width : tie.Need-add-width Inv-loop μ-loop
 add-width c = search needs
@@ -76,7 +76,7 @@ batch-block-requires c κs =
     let least = c .before .before .before .before .before .least .ensures in
     let more = c .before .before .before .before .before .before .loop-test .taken in
     let count : 0 < c .before .before .before .before .before .least .result = some (c .before .before .before .before .before) in
-    (c .before .before .before .before .before .before .before .loop .inv .1, c .before .before .before .before .before .before .before .loop .inv .2, c .before .before .before .before .before .before .before .before .before .before .before .before .before .before .before .before .pre .2, c .before .before .before .before .before .before .before .before .before .before .before .before .before .before .before .before .pre .3, c .before .before .before .before .before .before .before .before .before .before .before .before .before .before .before .before .pre .4, c .before .rows-at .ensures .1, c .rows-at2 .ensures .1, c .before .before .before .before .before .before .before .before .before .before .before .before .before .before .before .before .pre .7, c .before .before .before .before .before .before .before .before .before .before .before .before .before .before .before .before .pre .8, c .before .before .before .before .before .before .before .before .before .before .before .before .before .before .before .before .pre .9, omega (arith, c .before .before .before .before .before .before .before .loop .inv .5, c .before .before .before .before .before .before .before .before .before .before .before .before .before .before .before .before .pre .10), c .before .before .before .before .before .before .before .before .before .before .before .before .before .before .before .before .pre .11, c .before .before .before .before .before .before .before .before .before .before .before .before .before .before .before .before .pre .12, c .before .before .before .before .before .before .before .before .before .before .before .before .before .before .before .before .pre .13, c .before .before .before .before .before .before .before .before .before .before .before .before .before .before .before .before .pre .14, count, least .1, omega (arith, least .0, more))
+    (c .before .before .before .before .before .before .before .loop .inv .1, c .before .before .before .before .before .before .before .loop .inv .2, c .before .before .before .before .before .before .before .before .before .before .before .before .before .before .before .before .pre .2, c .before .before .before .before .before .before .before .before .before .before .before .before .before .before .before .before .pre .3, c .before .before .before .before .before .before .before .before .before .before .before .before .before .before .before .before .pre .4, c .before .rows-at .ensures .1, c .rows-at2 .ensures .1, c .before .before .before .before .before .before .before .before .before .before .before .before .before .before .before .before .pre .7, c .before .before .before .before .before .before .before .before .before .before .before .before .before .before .before .before .pre .8, c .before .before .before .before .before .before .before .before .before .before .before .before .before .before .before .before .pre .9, omega (arith, c .before .before .before .before .before .before .before .loop .inv .5, c .before .before .before .before .before .before .before .before .before .before .before .before .before .before .before .before .pre .10), c .before .before .before .before .before .before .before .before .before .before .before .before .before .before .before .before .pre .11, c .before .before .before .before .before .before .before .before .before .before .before .before .before .before .before .before .pre .12, c .before .before .before .before .before .before .before .before .before .before .before .before .before .before .before .before .pre .13, c .before .before .before .before .before .before .before .before .before .before .before .before .before .before .before .before .pre .14, count, least .1, omega (arith, least .0, more), c .before .before .before .before .before .before .before .before .before .before .before .before .before .before .before .before .pre .16)
 
 add-from : tie.Need-add-from Inv-loop μ-loop
 add-from c = omega (arith, c .before .before .before .before .before .before .before .before .before .before .before .before .least .ensures .0, c .before .before .before .before .before .before .before .before .before .before .before .before .before .loop-test .taken, c .before .before .before .before .before .before .before .before .before .before .before .before .before .before .before .before .before .before .before .before .before .before .before .pre .15)
@@ -98,12 +98,12 @@ loop-again c =
       done .kept .1 .0 ∙ l .inv .2,
       (λ e h.
           done .ensures .0 e h
-          ∙ ap (bitXor (byteAt (l .quad) e)) (ap (λ (M : List ℕ). blockForms (a .f .n) (a .f .m) (l .from) k M χ e (coordinateOf vs e)) (c .before .before .before .before .before .before .before .before .rows-at .ensures .0) ∙ forms-part (a .f .n) (a .f .m) (l .from) k e (now (a .a)) (now (a .b)) χ (coordinateOf vs e))
-          ∙ sums-more (byteAt (now (a .quad)) e) (byteAt (l .quad) e) (l .from) k (formTerm (a .f .n) (a .f .m) (now (a .a)) χ vs e) (l .inv .3 e h)),
+          ∙ ap (bitXor (byteAt (l .quad) e)) (ap (λ (M : List ℕ). blockForms (a .f .degree) (a .f .n) (a .f .m) (l .from) k M χ e (coordinateOf vs e)) (c .before .before .before .before .before .before .before .before .rows-at .ensures .0) ∙ forms-part (a .f .degree) (a .f .n) (a .f .m) (l .from) k e (now (a .a)) (now (a .b)) χ (coordinateOf vs e))
+          ∙ sums-more (byteAt (now (a .quad)) e) (byteAt (l .quad) e) (l .from) k (formTerm (a .f .degree) (a .f .n) (a .f .m) (now (a .a)) χ vs e) (l .inv .3 e h)),
       (λ e h.
           done .ensures .1 e h
-          ∙ ap (bitXor (byteAt (l .lin) e)) (ap₂ (λ (M r : List ℕ). blockMiddles (a .f .n) (a .f .m) (l .from) k M r (byteAt (now (a .xs))) χ e (coordinateOf vs e)) (c .before .before .before .before .before .before .before .before .rows-at .ensures .0) (c .before .before .before .before .before .before .before .rows-at2 .ensures .0) ∙ middles-part (a .f .n) (a .f .m) (l .from) k e (now (a .a)) (now (a .b)) χ (coordinateOf vs e) (byteAt (now (a .xs))))
-          ∙ sums-more (byteAt (now (a .lin)) e) (byteAt (l .lin) e) (l .from) k (middleTerm (a .f .n) (a .f .m) (now (a .a)) (now (a .b)) (now (a .xs)) χ vs e) (l .inv .4 e h)),
+          ∙ ap (bitXor (byteAt (l .lin) e)) (ap₂ (λ (M r : List ℕ). blockMiddles (a .f .degree) (a .f .n) (a .f .m) (l .from) k M r (byteAt (now (a .xs))) χ e (coordinateOf vs e)) (c .before .before .before .before .before .before .before .before .rows-at .ensures .0) (c .before .before .before .before .before .before .before .rows-at2 .ensures .0) ∙ middles-part (a .f .degree) (a .f .n) (a .f .m) (l .from) k e (now (a .a)) (now (a .b)) χ (coordinateOf vs e) (byteAt (now (a .xs))))
+          ∙ sums-more (byteAt (now (a .lin)) e) (byteAt (l .lin) e) (l .from) k (middleTerm (a .f .degree) (a .f .n) (a .f .m) (now (a .a)) (now (a .b)) (now (a .xs)) χ vs e) (l .inv .4 e h)),
       done .kept .1 .1 .0 ∙ l .inv .5,
     )
 

@@ -47,7 +47,7 @@ batch-forms-requires c κs =
     let a = c .before .before .before .before .before .before .before .before .before .before .before .before .before .before .before .args in
     let unpacked = c .before .before .before .before .before .unpack in
     let past : (k : ℕ) → a .d .n ≤ k → byteAt (unpacked .last .0) k ≡ 0 = λ k h. unpacked .ensures .1 k h ∙ zeros mostVariables k in
-    (pre .0, pre .1, pre .2, pre .3, pre .4, pre .5, pre .6, pre .7, pre .8, pre .9, pre .10, unpacked .kept .0, bits-lt (a .d .n) (now (a .x)) (unpacked .last .0) (unpacked .ensures .0) past, past, (λ e. absurd (false≢true (sym e))), pre .12)
+    (pre .0, pre .1, pre .2, pre .3, pre .4, pre .5, pre .6, pre .7, pre .8, pre .9, pre .10, unpacked .kept .0, bits-lt (a .d .n) (now (a .x)) (unpacked .last .0) (unpacked .ensures .0) past, past, (λ e. absurd (false≢true (sym e))), pre .12, pre .13)
 
 same-length : tie.Need-same-length
 same-length c = search needs
@@ -68,7 +68,7 @@ returns c =
       (λ e h.
           formed .ensures .1 e h
           ∙ ap (bitXor (byteAt (now (a .qs1)) e))
-          (batch-same (a .d .m) (λ q i. byteAt (now (a .chi)) (q * a .d .m + i)) e _ (λ i. middleByte n (matrixOf n (now (a .a)) i) (rowOf n (now (a .b)) i) (bit (now (a .x))) (coordinateOf (now (a .vectors)) e)) (λ i hi.
+          (batch-same (a .d .degree) (a .d .m) (λ q i. byteAt (now (a .chi)) (q * a .d .m + i)) e _ (λ i. middleByte n (matrixOf n (now (a .a)) i) (rowOf n (now (a .b)) i) (bit (now (a .x))) (coordinateOf (now (a .vectors)) e)) (λ i hi.
           middle-bits n (matrixOf n (now (a .a)) i) (rowOf n (now (a .b)) i) (coordinateOf (now (a .vectors)) e) (byteAt (unpacked .last .0)) (bit (now (a .x))) (unpacked .ensures .0)))),
     )
 

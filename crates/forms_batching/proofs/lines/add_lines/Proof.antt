@@ -11,7 +11,6 @@ use lib.ListN.{length}
 use lib.Bits.{bitXor, xor-zero-r}
 use Rattle.protocol.specs.Lists.{blockAt}
 use Rattle.protocol.specs.Shape.{mostVariables}
-use Rattle.field.specs.Degrees.{degree}
 use Rattle.strings.specs.Sums.{byteAt, xorSum}
 use Rattle.strings.proofs.Rows.{row-end}
 use Rattle.strings.proofs.XorLaws.{xor-assoc}
@@ -28,16 +27,16 @@ use Rattle.forms_batching.proofs.lines.add_lines.Statement.{statement}
 use Rattle.forms_batching.proofs.lines.add_lines.Tie as tie
 
 -- what coordinate c gives
-abbrev term : List ℕ → ℕ → (ℕ → ℕ → ℕ) → List ℕ → ℕ → ℕ → ℕ
-term L m χ vs e c = byteProduct degree (byteAt vs (e * mostVariables + c)) (lineSum L m χ e c)
+abbrev term : ℕ → List ℕ → ℕ → (ℕ → ℕ → ℕ) → List ℕ → ℕ → ℕ → ℕ
+term d L m χ vs e c = byteProduct d (byteAt vs (e * mostVariables + c)) (lineSum L m χ e c)
 
 abbrev Inv-loop : tie.InvT-loop
-Inv-loop mid₀ sums₀ lines words vectors n m tau groups g₀ mid sums g =
+Inv-loop mid₀ sums₀ lines words vectors n m tau groups degree g₀ mid sums g =
     (g * chunkBits < n + chunkBits) × (length mid ≡ lanes) × SumsRoom sums
-    × ((χ : ℕ → ℕ → ℕ) (e : ℕ) → IsBytes χ → ChosenAll χ m tau words → e < tau → byteAt mid e ≡ bitXor (byteAt mid₀ e) (xorSum (g * chunkBits) (upTo n (term lines m χ vectors e))))
+    × ((χ : ℕ → ℕ → ℕ) (e : ℕ) → IsBytes χ → ChosenAll χ m tau words → e < tau → byteAt mid e ≡ bitXor (byteAt mid₀ e) (xorSum (g * chunkBits) (upTo n (term degree lines m χ vectors e))))
 
 abbrev μ-loop : tie.MeasureT-loop
-μ-loop mid₀ sums₀ lines words vectors n m tau groups g₀ mid sums g = n + chunkBits - g * chunkBits
+μ-loop mid₀ sums₀ lines words vectors n m tau groups degree g₀ mid sums g = n + chunkBits - g * chunkBits
 
 loop-holds : tie.Need-loop-holds Inv-loop μ-loop
 unfolding xorSum
@@ -109,10 +108,10 @@ loop-again c =
       (λ χ e small chosen he.
           done .ensures S (λ q. upTo m (χ q)) m e (weighed-rows S (filled .last .0) (now (a .words)) χ m (a .s .groups) (a .s .tau) tabled long (pre .6 .1) (pre .6 .0 .0) small chosen) he
           ∙ ap₂ bitXor (l .inv .3 χ e small chosen he)
-          (sum-same (least .result) _ (λ j. term L m χ vs e (from + j)) (λ j h. ap (byteProduct degree (byteAt vs (e * mostVariables + (from + j)))) (line-sum L χ m e (l .g) j (omega (arith, h, least .ensures .0))))
-          ∙ products-table n from (least .result) (term L m χ vs e) (pre .3) (least .ensures .0) end (λ j h k. ap (λ (v : ℕ). byteProduct degree v (lineSum L m χ e j)) (pre .9 e j he h (omega (arith, k, inside))) ∙ product-zero degree _))
-          ∙ xor-assoc (byteAt (now (a .mid)) e) (xorSum from (upTo n (term L m χ vs e))) (xorSum chunkBits (λ j. upTo n (term L m χ vs e) (from + j)))
-          ∙ ap (bitXor (byteAt (now (a .mid)) e)) (sym (sum-parts from chunkBits (upTo n (term L m χ vs e))) ∙ ap (λ (k : ℕ). xorSum k (upTo n (term L m χ vs e))) next)),
+          (sum-same (least .result) _ (λ j. term (a .s .degree) L m χ vs e (from + j)) (λ j h. ap (byteProduct (a .s .degree) (byteAt vs (e * mostVariables + (from + j)))) (line-sum L χ m e (l .g) j (omega (arith, h, least .ensures .0))))
+          ∙ products-table n from (least .result) (term (a .s .degree) L m χ vs e) (pre .3) (least .ensures .0) end (λ j h k. ap (λ (v : ℕ). byteProduct (a .s .degree) v (lineSum L m χ e j)) (pre .9 e j he h (omega (arith, k, inside))) ∙ product-zero (a .s .degree) _))
+          ∙ xor-assoc (byteAt (now (a .mid)) e) (xorSum from (upTo n (term (a .s .degree) L m χ vs e))) (xorSum chunkBits (λ j. upTo n (term (a .s .degree) L m χ vs e) (from + j)))
+          ∙ ap (bitXor (byteAt (now (a .mid)) e)) (sym (sum-parts from chunkBits (upTo n (term (a .s .degree) L m χ vs e))) ∙ ap (λ (k : ℕ). xorSum k (upTo n (term (a .s .degree) L m χ vs e))) next)),
     )
 
 same-length : tie.Need-same-length Inv-loop μ-loop
@@ -126,7 +125,7 @@ returns c =
     let a = c .before .before .before .before .before .before .before .args in
     let l = c .before .loop in
     let all : a .s .n ≤ l .g * chunkBits = omega arith in
-    λ χ e small chosen he. l .inv .3 χ e small chosen he ∙ ap (bitXor (byteAt (now (a .mid)) e)) (products-all (a .s .n) (l .g * chunkBits) (term (now (a .lines)) (a .s .m) χ (now (a .vectors)) e) all)
+    λ χ e small chosen he. l .inv .3 χ e small chosen he ∙ ap (bitXor (byteAt (now (a .mid)) e)) (products-all (a .s .n) (l .g * chunkBits) (term (a .s .degree) (now (a .lines)) (a .s .m) χ (now (a .vectors)) e) all)
 
 pub add-lines-spec : {M : Type 1} → statement M
 add-lines-spec =

@@ -20,14 +20,14 @@ use Rattle.forms_batching.proofs.lines.add_products.Statement.{statemen
 use Rattle.forms_batching.proofs.lines.add_products.Tie as tie
 
 -- the batched line of repetition e times its vector
-abbrev term : List ℕ → (ℕ → ℕ → ℕ) → ℕ → List ℕ → ℕ → ℕ → ℕ → ℕ
-term S χ m vectors from count e = lineProduct vectors e from count (weighedLine S (χ e) m)
+abbrev term : ℕ → List ℕ → (ℕ → ℕ → ℕ) → ℕ → List ℕ → ℕ → ℕ → ℕ → ℕ
+term r S χ m vectors from count e = lineProduct r vectors e from count (weighedLine S (χ e) m)
 
 abbrev Inv-loop : tie.InvT-loop
-Inv-loop mid₀ tau words groups sums vectors from count e₀ mid e = (e ≤ tau) × (length mid ≡ lanes) × ((S : List ℕ) (χ : ℕ → ℕ → ℕ) (m d : ℕ) → ((q : ℕ) → q < tau → Weighed S (χ q) m sums words groups (q * 8)) → d < e → byteAt mid d ≡ bitXor (byteAt mid₀ d) (term S χ m vectors from count d)) × ((d : ℕ) → e ≤ d → byteAt mid d ≡ byteAt mid₀ d)
+Inv-loop mid₀ tau words groups sums vectors from count degree e₀ mid e = (e ≤ tau) × (length mid ≡ lanes) × ((S : List ℕ) (χ : ℕ → ℕ → ℕ) (m d : ℕ) → ((q : ℕ) → q < tau → Weighed S (χ q) m sums words groups (q * 8)) → d < e → byteAt mid d ≡ bitXor (byteAt mid₀ d) (term degree S χ m vectors from count d)) × ((d : ℕ) → e ≤ d → byteAt mid d ≡ byteAt mid₀ d)
 
 abbrev μ-loop : tie.MeasureT-loop
-μ-loop mid₀ tau words groups sums vectors from count e₀ mid e = tau - e
+μ-loop mid₀ tau words groups sums vectors from count degree e₀ mid e = tau - e
 
 loop-holds : tie.Need-loop-holds Inv-loop μ-loop
 loop-holds c = (search needs, c .before .before .before .before .pre .0, (λ S χ m d w h. absurd (omega arith)), λ d h. refl)

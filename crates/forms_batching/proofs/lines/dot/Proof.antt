@@ -1,71 +1,29 @@
--- `forms_batching::lines::dot` meets its contract. The invariant: the products of the coordinates below c are added.
+-- `forms_batching::lines::dot` meets its contract: the field is that of the branch.
 -- Assumes nothing.
 use borrow.Author.Needs.{needs}
-use Prim.Native.Nat.{ℕ, _-_, _≤_}
-use mathlib.Core.List.{List}
-use mathlib.Core.Path.{_≡_, refl, sym, ap₂, _∙_}
-use native.Mathlib.Omega.{arith}
+use mathlib.Core.Path.{sym, ap, _∙_}
 use denote.Ref.{now}
-use lib.Bits.{bitXor}
-use Rattle.field.specs.Degrees.{fieldOf, degree}
-use Rattle.strings.specs.Sums.{byteAt, xorSum}
-use Rattle.strings.proofs.SumLaws.{sum-more}
-use Rattle.forms_columns.specs.Stacks.{byteProduct}
+use Rattle.algebra.specs.Coded.{Coded}
+use Rattle.field.proofs.DegreeLaws.{field-four, field-other}
+use Rattle.forms_batching.specs.Lines.{dotOf}
 use Rattle.forms_batching.proofs.lines.dot.Statement.{statement}
 use Rattle.forms_batching.proofs.lines.dot.Tie as tie
 
-abbrev term : List ℕ → List ℕ → ℕ → ℕ
-term f t c = byteProduct degree (byteAt f c) (byteAt t c)
+dot-halves-requires : tie.Need-dot-halves-requires
+dot-halves-requires c κs = search needs
 
-abbrev Inv-loop : tie.InvT-loop
-Inv-loop f t count sum₀ c₀ sum c = (c ≤ count) × (sum ≡ xorSum c (term f t))
+dot-bytes-requires : tie.Need-dot-bytes-requires
+dot-bytes-requires c κs = search needs
 
-abbrev μ-loop : tie.MeasureT-loop
-μ-loop f t count sum₀ c₀ sum c = count - c
-
-loop-holds : tie.Need-loop-holds Inv-loop μ-loop
-unfolding xorSum
-loop-holds c = (search needs, refl)
-
-shared-slice-read-multiply : tie.Need-shared-slice-read-multiply Inv-loop μ-loop
-shared-slice-read-multiply c = search needs
-
-shared-slice-read-multiply-2 : tie.Need-shared-slice-read-multiply-2 Inv-loop μ-loop
-shared-slice-read-multiply-2 c = search needs
-
-multiply-requires : tie.Need-multiply-requires Inv-loop μ-loop
-multiply-requires c κs = search needs
-
-add-c : tie.Need-add-c Inv-loop μ-loop
-add-c c = search needs
-
-loop-less : tie.Need-loop-less Inv-loop μ-loop
-loop-less c = search needs
-
-loop-again : tie.Need-loop-again Inv-loop μ-loop
-unfolding byteProduct fieldOf
-loop-again c =
-    let a = c .before .before .before .before .before .before .before .args in
-    let l = c .before .before .before .before .loop in
-    (omega arith, ap₂ bitXor (l .inv .1) (c .multiply .ensures) ∙ sym (sum-more (l .c) (term (now (a .f)) (now (a .t)))))
-
-returns : tie.Need-returns Inv-loop μ-loop
+returns : tie.Need-returns
 returns c =
-    let l = c .before .loop in
-    let end : l .c ≡ c .before .before .before .before .args .count = omega arith in
-    rw end at (l .inv .1)
+    let a = c .before .before .before .before .args in
+    c .dot-halves .ensures ∙ sym (ap (λ (C : Coded). dotOf C (now (a .f)) (now (a .t)) (a .count)) (field-four (a .degree) (c .before .if1 .taken)))
+
+returns-2 : tie.Need-returns-2
+returns-2 c =
+    let a = c .before .before .before .before .args in
+    c .dot-bytes .ensures ∙ sym (ap (λ (C : Coded). dotOf C (now (a .f)) (now (a .t)) (a .count)) (field-other (a .degree) (c .before .if1 .left)))
 
 pub dot-spec : {M : Type 1} → statement M
-dot-spec =
-    tie.close
-    (tie.spec
-    Inv-loop
-    μ-loop
-    loop-holds
-    shared-slice-read-multiply
-    shared-slice-read-multiply-2
-    multiply-requires
-    add-c
-    loop-less
-    loop-again
-    returns)
+dot-spec = tie.close (tie.spec dot-halves-requires dot-bytes-requires returns returns-2)

@@ -11,7 +11,6 @@ use native.Mathlib.Omega.{arith}
 use denote.Ref.{now}
 use lib.ListN.{length, take, drop, length-take, length-drop}
 use lib.Seq.{getD-take, getD-drop}
-use Rattle.field.specs.Degrees.{degree}
 use Rattle.strings.specs.Sums.{byteAt, bitOf}
 use Rattle.strings.proofs.SumLaws.{sum-same}
 use Rattle.chunks.specs.Chunks.{cellAt}
@@ -109,6 +108,7 @@ dot-requires c κs =
     (part-long (now (a .vectors)) at (a .count) inside, omega (arith, pre .6, c .before .before .before .turn-half2 .kept .0, c .before .before .before .before .before .before .before .turn-half .kept .0))
 
 returns : tie.Need-returns
+unfolding byteProduct
 returns c =
     let a = c .before .before .before .before .before .before .before .before .before .before .before .before .before .before .before .before .before .args in
     let pre = c .before .before .before .before .before .before .before .before .before .before .before .before .before .before .before .before .before .pre in
@@ -123,7 +123,7 @@ returns c =
     c .dot .ensures
     ∙ sum-same (a .count) _ _ (λ j l.
     let small : j < chunkBits = omega (arith, l, pre .6) in
-    ap₂ (byteProduct degree) (part-byte vs at (a .count) j l ∙ ap (byteAt vs) (add-assoc (a .e * mostVariables) (a .from) j))
+    ap₂ (byteProduct (a .degree)) (part-byte vs at (a .count) j l ∙ ap (byteAt vs) (add-assoc (a .e * mostVariables) (a .from) j))
     (element-is S χ m (now (a .sums)) (now (a .words)) (a .groups) (a .e * 8) planes (byteAt elements j) j weighed (second .ensures .1 .1 j) small (looked .ensures)
     (λ p hp. both-turned planes (first .last .0) elements (first .ensures .0) (second .ensures .0) (second .ensures .1 .0) j p small hp)))
 

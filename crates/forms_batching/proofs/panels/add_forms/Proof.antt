@@ -11,7 +11,6 @@ use native.Mathlib.Omega.{arith}
 use denote.Ref.{now}
 use lib.ListN.{length}
 use lib.Bits.{bitXor, xor-zero-r}
-use Rattle.field.specs.Degrees.{degree}
 use Rattle.strings.specs.Sums.{byteAt, xorSum}
 use Rattle.lanes.specs.Lanes.{lanes}
 use Rattle.chunks.specs.Chunks.{chunk}
@@ -35,30 +34,30 @@ all-added false w size m A xs L₀ L i c on off none =
     ap (λ l. lineBit l m i c) (off refl) ∙ sym (ap (bitXor (lineBit L₀ m i c)) (left-none w size A (byteAt xs) i c (none refl)) ∙ xor-zero-r _)
 
 -- what r sixteens of rows of panel J give: to the form, and to half of the polar form
-abbrev quadTerm : ℕ → ℕ → ℕ → List ℕ → List ℕ → (ℕ → ℕ → ℕ) → ℕ → ℕ → ℕ → ℕ
-quadTerm n w m A vs χ e r J = partTerm n w m A χ e (coordinateOf vs e) (coordinateOf vs e) 0 r J
+abbrev quadTerm : ℕ → ℕ → ℕ → ℕ → List ℕ → List ℕ → (ℕ → ℕ → ℕ) → ℕ → ℕ → ℕ → ℕ
+quadTerm d n w m A vs χ e r J = partTerm d n w m A χ e (coordinateOf vs e) (coordinateOf vs e) 0 r J
 
-abbrev midTerm : ℕ → ℕ → ℕ → List ℕ → List ℕ → List ℕ → (ℕ → ℕ → ℕ) → ℕ → ℕ → ℕ → ℕ
-midTerm n w m A vs xs χ e r J = partTerm n w m A χ e (byteAt xs) (coordinateOf vs e) 0 r J
+abbrev midTerm : ℕ → ℕ → ℕ → ℕ → List ℕ → List ℕ → List ℕ → (ℕ → ℕ → ℕ) → ℕ → ℕ → ℕ → ℕ
+midTerm d n w m A vs xs χ e r J = partTerm d n w m A χ e (byteAt xs) (coordinateOf vs e) 0 r J
 
 -- the place of the walk: what is loaded, and how far the panel's number goes
 abbrev Held : ℕ → ℕ → ℕ → List ℕ → List ℕ → ℕ → ℕ → Type 0
 Held n w m A cells first top = FoldedSet n w m A top (first - top) (rowsOf (first - top) (endOf n first - top)) cells
 
 abbrev Inv-loop : tie.InvT-loop
-Inv-loop quad₀ mid₀ lines₀ cells₀ a words vectors xs s n m tau width polar sums₀ bits stacks₀ first₀ top₀ p₀ quad mid lines cells sums stacks first top p =
+Inv-loop quad₀ mid₀ lines₀ cells₀ a words vectors xs s n m tau width polar degree sums₀ bits stacks₀ first₀ top₀ p₀ quad mid lines cells sums stacks first top p =
     Walk first top × (first * 16 < n → first + p < endOf n first) × (first * 16 < n + 64) × (length quad ≡ lanes) × (length mid ≡ lanes) × SumsRoom sums
     × (length stacks ≡ lanes * (planes * chunk))
     × (length lines ≡ length lines₀) × (length cells ≡ length cells₀) × ((p ≡ 0 → ⊥) → Held n width m a cells first top)
     × ((R : ℕ → ℕ) → Walked n first top p R → (χ : ℕ → ℕ → ℕ) (e : ℕ) → IsBytes χ → ChosenAll χ m tau words → e < tau
-    → byteAt quad e ≡ bitXor (byteAt quad₀ e) (xorSum (panelsOf n) (λ J. quadTerm n width m a vectors χ e (R J) J)))
+    → byteAt quad e ≡ bitXor (byteAt quad₀ e) (xorSum (panelsOf n) (λ J. quadTerm degree n width m a vectors χ e (R J) J)))
     × ((R : ℕ → ℕ) → Walked n first top p R → (χ : ℕ → ℕ → ℕ) (e : ℕ) → IsBytes χ → ChosenAll χ m tau words → e < tau
-    → byteAt mid e ≡ bitXor (byteAt mid₀ e) (xorSum (panelsOf n) (λ J. midTerm n width m a vectors xs χ e (R J) J)))
+    → byteAt mid e ≡ bitXor (byteAt mid₀ e) (xorSum (panelsOf n) (λ J. midTerm degree n width m a vectors xs χ e (R J) J)))
     × (polar ≡ true → (R : ℕ → ℕ) → Walked n first top p R → (i c : ℕ) → i < m → c < n → AddedUpTo width (n * width) m a (byteAt xs) lines₀ lines i c (R (c / 16)))
     × (polar ≡ false → lines ≡ lines₀)
 
 abbrev μ-loop : tie.MeasureT-loop
-μ-loop quad₀ mid₀ lines₀ cells₀ a words vectors xs s n m tau width polar sums₀ bits stacks₀ first₀ top₀ p₀ quad mid lines cells sums stacks first top p =
+μ-loop quad₀ mid₀ lines₀ cells₀ a words vectors xs s n m tau width polar degree sums₀ bits stacks₀ first₀ top₀ p₀ quad mid lines cells sums stacks first top p =
     walkMeasure first top p
 
 slice-aggregate-widen : tie.Need-slice-aggregate-widen Inv-loop μ-loop
@@ -84,9 +83,9 @@ loop-holds c =
       refl,
       (λ later. absurd (later refl)),
       (λ R walked χ e small chosen he.
-          terms-none (a .s .n) (a .s .width) (a .s .m) A χ e (panelsOf (a .s .n)) (byteAt (now (a .quad)) e) (coordinateOf vs e) (coordinateOf vs e) R (walk-start (a .s .n) R walked)),
+          terms-none (a .s .degree) (a .s .n) (a .s .width) (a .s .m) A χ e (panelsOf (a .s .n)) (byteAt (now (a .quad)) e) (coordinateOf vs e) (coordinateOf vs e) R (walk-start (a .s .n) R walked)),
       (λ R walked χ e small chosen he.
-          terms-none (a .s .n) (a .s .width) (a .s .m) A χ e (panelsOf (a .s .n)) (byteAt (now (a .mid)) e) (byteAt (now (a .xs))) (coordinateOf vs e) R (walk-start (a .s .n) R walked)),
+          terms-none (a .s .degree) (a .s .n) (a .s .width) (a .s .m) A χ e (panelsOf (a .s .n)) (byteAt (now (a .mid)) e) (byteAt (now (a .xs))) (coordinateOf vs e) R (walk-start (a .s .n) R walked)),
       (λ on R walked i k hi hk.
           let none : R (k / 16) ≡ 0 = walk-start (a .s .n) R walked (k / 16) (omega arith) in
           rw none (added-start (a .s .width) (a .s .n * a .s .width) A (byteAt (now (a .xs))) i (a .s .m) (now (a .lines)) k)),
@@ -260,6 +259,7 @@ loop-again c =
     let left = c .before .before .before .before .before .before .before .before .before .before .before .before .before .before .before .before .before .add-left in
     let stacked = c .before .before .before .before .before .before .before .before .before .before .before .stack-part in
     let done = c .before .before .before .before .before .finish in
+    let d = a .s .degree in
     let n = a .s .n in
     let w = a .s .width in
     let m = a .s .m in
@@ -277,9 +277,9 @@ loop-again c =
     let folded : Folded n w m A (l .top) (piece .first + l .p) (piece .count) held = c .before .before .before .before .before .before .before .before .before .before .before .before .before .before .before .before .before .before .before .before .before .before .panel-of .ensures .1 n w (l .top) A loaded in
     let above : rows ≤ piece .first + l .p + 1 = least .0 in
     let column : (χ : ℕ → ℕ → ℕ) (e : ℕ) → IsBytes χ → ChosenAll χ m (a .s .tau) (now (a .words)) → e < a .s .tau → (s : ℕ) → s < 16 → J * 16 + s < n
-    → columnOf degree (stacked .last .0) e s ≡ rowsSum w (n * w) m A χ e (coordinateOf vs e) (l .top) rows (J * 16 + s) =
+    → columnOf d (stacked .last .0) e s ≡ rowsSum d w (n * w) m A χ e (coordinateOf vs e) (l .top) rows (J * 16 + s) =
     λ χ e small chosen he s hs col.
-    rw place at (stacked .ensures A χ n w (piece .first + l .p) (piece .count) e s folded (least .1) above small chosen (pre .18) he hs (omega (arith, col, place))) in
+    rw place at (stacked .ensures A χ n w (piece .first + l .p) (piece .count) e s folded (least .1) above small chosen (pre .18) (pre .19) he hs (omega (arith, col, place))) in
     let before : (R : ℕ → ℕ) → Walked n (r .first) (r .top) (r .p) R → Walked n (l .first) (l .top) (l .p + 1) R =
     next-walked n (l .first) (l .top) (l .p) piece r at next even (l .inv .0 .2) inside in
     let here : (R : ℕ → ℕ) → Walked n (l .first) (l .top) (l .p + 1) R → R J ≡ l .top + rows =
@@ -296,16 +296,16 @@ loop-again c =
       next-held n (l .first) (l .top) (l .p) piece r at next even (l .inv .0 .2) inside (Held n w m A (c .before .before .before .before .before .before .before .before .before .before .before .before .before .before .before .before .before .before .before .before .before .before .before .before .before .before .before .load .last .0)) (rw (at .1, at .3) at loaded),
       (λ R walked χ e small chosen he.
           let was = before R walked in
-          sum-walked n (l .first) (l .top) (l .p) R was few (quadTerm n w m A vs χ e) rows (partTerm n w m A χ e (coordinateOf vs e) (coordinateOf vs e) (l .top) rows J) (byteAt (now (a .quad)) e) (byteAt (l .quad) e) (byteAt (done .last .0) e) panel (here R was)
-          (term-parts n w m A χ e (coordinateOf vs e) (coordinateOf vs e) (l .top) rows J)
+          sum-walked n (l .first) (l .top) (l .p) R was few (quadTerm d n w m A vs χ e) rows (partTerm d n w m A χ e (coordinateOf vs e) (coordinateOf vs e) (l .top) rows J) (byteAt (now (a .quad)) e) (byteAt (l .quad) e) (byteAt (done .last .0) e) panel (here R was)
+          (term-parts d n w m A χ e (coordinateOf vs e) (coordinateOf vs e) (l .top) rows J)
           (l .inv .10 _ (back-walked n (l .first) (l .top) (l .p) R was few) χ e small chosen he)
-          (done .ensures .0 e he ∙ ap (bitXor (byteAt (l .quad) e)) (quad-is n w m A χ e (coordinateOf vs e) (l .top) rows J (columnOf degree (stacked .last .0) e) (column χ e small chosen he) (coordinateOf vs e) (λ k past low. pre .18 e k he past (omega (arith, low, panel, pre .4)))))),
+          (done .ensures .0 e he ∙ ap (bitXor (byteAt (l .quad) e)) (quad-is d n w m A χ e (coordinateOf vs e) (l .top) rows J (columnOf d (stacked .last .0) e) (column χ e small chosen he) (coordinateOf vs e) (λ k past low. pre .18 e k he past (omega (arith, low, panel, pre .4)))))),
       (λ R walked χ e small chosen he.
           let was = before R walked in
-          sum-walked n (l .first) (l .top) (l .p) R was few (midTerm n w m A vs xs χ e) rows (partTerm n w m A χ e (byteAt xs) (coordinateOf vs e) (l .top) rows J) (byteAt (now (a .mid)) e) (byteAt (l .mid) e) (byteAt (done .last .1 .0) e) panel (here R was)
-          (term-parts n w m A χ e (byteAt xs) (coordinateOf vs e) (l .top) rows J)
+          sum-walked n (l .first) (l .top) (l .p) R was few (midTerm d n w m A vs xs χ e) rows (partTerm d n w m A χ e (byteAt xs) (coordinateOf vs e) (l .top) rows J) (byteAt (now (a .mid)) e) (byteAt (l .mid) e) (byteAt (done .last .1 .0) e) panel (here R was)
+          (term-parts d n w m A χ e (byteAt xs) (coordinateOf vs e) (l .top) rows J)
           (l .inv .11 _ (back-walked n (l .first) (l .top) (l .p) R was few) χ e small chosen he)
-          (mid-is n w m A χ e (coordinateOf vs e) (l .top) rows J (columnOf degree (stacked .last .0) e) (column χ e small chosen he) (a .s .polar) xs (l .mid) (done .last .1 .0) (pre .13) (pre .14) (pre .15) (λ on. done .ensures .1 .0 on e he) (done .ensures .1 .1))),
+          (mid-is d n w m A χ e (coordinateOf vs e) (l .top) rows J (columnOf d (stacked .last .0) e) (column χ e small chosen he) (a .s .polar) xs (l .mid) (done .last .1 .0) (pre .13) (pre .14) (pre .15) (λ on. done .ensures .1 .0 on e he) (done .ensures .1 .1))),
       (λ on R walked.
           let was = before R walked in
           lines-walked n w m A (byteAt xs) (l .first) (l .top) (l .p) rows R was few held (now (a .lines)) (l .lines) (left .last .0)
@@ -341,6 +341,7 @@ returns c =
     let a = c .before .before .before .before .before .before .before .before .before .before .before .before .before .before .before .before .before .before .before .before .args in
     let pre = c .before .before .before .before .before .before .before .before .before .before .before .before .before .before .before .before .before .before .before .before .pre in
     let l = c .before .before .before .before .before .before .before .before .loop in
+    let d = a .s .degree in
     let n = a .s .n in
     let w = a .s .width in
     let m = a .s .m in
@@ -357,17 +358,17 @@ returns c =
     λ i k hi hk. all-added (a .s .polar) w (n * w) m A (now (a .xs)) L (l .lines) i k (λ on. added-end w (n * w) A x i m L (l .lines) k (k / 16 + 1) refl (l .inv .12 on (λ J. J + 1) all i k hi hk)) (l .inv .13) (pre .15) in (
       (λ χ e small chosen he.
           let y : ℕ → ℕ = coordinateOf vs e in
-          l .inv .10 (λ J. J + 1) all χ e small chosen he ∙ ap (bitXor (byteAt (now (a .quad)) e)) (terms-all n w m A χ e N y y ∙ form-is N n w m A χ e enough y (gone e he))),
+          l .inv .10 (λ J. J + 1) all χ e small chosen he ∙ ap (bitXor (byteAt (now (a .quad)) e)) (terms-all d n w m A χ e N y y ∙ form-is d N n w m A χ e enough y (gone e he))),
       (λ χ e small chosen he.
           let y : ℕ → ℕ = coordinateOf vs e in
-          let columns = xorSum N (λ J. xorSum 16 (λ s. byteProduct degree (x (J * 16 + s)) (leftSum w (n * w) m A χ e y J (J * 16 + s)))) in
-          let given = xorSum n (λ k. byteProduct degree (y k) (lineSum L m χ e k)) in
-          let added-left = xorSum N (λ J. xorSum 16 (λ s. byteProduct degree (y (J * 16 + s)) (leftSum w (n * w) m A χ e x J (J * 16 + s)))) in
+          let columns = xorSum N (λ J. xorSum 16 (λ s. byteProduct d (x (J * 16 + s)) (leftSum d w (n * w) m A χ e y J (J * 16 + s)))) in
+          let given = xorSum n (λ k. byteProduct d (y k) (lineSum L m χ e k)) in
+          let added-left = xorSum N (λ J. xorSum 16 (λ s. byteProduct d (y (J * 16 + s)) (leftSum d w (n * w) m A χ e x J (J * 16 + s)))) in
           c .before .before .before .add-lines .ensures χ e small chosen he
-          ∙ ap₂ bitXor (l .inv .11 (λ J. J + 1) all χ e small chosen he ∙ ap (bitXor (byteAt (now (a .mid)) e)) (terms-all n w m A χ e N x y))
-          (lines-added w (n * w) m A χ e small x (pre .13) N n enough y (gone e he) L (l .lines) added)
+          ∙ ap₂ bitXor (l .inv .11 (λ J. J + 1) all χ e small chosen he ∙ ap (bitXor (byteAt (now (a .mid)) e)) (terms-all d n w m A χ e N x y))
+          (lines-added d w (n * w) m A χ e x (pre .13) N n enough y (gone e he) L (l .lines) added)
           ∙ both-halves (byteAt (now (a .mid)) e) given added-left columns
-          ∙ ap (λ (v : ℕ). bitXor (bitXor (byteAt (now (a .mid)) e) v) given) (polar-is N n w m A χ e enough y (gone e he) x none)),
+          ∙ ap (λ (v : ℕ). bitXor (bitXor (byteAt (now (a .mid)) e) v) given) (polar-is d N n w m A χ e enough y (gone e he) x none)),
     )
 
 pub add-forms-spec : {M : Type 1} → statement M

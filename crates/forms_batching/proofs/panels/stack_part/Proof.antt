@@ -9,7 +9,6 @@ use denote.Ref.{now}
 use lib.ListN.{length, drop, length-take, length-append, List·getD-append}
 use lib.Seq.{length-take-le}
 use lib.Bits.{bitXor, xor-zero-l}
-use Rattle.field.specs.Degrees.{degree}
 use Rattle.strings.specs.Sums.{byteAt, xorSum}
 use Rattle.chunks.specs.Chunks.{chunk}
 use Rattle.forms_columns.specs.Stacks.{byteProduct, planes, stackOf, coordinateOf}
@@ -20,8 +19,8 @@ use Rattle.forms_batching.proofs.panels.stack_part.Statement.{statement
 use Rattle.forms_batching.proofs.panels.stack_part.Tie as tie
 
 -- the stacks that were cleared
-cleared : (r l : List ℕ) (k : ℕ) → length r ≡ k → ((b : ℕ) → b < length r → byteAt r b ≡ 0) → (e f z : ℕ) → e * (planes * chunk) + planes * chunk ≤ k → f < chunk → stackOf degree (r ++ l) e f z ≡ 0
-cleared r l k long zero e f z h hf = stack-none (r ++ l) e f z hf (λ b hb. List·getD-append r l 0 (e * (planes * chunk) + b) (omega arith) ∙ zero (e * (planes * chunk) + b) (omega arith))
+cleared : (d : ℕ) (r l : List ℕ) (k : ℕ) → length r ≡ k → ((b : ℕ) → b < length r → byteAt r b ≡ 0) → (e f z : ℕ) → e * (planes * chunk) + planes * chunk ≤ k → f < chunk → stackOf d (r ++ l) e f z ≡ 0
+cleared d r l k long zero e f z h hf = stack-none d (r ++ l) e f z hf (λ b hb. List·getD-append r l 0 (e * (planes * chunk) + b) (omega arith) ∙ zero (e * (planes * chunk) + b) (omega arith))
 
 mul-clear : tie.Need-mul-clear
 mul-clear c = search needs
@@ -60,12 +59,12 @@ returns c =
     let k : ℕ = a .s .tau * (planes * chunk) in
     let r = c .before .before .before .before .before .before .before .before .before .clear .last .0 in
     let front : length r ≡ k = c .before .before .before .before .before .before .before .before .before .clear .kept .0 ∙ length-take-le k (now (a .stacks)) (pre .0) in
-    let empty = cleared r (drop k (now (a .stacks))) k front (λ b h. c .before .before .before .before .before .before .before .before .before .clear .ensures b (omega (arith, h, c .before .before .before .before .before .before .before .before .before .clear .kept .0))) in
-    λ A χ n w J count e s folded held above small chosen end he hs col.
-    fold-is n w (a .s .m) A χ cells e (a .top) J count (a .rows) folded held above (coordinateOf (now (a .vectors)) e) (λ ρ past inside. end e ρ he past (omega (arith, inside, pre .3))) (collected .last .0) s hs col
+    let empty = cleared (a .s .degree) r (drop k (now (a .stacks))) k front (λ b h. c .before .before .before .before .before .before .before .before .before .clear .ensures b (omega (arith, h, c .before .before .before .before .before .before .before .before .before .clear .kept .0))) in
+    λ A χ n w J count e s folded held above small chosen end narrow he hs col.
+    fold-is (a .s .degree) n w (a .s .m) A χ cells e (a .top) J count (a .rows) folded held above (coordinateOf (now (a .vectors)) e) (λ ρ past inside. end e ρ he past (omega (arith, inside, pre .3))) (collected .last .0) s hs col
     (λ f hf.
-    collected .ensures χ e (s / 8) f (s % 8) small chosen he (omega arith) hf
-    ∙ ap (λ (x : ℕ). bitXor x (xorSum (a .rows) (λ q. byteProduct degree (coordinateOf (now (a .vectors)) e ((a .top + q) * 16 + f)) (cellSum cells (a .s .m) χ e q (s / 8 * 16 + f) (s % 8))))) (empty e (s / 8 * 16 + f) (s % 8) (omega (arith, he)) (omega (arith, hs, hf)))
+    collected .ensures χ e (s / 8) f (s % 8) small chosen narrow he (omega arith) hf
+    ∙ ap (λ (x : ℕ). bitXor x (xorSum (a .rows) (λ q. byteProduct (a .s .degree) (coordinateOf (now (a .vectors)) e ((a .top + q) * 16 + f)) (cellSum cells (a .s .m) χ e q (s / 8 * 16 + f) (s % 8))))) (empty e (s / 8 * 16 + f) (s % 8) (omega (arith, he)) (omega (arith, hs, hf)))
     ∙ xor-zero-l _)
 
 pub stack-part-spec : {M : Type 1} → statement M

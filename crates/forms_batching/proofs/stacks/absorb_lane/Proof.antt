@@ -2,7 +2,7 @@
 -- stand outside it.
 -- Assumes nothing.
 use borrow.Author.Needs.{needs}
-use Prim.Native.Nat.{ℕ, _+_, _*_, _-_, _≤_, _<_}
+use Prim.Native.Nat.{ℕ, _+_, _*_, _-_, _^_, _≤_, _<_}
 use mathlib.Core.List.{List}
 use mathlib.Core.Path.{_≡_, sym, ap, ap₂, _∙_}
 use native.Mathlib.Nat.{add-sub-cancel-left, add-assoc}
@@ -12,7 +12,7 @@ use lib.ListN.{length, length-take, length-drop}
 use borrow.Rule.Slice.PartMut.{putMid}
 use lib.Bits.{bitXor}
 use Rattle.protocol.specs.Lists.{part, blockAt}
-use Rattle.field.specs.Degrees.{degree}
+use Rattle.field.specs.Degrees.{degreeOf}
 use Rattle.strings.specs.Sums.{byteAt, bitOf, xorSum}
 use Rattle.strings.proofs.Rows.{row-byte, put-in, put-other}
 use Rattle.chunks.specs.Chunks.{chunk, cellAt, Masks}
@@ -83,23 +83,22 @@ returns c =
     let r = done .last .0 in
     let spreads = c .before .before .before .before .before .before .before .before .before .before .fill-halves in
     let v = spreads .last .0 in
-    let known = c .before .before .before .before .before .before .before .before .before .before .before .before .shared-slice-known3 .given in
     let e : at + planes * chunk - at ≡ planes * chunk = add-sub-cancel-left at (planes * chunk) in
     let fits : at + planes * chunk ≤ length l = c .before .before .before .before .before .before .before .before .before .before .before .before .before .before .before .before .pre .0 in
     let long : length (blockAt l (planes * chunk) (a .e)) ≡ planes * chunk = simp (length-take, length-drop) (omega arith) in
     let kept : length r ≡ planes * chunk = rw e at (done .kept .0) ∙ long in
     let filled = c .before .before .before .before .before .before .fill-masks in
-    let sums : ((S v : List ℕ) (χ : ℕ → ℕ) (m f z : ℕ) → Weighed S χ m (now (a .sums)) (now (a .words)) (a .groups) (a .e * 8) → Masks v (filled .last .0) → byteAt v f < 256 → f < chunk → stackAt degree r f z ≡ bitXor (stackAt degree (blockAt l (planes * chunk) (a .e)) f z) (byteProduct degree (byteAt v f) (xorSum m (λ i. bitOf (cellAt S i f) z * χ i)))) =
+    let sums : ((d : ℕ) (S v : List ℕ) (χ : ℕ → ℕ) (m f z : ℕ) → a .r ≡ degreeOf d → Weighed S χ m (now (a .sums)) (now (a .words)) (a .groups) (a .e * 8) → Masks v (filled .last .0) → byteAt v f < 2 ^ degreeOf d → f < chunk → stackAt d r f z ≡ bitXor (stackAt d (blockAt l (planes * chunk) (a .e)) f z) (byteProduct d (byteAt v f) (xorSum m (λ i. bitOf (cellAt S i f) z * χ i)))) =
     rw e at (done .ensures) in
     rw e (
-      (λ S χ m h f z weighed hh hf.
+      (λ d S χ m h f z is weighed narrow hh hf.
           let inside : h * 16 + f < chunk = omega arith in
           let lane : byteAt v (h * 16 + f) ≡ byteAt (now (a .vectors)) (a .e * mostVariables + (a .first + f)) = spreads .ensures h f hh hf ∙ ap (byteAt (now (a .vectors))) (add-assoc (a .e * mostVariables) (a .first) f) in
-          let small : byteAt v (h * 16 + f) < 256 = rw lane (known ((a .e * mostVariables) + (a .first + f)) .fits) in
-          stack-is (putMid at (planes * chunk) l r) r (a .e) (h * 16 + f) z inside (put-in at (planes * chunk) l r fits kept)
-          ∙ sums S v χ m (h * 16 + f) z weighed (filled .ensures) small inside
-          ∙ ap₂ (λ (x y : ℕ). bitXor x (byteProduct degree y (xorSum m (λ i. bitOf (cellAt S i (h * 16 + f)) z * χ i))))
-          (sym (stack-is l (blockAt l (planes * chunk) (a .e)) (a .e) (h * 16 + f) z inside (λ b h. sym (row-byte l (planes * chunk) (a .e) b h)))) lane),
+          let small : byteAt v (h * 16 + f) < 2 ^ degreeOf d = rw lane narrow in
+          stack-is d (putMid at (planes * chunk) l r) r (a .e) (h * 16 + f) z inside (put-in at (planes * chunk) l r fits kept)
+          ∙ sums d S v χ m (h * 16 + f) z is weighed (filled .ensures) small inside
+          ∙ ap₂ (λ (x y : ℕ). bitXor x (byteProduct d y (xorSum m (λ i. bitOf (cellAt S i (h * 16 + f)) z * χ i))))
+          (sym (stack-is d l (blockAt l (planes * chunk) (a .e)) (a .e) (h * 16 + f) z inside (λ b h. sym (row-byte l (planes * chunk) (a .e) b h)))) lane),
       put-other (a .e) (planes * chunk) l r fits kept,
     )
 

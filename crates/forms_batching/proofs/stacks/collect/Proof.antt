@@ -12,7 +12,7 @@ use denote.Ref.{now}
 use lib.ListN.{length}
 use lib.Bits.{bitXor, xor-zero-r}
 use Rattle.protocol.specs.Lists.{blockAt}
-use Rattle.field.specs.Degrees.{degree}
+use Rattle.field.specs.Degrees.{degreeOf}
 use Rattle.strings.specs.Sums.{byteAt, bitOf, xorSum}
 use Rattle.strings.proofs.Rows.{row-end, row-byte}
 use Rattle.strings.proofs.SumLaws.{sum-same, sum-none, sum-step}
@@ -22,15 +22,15 @@ use Rattle.forms_choices.specs.Entries.{Tabled, upTo, IsBytes, ChosenAll, Weigh
 use Rattle.forms_choices.proofs.ChoiceLaws.{up-to-first}
 use Rattle.forms_columns.specs.Stacks.{coordinateOf, byteProduct, planes, stackOf}
 use Rattle.protocol.specs.Shape.{mostVariables}
-use Rattle.forms_batching.specs.Batched.{cellSum, SumsRoom}
+use Rattle.forms_batching.specs.Batched.{cellSum, VectorsNarrow, SumsRoom}
 use Rattle.forms_batching.proofs.StackLaws.{stack-same}
 use Rattle.forms_batching.proofs.LineLaws.{weighed-rows}
 use Rattle.forms_batching.proofs.stacks.collect.Statement.{statement}
 use Rattle.forms_batching.proofs.stacks.collect.Tie as tie
 
 -- what the sixteen rows q add to a byte of the stack of repetition e
-abbrev term : List ℕ → ℕ → (ℕ → ℕ → ℕ) → List ℕ → ℕ → ℕ → ℕ → ℕ → ℕ → ℕ → ℕ
-term cells m χ vectors top e h f z q = byteProduct degree (coordinateOf vectors e ((top + q) * 16 + f)) (cellSum cells m χ e q (h * 16 + f) z)
+abbrev term : ℕ → List ℕ → ℕ → (ℕ → ℕ → ℕ) → List ℕ → ℕ → ℕ → ℕ → ℕ → ℕ → ℕ → ℕ
+term d cells m χ vectors top e h f z q = byteProduct d (coordinateOf vectors e ((top + q) * 16 + f)) (cellSum cells m χ e q (h * 16 + f) z)
 
 -- the first entry of a table of sums is 0
 first-zero : (S sums : List ℕ) (count f : ℕ) → 0 < count → Tabled S sums count → f < chunk → byteAt sums f ≡ 0
@@ -59,38 +59,41 @@ sum-is cells χ m e q f z h =
     ap₂ (λ x y. bitOf x z * y) (row-byte cells (m * chunk) q (i * chunk + f) inside ∙ ap (byteAt cells) (place q m i f)) (up-to-first m (χ e) i l))
 
 abbrev Inv-loop : tie.InvT-loop
-Inv-loop stacks₀ sums₀ cells words vectors top rows m tau groups q₀ stacks sums q =
+Inv-loop stacks₀ sums₀ cells words vectors top rows m tau groups r q₀ stacks sums q =
     (q ≤ rows) × (length stacks ≡ length stacks₀) × SumsRoom sums
-    × ((χ : ℕ → ℕ → ℕ) (e h f z : ℕ) → IsBytes χ → ChosenAll χ m tau words → e < tau → h < 2 → f < 16
-    → stackOf degree stacks e (h * 16 + f) z ≡ bitXor (stackOf degree stacks₀ e (h * 16 + f) z) (xorSum q (term cells m χ vectors top e h f z)))
+    × ((d : ℕ) (χ : ℕ → ℕ → ℕ) (e h f z : ℕ) → r ≡ degreeOf d → IsBytes χ → ChosenAll χ m tau words → VectorsNarrow d tau vectors → e < tau → h < 2 → f < 16
+    → stackOf d stacks e (h * 16 + f) z ≡ bitXor (stackOf d stacks₀ e (h * 16 + f) z) (xorSum q (term d cells m χ vectors top e h f z)))
 
 abbrev μ-loop : tie.MeasureT-loop
-μ-loop stacks₀ sums₀ cells words vectors top rows m tau groups q₀ stacks sums q = rows - q
+μ-loop stacks₀ sums₀ cells words vectors top rows m tau groups r q₀ stacks sums q = rows - q
+
+degree-of-requires : tie.Need-degree-of-requires Inv-loop μ-loop
+degree-of-requires c κs = search needs
 
 loop-holds : tie.Need-loop-holds Inv-loop μ-loop
 unfolding xorSum
 loop-holds c =
-    (search needs, refl, c .before .before .before .before .before .pre .1, λ χ e h f z s k l i j. sym (xor-zero-r _))
+    (search needs, refl, c .before .before .before .before .before .before .pre .1, λ d χ e h f z is s k n l i j. sym (xor-zero-r _))
 
 mul-row-at : tie.Need-mul-row-at Inv-loop μ-loop
 mul-row-at c = search needs
 
 row-at-requires : tie.Need-row-at-requires Inv-loop μ-loop
 row-at-requires c κs =
-    let a = c .before .before .before .before .before .before .before .before .args in
-    let pre = c .before .before .before .before .before .before .before .before .pre in
+    let a = c .before .before .before .before .before .before .before .before .before .args in
+    let pre = c .before .before .before .before .before .before .before .before .before .pre in
     let l = c .before .before .loop in
     omega (arith, pre .2, row-end (l .q) (a .rows) (a .s .m * chunk) (omega (arith, c .before .loop-test .taken)))
 
 fill-sums-requires : tie.Need-fill-sums-requires Inv-loop μ-loop
 fill-sums-requires c κs =
-    let pre = c .before .before .before .before .before .before .before .before .before .pre in
+    let pre = c .before .before .before .before .before .before .before .before .before .before .pre in
     let l = c .before .before .before .loop in
     (omega (arith, l .inv .2, pre .5, pre .8), c .row-at .ensures .1)
 
 add-first-requires : tie.Need-add-first-requires Inv-loop μ-loop
 add-first-requires c κs =
-    let pre = c .before .before .before .before .before .before .before .before .before .before .before .before .before .before .pre in
+    let pre = c .before .before .before .before .before .before .before .before .before .before .before .before .before .before .before .pre in
     let l = c .before .before .before .before .before .before .before .before .loop in
     (omega (arith, l .inv .1, pre .0, pre .6), omega (arith, l .inv .2, c .before .before .before .before .fill-sums .kept .0))
 
@@ -102,7 +105,7 @@ mul-absorb-lanes c = search needs
 
 absorb-lanes-requires : tie.Need-absorb-lanes-requires Inv-loop μ-loop
 absorb-lanes-requires c κs =
-    let pre = c .before .before .before .before .before .before .before .before .before .before .before .before .before .before .before .before .before .before .before .pre in
+    let pre = c .before .before .before .before .before .before .before .before .before .before .before .before .before .before .before .before .before .before .before .before .pre in
     let l = c .before .before .before .before .before .before .before .before .before .before .before .before .before .loop in
     let filled = c .before .before .before .before .before .before .before .before .before .fill-sums in
     let settled = c .before .before .before .before .add-first in (
@@ -117,7 +120,7 @@ absorb-lanes-requires c κs =
 
 add-q : tie.Need-add-q Inv-loop μ-loop
 add-q c =
-    let pre = c .before .before .before .before .before .before .before .before .before .before .before .before .before .before .before .before .before .before .before .before .before .before .pre in
+    let pre = c .before .before .before .before .before .before .before .before .before .before .before .before .before .before .before .before .before .before .before .before .before .before .before .pre in
     let few : c .before .before .before .before .before .before .before .before .before .before .before .before .before .before .before .before .loop .q ≤ mostVariables = omega (arith, pre .3, c .before .before .before .before .before .before .before .before .before .before .before .before .before .before .before .loop-test .taken) in
     search (needs, few)
 
@@ -126,8 +129,8 @@ loop-less c = search needs
 
 loop-again : tie.Need-loop-again Inv-loop μ-loop
 loop-again c =
-    let a = c .before .before .before .before .before .before .before .before .before .before .before .before .before .before .before .before .before .before .before .before .before .before .args in
-    let pre = c .before .before .before .before .before .before .before .before .before .before .before .before .before .before .before .before .before .before .before .before .before .before .pre in
+    let a = c .before .before .before .before .before .before .before .before .before .before .before .before .before .before .before .before .before .before .before .before .before .before .before .args in
+    let pre = c .before .before .before .before .before .before .before .before .before .before .before .before .before .before .before .before .before .before .before .before .before .before .before .pre in
     let l = c .before .before .before .before .before .before .before .before .before .before .before .before .before .before .before .before .loop in
     let row = c .before .before .before .before .before .before .before .before .before .before .before .before .before .row-at in
     let filled = c .before .before .before .before .before .before .before .before .before .before .before .before .fill-sums in
@@ -145,13 +148,13 @@ loop-again c =
       omega (arith, c .before .before .before .before .before .before .before .before .before .before .before .before .before .before .before .loop-test .taken),
       done .kept .0 ∙ settled .kept .0 ∙ l .inv .1,
       filled .kept .0 ∙ l .inv .2,
-      (λ χ e h f z small chosen he hh hf.
+      (λ d χ e h f z is small chosen narrow he hh hf.
           let inside : h * 16 + f < chunk = omega arith in
-          done .ensures S (λ q. upTo (a .s .m) (χ q)) (a .s .m) e h f z (all χ small chosen) he hh hf
-          ∙ ap₂ (λ (y x : ℕ). bitXor y (byteProduct degree (coordinateOf (now (a .vectors)) e ((a .top + l .q) * 16 + f)) x))
-          (stack-same (settled .last .0) (l .stacks) e (h * 16 + f) z inside (λ b k. same (e * (planes * chunk) + b)))
+          done .ensures d S (λ q. upTo (a .s .m) (χ q)) (a .s .m) e h f z is (all χ small chosen) narrow he hh hf
+          ∙ ap₂ (λ (y x : ℕ). bitXor y (byteProduct d (coordinateOf (now (a .vectors)) e ((a .top + l .q) * 16 + f)) x))
+          (stack-same d (settled .last .0) (l .stacks) e (h * 16 + f) z inside (λ b k. same (e * (planes * chunk) + b)))
           (sum-is cells χ (a .s .m) e (l .q) (h * 16 + f) z inside)
-          ∙ sum-step (stackOf degree (now (a .stacks)) e (h * 16 + f) z) (stackOf degree (l .stacks) e (h * 16 + f) z) (l .q) (term cells (a .s .m) χ (now (a .vectors)) (a .top) e h f z) (l .inv .3 χ e h f z small chosen he hh hf)),
+          ∙ sum-step (stackOf d (now (a .stacks)) e (h * 16 + f) z) (stackOf d (l .stacks) e (h * 16 + f) z) (l .q) (term d cells (a .s .m) χ (now (a .vectors)) (a .top) e h f z) (l .inv .3 d χ e h f z is small chosen narrow he hh hf)),
     )
 
 same-length : tie.Need-same-length Inv-loop μ-loop
@@ -162,10 +165,10 @@ same-length-2 c = search needs
 
 returns : tie.Need-returns Inv-loop μ-loop
 returns c =
-    let a = c .before .before .before .before .before .before .before .args in
+    let a = c .before .before .before .before .before .before .before .before .args in
     let l = c .before .loop in
     let end : l .q ≡ a .rows = omega arith in
-    rw end at (l .inv .3)
+    λ χ e h f z. (rw end at (l .inv .3)) (a .s .degree) χ e h f z (c .before .before .degree-of .ensures)
 
 pub collect-spec : {M : Type 1} → statement M
 collect-spec =
@@ -173,6 +176,7 @@ collect-spec =
     (tie.spec
     Inv-loop
     μ-loop
+    degree-of-requires
     loop-holds
     mul-row-at
     row-at-requires
