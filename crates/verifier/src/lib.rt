@@ -99,18 +99,19 @@ fn both_checks(
     )
 }
 
-// The verifier (01): questions 1 to 8, 12 to 15. It writes nothing.
+// The verifier (01): questions 16, 1 to 6, 17, 7, 8, 12, 13, 18, 14, 15. It writes nothing.
 pub fn verify(
     key: &[u8],
+    degree: u32,
     delta: &[u8],
     matrix: &[u8],
     batching: &[u8],
     opened: &[u8],
     proof: &[u8],
 ) -> Verdict
-    ensures { λ r. ⌜ answerOf r ≡ verifyAnswer bits256 (now (key .entry)) (now (delta .entry)) (now (matrix .entry)) (now (batching .entry)) (now (opened .entry)) (now (proof .entry)) ⌝ }
+    ensures { λ r. ⌜ answerOf r ≡ verifyAnswer (setting degree) (now (key .entry)) (now (delta .entry)) (now (matrix .entry)) (now (batching .entry)) (now (opened .entry)) (now (proof .entry)) ⌝ }
 {
-    let s = sizes_of(key);
+    let s = sizes_of(key, degree);
     let of_key = key_form(key, s);
     let Verdict::Accepted = of_key else {
         return of_key;

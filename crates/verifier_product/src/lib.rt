@@ -13,7 +13,6 @@ ghost use Rattle.forms_batching.specs.Batched.{CellsRoom};
 ghost use Rattle.forms_batching.specs.Lines.{VectorsEnd};
 ghost use Rattle.questions.specs.Facts.{KeyFacts, PlacesOf};
 ghost use Rattle.verifier_product.specs.Product.{KeyLanes, EquationsOf, valueByte, LeftSides, firstDiffering, SpaceRoom, FirstDiffers};
-use field::Gf256;
 use format::sizes::MOST_VARIABLES;
 use format::sizes::Sizes;
 use forms::batch::Forms;
@@ -97,6 +96,7 @@ fn product_lanes(
     let n = s.n;
     let m = s.m;
     let tau = s.tau;
+    let degree = s.degree;
     let mut linear = [0u8; LANES];
     let mut values = [0u8; LANES];
     let mut square = [0u8; LANES];
@@ -106,22 +106,23 @@ fn product_lanes(
         m,
         tau,
         polar: false,
+        degree,
     };
     batch_forms(left, &mut linear, cells, a, b, &zeros, chi, vectors, f);
     batch_values(&mut values, y, chi, m, tau);
-    lanes::accumulate(left, delta, &linear);
-    lanes::accumulate(&mut square, delta, delta);
-    lanes::accumulate(left, &square, &values);
+    lanes::accumulate(left, delta, &linear, degree);
+    lanes::accumulate(&mut square, delta, delta, degree);
+    lanes::accumulate(left, &square, &values, degree);
 }
 
 // The right side: the first repetition whose left side is not QS0_e + QS1_e·δ_e, or their number where none is.
-fn first_differing(left: &[u8], qs0: &[u8], qs1: &[u8], delta: &[u8]) -> usize
+fn first_differing(left: &[u8], qs0: &[u8], qs1: &[u8], delta: &[u8], degree: usize) -> usize
     requires { ⌜ (length (now delta) ≤ length (now left)) × (length (now qs0) ≡ length (now delta)) × (length (now qs1) ≡ length (now delta)) ⌝ }
     ensures { λ r. ⌜ r ≡ firstDiffering (now (left .entry)) (now (qs0 .entry)) (now (qs1 .entry)) (now (delta .entry)) ⌝ }
 {
     let mut e = 0;
     while e < delta.len() {
-        if left[e] != qs0[e] ^ Gf256::multiply(qs1[e], delta[e]) {
+        if left[e] != qs0[e] ^ field::multiply(degree, qs1[e], delta[e]) {
             return e;
         }
         e += 1;
@@ -181,5 +182,6 @@ pub fn check_product(
         proof_section(proof, places, QS0),
         proof_section(proof, places, QS1),
         delta,
+        s.degree,
     )
 }
