@@ -1,3 +1,4 @@
 pub mod BatchLaws
 pub mod FormsMeaning
 pub mod BlockSums
+pub mod NarrowLaws
