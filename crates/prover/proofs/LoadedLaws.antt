@@ -5,8 +5,7 @@ use mathlib.Core.Bool.{true}
 use mathlib.Core.List.{List, _++_}
 use Prim.Native.Nat.{ℕ, _+_, _*_, _-_, _≤_, _<_}
 use native.Mathlib.Omega.{arith}
-use lib.ListN.{length, take, replicate, length-replicate, List·getD-append}
-use lib.Seq.{getD-take}
+use lib.ListN.{length, replicate, length-replicate, List·getD-append}
 use Rattle.protocol.specs.Strings.{bytesFor}
 use Rattle.protocol.specs.Frames.{framedLength}
 use Rattle.protocol.specs.Binary.{bits256}
@@ -34,10 +33,6 @@ sums-more p q leaves τ w count long are e b l h = List·getD-append p q 0 (e * 
 
 pub table-more : (p q leaves : List ℕ) (τ w count : ℕ) → τ ≤ lanes → length p ≡ 8 * w * lanes → TableIs p leaves τ w count → TableIs (p ++ q) leaves τ w count
 table-more p q leaves τ w count few long is e c l h = List·getD-append p q 0 (c * lanes + e) (omega (arith, long, row-end c (8 * w) lanes h)) ∙ is e c l h
-
--- and so does its first part, as far as the table goes
-pub table-less : (tab leaves : List ℕ) (τ w count : ℕ) → τ ≤ lanes → TableIs tab leaves τ w count → TableIs (take (8 * w * lanes) tab) leaves τ w count
-table-less tab leaves τ w count few is e c l h = getD-take (8 * w * lanes) tab (c * lanes + e) 0 (omega (arith, row-end c (8 * w) lanes h)) ∙ is e c l h
 
 -- a key whose questions got a yes has its sections
 pub key-form : (s : Shape) (key : List ℕ) → KeyFacts bits256 s key → SizedKey bits256 s key

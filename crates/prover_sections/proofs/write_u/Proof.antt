@@ -1,4 +1,4 @@
--- `prover::framed::write_u` meets its contract: the count, and after it the hash of u, which is the section ũ.
+-- `prover_sections::write_u` meets its contract: the count, and after it the hash of u, which is the section ũ.
 -- Assumes nothing.
 use mathlib.Core.Path.{_≡_, refl, sym, ap, ap₂, _∙_, subst}
 use mathlib.Core.List.{List, [], _∷_, _++_}
@@ -21,11 +21,11 @@ use Rattle.format.proofs.SizeLaws.{in-limits, k-most, w-most, bytes-most, corre
 use Rattle.format.proofs.FitLaws.{n-fits, l-fits, variables-fit}
 use Rattle.sections.proofs.Writes.{framed-one, framed-two, rest-length, take-length}
 use borrow.Author.Needs.{needs}
-use Rattle.prover.specs.Hash.{hashBit}
+use Rattle.prover_sections.specs.Hash.{hashBit}
 use Rattle.hash.proofs.HashMeaning.{hash-length}
-use Rattle.prover.proofs.SumSections.{first-is-u, hash-is}
-use Rattle.prover.proofs.framed.write_u.Statement.{statement}
-use Rattle.prover.proofs.framed.write_u.Tie as tie
+use Rattle.prover_sections.proofs.SumSections.{first-is-u, hash-is}
+use Rattle.prover_sections.proofs.write_u.Statement.{statement}
+use Rattle.prover_sections.proofs.write_u.Tie as tie
 
 leaf-bytes-requires : tie.Need-leaf-bytes-requires
 leaf-bytes-requires c κs = search needs

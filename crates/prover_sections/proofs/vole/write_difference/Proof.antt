@@ -1,4 +1,4 @@
--- `prover::vole::write_difference` meets its contract. The bits of the sum below n are kept, and those from n on are 0,
+-- `prover_sections::vole::write_difference` meets its contract. The bits of the sum below n are kept, and those from n on are 0,
 -- so that it is packed.
 -- Assumes nothing.
 use mathlib.Core.Path.{_≡_, ap, _∙_}
@@ -10,8 +10,8 @@ use Rattle.protocol.specs.Strings.{bytesFor, bit}
 use Rattle.strings.proofs.BitLaws.{xor-bits, take-bit}
 use Rattle.strings.proofs.Packed.{packed}
 use borrow.Author.Needs.{needs}
-use Rattle.prover.proofs.vole.write_difference.Statement.{statement}
-use Rattle.prover.proofs.vole.write_difference.Tie as tie
+use Rattle.prover_sections.proofs.vole.write_difference.Statement.{statement}
+use Rattle.prover_sections.proofs.vole.write_difference.Tie as tie
 
 slice-aggregate-xor-of : tie.Need-slice-aggregate-xor-of
 slice-aggregate-xor-of c = simp length-take (omega arith)

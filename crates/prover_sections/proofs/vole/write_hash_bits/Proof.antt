@@ -1,4 +1,4 @@
--- `prover::vole::write_hash_bits` meets its contract. The invariant: the bits below rho are done, the others are 0.
+-- `prover_sections::vole::write_hash_bits` meets its contract. The invariant: the bits below rho are done, the others are 0.
 -- Assumes nothing.
 use borrow.Author.Needs.{needs}
 use borrow.Author.Count.{below-more}
@@ -13,10 +13,10 @@ use Rattle.strings.specs.Sums.{byteAt, bitOf}
 use Rattle.strings.proofs.Rows.{row-end}
 use Rattle.strings.proofs.Meaning.{bit-is, bitOf-zero}
 use Rattle.strings.proofs.Packed.{packed}
-use Rattle.prover.specs.Hash.{hashBit}
-use Rattle.prover.proofs.HashLaws.{hash-bit-lt}
-use Rattle.prover.proofs.vole.write_hash_bits.Statement.{statement}
-use Rattle.prover.proofs.vole.write_hash_bits.Tie as tie
+use Rattle.prover_sections.specs.Hash.{hashBit}
+use Rattle.prover_sections.proofs.HashLaws.{hash-bit-lt}
+use Rattle.prover_sections.proofs.vole.write_hash_bits.Statement.{statement}
+use Rattle.prover_sections.proofs.vole.write_hash_bits.Tie as tie
 
 abbrev Inv-loop : tie.InvT-loop
 Inv-loop out₀ matrix u k t rho₀ out rho = (rho ≤ t) × (length out ≡ length out₀) × ((c : ℕ) → c < rho → bit out c ≡ hashBit matrix u k c) × ((i : ℕ) → byteAt out i < 256) × ((c : ℕ) → rho ≤ c → c < length out * 8 → bit out c ≡ 0)

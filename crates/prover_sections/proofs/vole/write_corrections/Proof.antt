@@ -1,4 +1,4 @@
--- `prover::vole::write_corrections` meets its contract. The invariant: the rows below e are done.
+-- `prover_sections::vole::write_corrections` meets its contract. The invariant: the rows below e are done.
 -- Assumes nothing.
 use borrow.Author.Needs.{needs}
 use Prim.Native.Nat.{_+_, _*_, _-_, _≤_}
@@ -10,8 +10,8 @@ use lib.ListN.{length}
 use Rattle.strings.specs.Sums.{byteAt}
 use Rattle.strings.proofs.Rows.{row-end, rows-more}
 use Rattle.tables.specs.Sums.{CorrectionsAre}
-use Rattle.prover.proofs.vole.write_corrections.Statement.{statement}
-use Rattle.prover.proofs.vole.write_corrections.Tie as tie
+use Rattle.prover_sections.proofs.vole.write_corrections.Statement.{statement}
+use Rattle.prover_sections.proofs.vole.write_corrections.Tie as tie
 
 abbrev Inv-loop : tie.InvT-loop
 Inv-loop out₀ sums tau w e₀ out e = (e ≤ tau - 1) × (length out ≡ length out₀) × CorrectionsAre out sums e w

@@ -7,7 +7,7 @@ ghost use Rattle.protocol.specs.Strings.{bytesFor, bit, pack};
 ghost use Rattle.strings.specs.Sums.{byteAt};
 ghost use Rattle.lanes.specs.Lanes.{lanes};
 ghost use Rattle.tables.specs.Sums.{CorrectionsAre};
-ghost use Rattle.prover.specs.Hash.{hashBit};
+ghost use Rattle.prover_sections.specs.Hash.{hashBit};
 
 // C_(e+1) = u_(e+1) + u, as row e of the section.
 fn write_correction(out: &mut [u8], sums: &[u8], e: usize, w: usize)

@@ -1,4 +1,4 @@
--- `prover::vole::write_correction` meets its contract. The sum of two rows of the sums is put in row e of the section.
+-- `prover_sections::vole::write_correction` meets its contract. The sum of two rows of the sums is put in row e of the section.
 -- Assumes nothing.
 use Prim.Native.Nat.{ℕ, _+_, _*_, _-_, _≤_, _<_}
 use mathlib.Core.Path.{_≡_, ap, ap₂, _∙_}
@@ -12,8 +12,8 @@ use Rattle.protocol.specs.Lists.{part, blockAt}
 use Rattle.strings.specs.Sums.{byteAt}
 use Rattle.strings.proofs.Rows.{row-byte, put-in, put-other}
 use borrow.Author.Needs.{needs}
-use Rattle.prover.proofs.vole.write_correction.Statement.{statement}
-use Rattle.prover.proofs.vole.write_correction.Tie as tie
+use Rattle.prover_sections.proofs.vole.write_correction.Statement.{statement}
+use Rattle.prover_sections.proofs.vole.write_correction.Tie as tie
 
 add-row-at : tie.Need-add-row-at
 add-row-at c = search needs

@@ -1,9 +1,8 @@
 // The sections C, d, ũ and Ṽ, each after its count, written where the output has them.
+mod vole;
+
 ghost use Rattle.format.specs.Sizes.{alphabetFor, shapeFor};
-ghost use Rattle.prover.specs.Framed.{CReady, CWritten, DReady, DWritten, UReady, UWritten, VReady, VWritten};
-use super::vole::write_corrections;
-use super::vole::write_difference;
-use super::vole::write_hash_bits;
+ghost use Rattle.prover_sections.specs.Framed.{CReady, CWritten, DReady, DWritten, UReady, UWritten, VReady, VWritten};
 use format::Sizes;
 use format::sizes::hashed_bits;
 use format::sizes::leaf_bytes;
@@ -13,6 +12,9 @@ use sections::COUNT;
 use sections::frames::put_count;
 use strings::BITS;
 use strings::row_at;
+use vole::write_corrections;
+use vole::write_difference;
+use vole::write_hash_bits;
 
 // C, from the u_e.
 pub fn write_c(out: &mut [u8], sums: &[u8], s: Sizes)

@@ -1,4 +1,4 @@
--- `prover::framed::write_c` meets its contract: the count, and after it the corrections, which are the section C.
+-- `prover_sections::write_c` meets its contract: the count, and after it the corrections, which are the section C.
 -- Assumes nothing.
 use mathlib.Core.Path.{_≡_, refl, sym, ap, ap₂, _∙_, subst}
 use mathlib.Core.List.{List, [], _∷_, _++_}
@@ -22,9 +22,9 @@ use Rattle.format.proofs.FitLaws.{n-fits, l-fits, variables-fit}
 use Rattle.sections.proofs.Writes.{framed-one, framed-two, rest-length, take-length}
 use borrow.Author.Needs.{needs}
 use Rattle.tables.specs.Sums.{CorrectionsAre}
-use Rattle.prover.proofs.SumSections.{corrections-are}
-use Rattle.prover.proofs.framed.write_c.Statement.{statement}
-use Rattle.prover.proofs.framed.write_c.Tie as tie
+use Rattle.prover_sections.proofs.SumSections.{corrections-are}
+use Rattle.prover_sections.proofs.write_c.Statement.{statement}
+use Rattle.prover_sections.proofs.write_c.Tie as tie
 
 leaf-bytes-requires : tie.Need-leaf-bytes-requires
 leaf-bytes-requires c κs = search needs

@@ -31,7 +31,7 @@ use Rattle.strings.proofs.Meaning.{bitOf-xor, bit-is, byte-sum, byte-bit, byte-
 use Rattle.strings.proofs.SumLaws.{sum-same, sum-short}
 use Rattle.strings.proofs.ProductLaws.{product-lt}
 use Rattle.strings.proofs.Packed.{packed, rows-are}
-use Rattle.prover.specs.Hash.{hashBit}
+use Rattle.prover_sections.specs.Hash.{hashBit}
 use Rattle.tables.specs.Sums.{SumsAre, CorrectionsAre}
 use Rattle.tables.proofs.SumsMeaning.{byteOf, u-lt, u-spare, sums-u}
 

@@ -7,7 +7,7 @@ use Rattle.protocol.specs.Lists.{blockAt}
 use Rattle.protocol.specs.Strings.{bytesFor}
 use Rattle.protocol.proofs.StringLaws.{bit-lt}
 use Rattle.strings.proofs.ProductLaws.{product-lt}
-use Rattle.prover.specs.Hash.{hashBit}
+use Rattle.prover_sections.specs.Hash.{hashBit}
 
 pub hash-bit-lt : (H′ u : List ℕ) (k ρ : ℕ) → hashBit H′ u k ρ < 2
 hash-bit-lt H′ u k ρ =

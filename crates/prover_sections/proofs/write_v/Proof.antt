@@ -1,4 +1,4 @@
--- `prover::framed::write_v` meets its contract: the count, and after it the hashed lanes, which are the section Ṽ.
+-- `prover_sections::write_v` meets its contract: the count, and after it the hashed lanes, which are the section Ṽ.
 -- Assumes nothing.
 use mathlib.Core.Path.{_≡_, refl, sym, ap, ap₂, _∙_, subst}
 use mathlib.Core.List.{List, [], _∷_, _++_}
@@ -22,10 +22,10 @@ use Rattle.format.proofs.FitLaws.{n-fits, l-fits, variables-fit}
 use Rattle.sections.proofs.Writes.{framed-one, framed-two, rest-length, take-length}
 use borrow.Author.Needs.{needs}
 use Rattle.lanes.specs.Lanes.{lanes}
-use Rattle.prover.proofs.HashSections.{hashed-are}
-use Rattle.prover.proofs.LoadedLaws.{table-less}
-use Rattle.prover.proofs.framed.write_v.Statement.{statement}
-use Rattle.prover.proofs.framed.write_v.Tie as tie
+use Rattle.prover_sections.proofs.HashSections.{hashed-are}
+use Rattle.prover_sections.proofs.HashSections.{table-less}
+use Rattle.prover_sections.proofs.write_v.Statement.{statement}
+use Rattle.prover_sections.proofs.write_v.Tie as tie
 
 leaf-bytes-requires : tie.Need-leaf-bytes-requires
 leaf-bytes-requires c κs = search needs

@@ -1,4 +1,4 @@
--- `prover::framed::write_d` meets its contract: the count, and after it the difference, which is the section d.
+-- `prover_sections::write_d` meets its contract: the count, and after it the difference, which is the section d.
 -- Assumes nothing.
 use mathlib.Core.Path.{_≡_, refl, sym, ap, ap₂, _∙_, subst}
 use mathlib.Core.List.{List, [], _∷_, _++_}
@@ -21,9 +21,9 @@ use Rattle.format.proofs.SizeLaws.{in-limits, k-most, w-most, bytes-most, corre
 use Rattle.format.proofs.FitLaws.{n-fits, l-fits, variables-fit}
 use Rattle.sections.proofs.Writes.{framed-one, framed-two, rest-length, take-length}
 use borrow.Author.Needs.{needs}
-use Rattle.prover.proofs.SumSections.{first-is-u, difference-is}
-use Rattle.prover.proofs.framed.write_d.Statement.{statement}
-use Rattle.prover.proofs.framed.write_d.Tie as tie
+use Rattle.prover_sections.proofs.SumSections.{first-is-u, difference-is}
+use Rattle.prover_sections.proofs.write_d.Statement.{statement}
+use Rattle.prover_sections.proofs.write_d.Tie as tie
 
 leaf-bytes-requires : tie.Need-leaf-bytes-requires
 leaf-bytes-requires c κs = search needs

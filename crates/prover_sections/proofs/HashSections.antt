@@ -3,9 +3,10 @@
 use mathlib.Core.Path.{_≡_, refl, sym, ap, ap₂, _∙_}
 use mathlib.Core.Bool.{true}
 use mathlib.Core.List.{List}
-use Prim.Native.Nat.{ℕ, _+_, _*_, _<_}
+use Prim.Native.Nat.{ℕ, _+_, _*_, _≤_, _<_}
 use native.Mathlib.Omega.{arith}
-use lib.ListN.{length, getD}
+use lib.ListN.{length, getD, take}
+use lib.Seq.{getD-take}
 use Rattle.protocol.specs.Lists.{table, blockAt}
 use Rattle.protocol.specs.Strings.{bytesFor}
 use Rattle.protocol.specs.Binary.{bits256}
@@ -14,7 +15,7 @@ use Rattle.protocol.specs.Forms.{hash}
 use Rattle.protocol.specs.Prover.{v, ṼSection}
 use Rattle.protocol.specs.Questions.{hExact}
 use Rattle.protocol.proofs.TestLaws.{eqb-eq}
-use Rattle.protocol.proofs.ListLaws.{length-table, table-at}
+use Rattle.protocol.proofs.ListLaws.{row-end, length-table, table-at}
 use Rattle.strings.specs.Sums.{byteAt}
 use Rattle.lanes.specs.Lanes.{lanes}
 use Rattle.tables.specs.Sums.{TableIs}
@@ -35,3 +36,7 @@ hashed-are s leaves H′ tab out f is long at =
     at e ρ le l
     ∙ hash-lane-is s H′ tab (v bits256 s leaves e) ρ e (f .hash-exact) (f .hash-spare) l (λ c h. table-v s leaves e c tab (s .τ) is le (in-width s c h))
     ∙ sym (table-at (s .t) (λ ρ. byteOf (hash bits256 s H′ ρ (v bits256 s leaves e))) 0 ρ l))
+
+-- what a table holds, its first part holds, as far as the table goes
+pub table-less : (tab leaves : List ℕ) (τ w count : ℕ) → τ ≤ lanes → TableIs tab leaves τ w count → TableIs (take (8 * w * lanes) tab) leaves τ w count
+table-less tab leaves τ w count few is e c l h = getD-take (8 * w * lanes) tab (c * lanes + e) 0 (omega (arith, row-end c (8 * w) lanes h)) ∙ is e c l h

@@ -1,4 +1,4 @@
--- `prover::vole::hash_bit` meets its contract. The row product reads no more of u than the row's bytes.
+-- `prover_sections::vole::hash_bit` meets its contract. The row product reads no more of u than the row's bytes.
 -- Assumes nothing.
 use Prim.Native.Nat.{_*_}
 use mathlib.Core.Path.{ap, ap₂, _∙_}
@@ -12,8 +12,8 @@ use Rattle.strings.specs.Products.{bitProduct}
 use Rattle.strings.proofs.SumLaws.{sum-same}
 use Rattle.strings.proofs.BitLaws.{take-bit}
 use borrow.Author.Needs.{needs}
-use Rattle.prover.proofs.vole.hash_bit.Statement.{statement}
-use Rattle.prover.proofs.vole.hash_bit.Tie as tie
+use Rattle.prover_sections.proofs.vole.hash_bit.Statement.{statement}
+use Rattle.prover_sections.proofs.vole.hash_bit.Tie as tie
 
 add-width : tie.Need-add-width
 add-width c = search needs
