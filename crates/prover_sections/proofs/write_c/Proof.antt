@@ -11,12 +11,11 @@ use lib.Bits.{bitXor}
 use Rattle.protocol.specs.Lists.{blockAt}
 use Rattle.protocol.specs.Strings.{bytesFor, bit, pack}
 use Rattle.protocol.specs.Frames.{frame, framedLength}
-use Rattle.protocol.specs.Binary.{bits256}
 use Rattle.protocol.specs.Shape.{Shape, limits, kOf, wOf}
 use Rattle.protocol.specs.Sections.{commitLengths, hashLengths}
 use Rattle.protocol.specs.Prover.{cSection, dSection, ũSection, ṼSection, qs0Section, qs1Section}
 use Rattle.protocol.proofs.ListLaws.{row-end}
-use Rattle.format.specs.Sizes.{shapeFor}
+use Rattle.format.specs.Sizes.{alphabetFor, shapeFor}
 use Rattle.format.proofs.SizeLaws.{in-limits, k-most, w-most, bytes-most, corrections-most, hashed-most, row-most}
 use Rattle.format.proofs.FitLaws.{n-fits, l-fits, variables-fit}
 use Rattle.sections.proofs.Writes.{framed-one, framed-two, rest-length, take-length}
@@ -57,7 +56,7 @@ part-write-corrections-end c = search needs
 
 write-corrections-requires : tie.Need-write-corrections-requires
 write-corrections-requires c κs =
-    rw (c .before .before .before .before .before .leaf-bytes .ensures) (c .before .before .before .before .before .before .before .before .pre .1, rest-length 4 ((c .before .before .before .before .before .before .before .before .args .s .tau - 1) * wOf bits256 (shapeFor (c .before .before .before .before .before .before .before .before .args .s))) (c .before .before .before .put-count .last .0) (now (c .before .before .before .before .before .before .before .before .args .out)) (c .before .before .before .put-count .kept .0 ∙ simp length-take (omega arith)) (c .before .before .before .before .before .before .before .before .pre .2), in-limits (shapeFor (c .before .before .before .before .before .before .before .before .args .s)) (c .before .before .before .before .before .before .before .before .pre .0) .τ-most)
+    rw (c .before .before .before .before .before .leaf-bytes .ensures) (c .before .before .before .before .before .before .before .before .pre .1, rest-length 4 ((c .before .before .before .before .before .before .before .before .args .s .tau - 1) * wOf (alphabetFor (c .before .before .before .before .before .before .before .before .args .s)) (shapeFor (c .before .before .before .before .before .before .before .before .args .s))) (c .before .before .before .put-count .last .0) (now (c .before .before .before .before .before .before .before .before .args .out)) (c .before .before .before .put-count .kept .0 ∙ simp length-take (omega arith)) (c .before .before .before .before .before .before .before .before .pre .2), in-limits (shapeFor (c .before .before .before .before .before .before .before .before .args .s)) (c .before .before .before .before .before .before .before .before .pre .0) .τ-most)
 
 same-length : tie.Need-same-length
 same-length c = search needs
@@ -69,10 +68,10 @@ returns c =
     let count = c .before .before .before .before .before .before .put-count in
     let corrected = c .before .before .write-corrections in
     let leaf = c .before .before .before .before .before .before .before .before .leaf-bytes in
-    let written : CorrectionsAre (c .before .before .write-corrections .last .0) (now (c .before .before .before .before .before .before .before .before .before .before .before .args .sums)) (c .before .before .before .before .before .before .before .before .before .before .before .args .s .tau - 1) (wOf bits256 (shapeFor (c .before .before .before .before .before .before .before .before .before .before .before .args .s))) = rw (leaf .ensures) at (corrected .ensures) in
-    let long : length (c .before .before .write-corrections .last .0) ≡ (c .before .before .before .before .before .before .before .before .before .before .before .args .s .tau - 1) * wOf bits256 (shapeFor (c .before .before .before .before .before .before .before .before .before .before .before .args .s)) = corrected .kept .0 ∙ rest-length 4 ((c .before .before .before .before .before .before .before .before .before .before .before .args .s .tau - 1) * wOf bits256 (shapeFor (c .before .before .before .before .before .before .before .before .before .before .before .args .s))) (c .before .before .before .before .before .before .put-count .last .0) (now (c .before .before .before .before .before .before .before .before .before .before .before .args .out)) (c .before .before .before .before .before .before .put-count .kept .0 ∙ simp length-take (omega arith)) (c .before .before .before .before .before .before .before .before .before .before .before .pre .2) in
+    let written : CorrectionsAre (c .before .before .write-corrections .last .0) (now (c .before .before .before .before .before .before .before .before .before .before .before .args .sums)) (c .before .before .before .before .before .before .before .before .before .before .before .args .s .tau - 1) (wOf (alphabetFor (c .before .before .before .before .before .before .before .before .before .before .before .args .s)) (shapeFor (c .before .before .before .before .before .before .before .before .before .before .before .args .s))) = rw (leaf .ensures) at (corrected .ensures) in
+    let long : length (c .before .before .write-corrections .last .0) ≡ (c .before .before .before .before .before .before .before .before .before .before .before .args .s .tau - 1) * wOf (alphabetFor (c .before .before .before .before .before .before .before .before .before .before .before .args .s)) (shapeFor (c .before .before .before .before .before .before .before .before .before .before .before .args .s)) = corrected .kept .0 ∙ rest-length 4 ((c .before .before .before .before .before .before .before .before .before .before .before .args .s .tau - 1) * wOf (alphabetFor (c .before .before .before .before .before .before .before .before .before .before .before .args .s)) (shapeFor (c .before .before .before .before .before .before .before .before .before .before .before .args .s))) (c .before .before .before .before .before .before .put-count .last .0) (now (c .before .before .before .before .before .before .before .before .before .before .before .args .out)) (c .before .before .before .before .before .before .put-count .kept .0 ∙ simp length-take (omega arith)) (c .before .before .before .before .before .before .before .before .before .before .before .pre .2) in
     λ leaves form are.
-    framed-one ((a .s .tau - 1) * wOf bits256 shape) (count .last .0) (now (a .out)) (corrected .last .0) (cSection bits256 shape leaves) (count .kept .0 ∙ simp length-take (omega arith)) (rw (leaf .ensures) at (count .ensures))
+    framed-one ((a .s .tau - 1) * wOf (alphabetFor (a .s)) shape) (count .last .0) (now (a .out)) (corrected .last .0) (cSection (alphabetFor (a .s)) shape leaves) (count .kept .0 ∙ simp length-take (omega arith)) (rw (leaf .ensures) at (count .ensures))
     (corrections-are shape leaves (corrected .last .0) (now (a .sums)) are written (form .leaves-exact) (form .leaves-spare) long (λ i. omega (arith, c .before .before .before .before .before .before .before .before .before .shared-slice-known .given i))) long
 
 pub write-c-spec : {M : Type 1} → statement M

@@ -7,9 +7,8 @@ use Prim.Native.Nat.{ℕ, _+_, _*_, _-_, _≤_, _<_}
 use native.Mathlib.Omega.{arith}
 use lib.ListN.{length}
 use Rattle.protocol.specs.Strings.{bytesFor}
-use Rattle.protocol.specs.Binary.{bits256}
 use Rattle.protocol.specs.Shape.{kOf}
-use Rattle.format.specs.Sizes.{shapeFor}
+use Rattle.format.specs.Sizes.{alphabetFor, shapeFor}
 use Rattle.format.proofs.SizeLaws.{in-limits, k-most}
 use Rattle.format.proofs.FitLaws.{k-fits, l-fits}
 use Rattle.strings.specs.Sums.{byteAt}
@@ -53,7 +52,7 @@ fill-entries-requires c κs =
     let a = c .before .before .before .before .before .before .before .before .before .args in
     let shape = shapeFor (a .s) in
     let k = c .before .before .before .before .before .hashed-bits .ensures in
-    let width : c .before .before .before .before .bytes-for .result ≡ bytesFor (kOf bits256 (shapeFor (a .s))) = c .before .before .before .before .bytes-for .ensures ∙ ap bytesFor k in
+    let width : c .before .before .before .before .bytes-for .result ≡ bytesFor (kOf (alphabetFor (a .s)) (shapeFor (a .s))) = c .before .before .before .before .bytes-for .ensures ∙ ap bytesFor k in
     let len = c .before .least .ensures in
     (omega (arith, width, k-fits shape, c .before .before .before .before .before .before .before .before .before .pre .2, len .0), rw (c .before .before .before .loop .inv .2) (omega (arith, len .1)))
 
@@ -65,7 +64,7 @@ hash-block-requires c κs =
     let a = c .before .before .before .before .before .before .before .before .before .before .before .before .before .args in
     let shape = shapeFor (a .s) in
     let k = c .before .before .before .before .before .before .before .before .before .hashed-bits .ensures in
-    let width : c .before .before .before .before .before .before .before .before .bytes-for .result ≡ bytesFor (kOf bits256 (shapeFor (a .s))) = c .before .before .before .before .before .before .before .before .bytes-for .ensures ∙ ap bytesFor k in
+    let width : c .before .before .before .before .before .before .before .before .bytes-for .result ≡ bytesFor (kOf (alphabetFor (a .s)) (shapeFor (a .s))) = c .before .before .before .before .before .before .before .before .bytes-for .ensures ∙ ap bytesFor k in
     let len = c .before .before .before .before .before .least .ensures in
     let l = c .before .before .before .before .before .before .before .loop in
     let kept : length (c .before .before .before .fill-entries .last .0) ≡ block * 32 * lanes = c .before .before .before .fill-entries .kept .0 ∙ l .inv .2 in (
@@ -107,7 +106,7 @@ returns c =
     let a = c .before .before .before .before .before .before .before .args in
     let shape = shapeFor (a .s) in
     let k = c .before .before .before .hashed-bits .ensures in
-    let width : c .before .before .bytes-for .result ≡ bytesFor (kOf bits256 (shapeFor (a .s))) = c .before .before .bytes-for .ensures ∙ ap bytesFor k in
+    let width : c .before .before .bytes-for .result ≡ bytesFor (kOf (alphabetFor (a .s)) (shapeFor (a .s))) = c .before .before .bytes-for .ensures ∙ ap bytesFor k in
     let l = c .before .loop in
     let end : l .from ≡ c .before .before .bytes-for .result = omega arith in
     let done = rw (end, width, k) at (l .inv .3) in
