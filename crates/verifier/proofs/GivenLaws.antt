@@ -15,8 +15,7 @@ use Rattle.protocol.specs.Calls.{verifyAnswer}
 use Rattle.protocol.proofs.TestLaws.{eqb-eq, all-true}
 use Rattle.protocol.proofs.AnswerLaws.{ask-accepts, all-yes}
 use Rattle.lanes.specs.Lanes.{lanes}
-use Rattle.tables.specs.Opened.{OpenedTableIs}
-use Rattle.tables.specs.Opened.{Opened}
+use Rattle.tables_opened.specs.Opened.{OpenedTableIs, Opened}
 use Rattle.format.specs.Verdict.{andThen}
 use Rattle.format.proofs.AskLaws.{then-ask}
 use Rattle.questions.specs.Asking.{keyQuestions, verifyInputs, proofQuestions}

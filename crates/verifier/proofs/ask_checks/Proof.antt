@@ -19,7 +19,7 @@ use Rattle.format.specs.Verdict.{answerOf}
 use Rattle.format.proofs.AskLaws.{then-ask, go-on, stop-at}
 use Rattle.format.proofs.SizeLaws.{in-limits, w-most}
 use Rattle.sections.proofs.Writes.{take-length}
-use Rattle.tables.specs.Opened.{Opened}
+use Rattle.tables_opened.specs.Opened.{Opened}
 use Rattle.questions.proofs.ProofLaws.{section-lengths}
 use Rattle.questions.proofs.AnswerLaws.{asked-of-each}
 use Rattle.verifier.proofs.GivenLaws.{opened-is, opened-begins, opened-long}

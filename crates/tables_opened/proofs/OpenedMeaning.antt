@@ -21,8 +21,8 @@ use Rattle.strings.proofs.SumLaws.{sum-same}
 use Rattle.strings.proofs.Meaning.{byte-sum, byte-bit, byte-times}
 use Rattle.lanes.specs.Lanes.{lanes, laneAt}
 use Rattle.format.proofs.FitLaws.{in-width}
-use Rattle.tables.specs.Opened.{correctionBit, wByte, OpenedTableIs, Opened}
+use Rattle.tables_opened.specs.Opened.{correctionBit, wByte, OpenedTableIs, Opened}
 use Rattle.tables.proofs.SumsMeaning.{byteOf, per-tree}
 
 abbrev Element : Type 0
 Element = bits256 .K .base .R .F

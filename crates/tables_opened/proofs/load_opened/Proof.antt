@@ -1,4 +1,4 @@
--- `tables::opened::load_opened` meets its contract. The invariant: the lanes of the repetitions below e are done.
+-- `tables_opened::load_opened` meets its contract. The invariant: the lanes of the repetitions below e are done.
 -- Assumes nothing.
 use borrow.Author.Needs.{needs}
 use Prim.Native.Nat.{ℕ, _*_, _-_, _^_, _≤_, _<_}
@@ -13,10 +13,10 @@ use Rattle.protocol.specs.Lists.{blockAt}
 use Rattle.strings.specs.Sums.{byteAt}
 use Rattle.strings.proofs.Rows.{row-end}
 use Rattle.format.specs.Limits.{mostLeaf}
-use Rattle.tables.specs.Opened.{wByte, OpenedTableIs}
+use Rattle.tables_opened.specs.Opened.{wByte, OpenedTableIs}
 use Rattle.tables.proofs.TreeLaws.{leaves-most, lanes-more}
-use Rattle.tables.proofs.opened.load_opened.Statement.{statement}
-use Rattle.tables.proofs.opened.load_opened.Tie as tie
+use Rattle.tables_opened.proofs.load_opened.Statement.{statement}
+use Rattle.tables_opened.proofs.load_opened.Tie as tie
 
 abbrev Inv-loop : tie.InvT-loop
 Inv-loop table₀ opened delta corrections tau w r len u₀ planes₀ e₀ table u planes e =

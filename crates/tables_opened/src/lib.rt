@@ -4,12 +4,12 @@
 ghost use Prim.Native.Nat.{_+_, _*_, _-_, _^_, _<_, _≤_};
 ghost use lib.ListN.{length};
 ghost use Rattle.lanes.specs.Lanes.{lanes, LaneIs, LanesKept};
-ghost use Rattle.tables.specs.Opened.{wByte, CorrectionAdded, OpenedFits, OpenedInputs, OpenedTableIs};
-use super::leaves_of;
-use super::spread;
-use super::sum_tree;
+ghost use Rattle.tables_opened.specs.Opened.{wByte, CorrectionAdded, OpenedFits, OpenedInputs, OpenedTableIs};
 use format::sizes::MOST_LEAF;
 use strings::BITS;
+use tables::leaves_of;
+use tables::spread;
+use tables::sum_tree;
 use trees::absorb;
 
 // Adds C_e to u. C_0 is all zero and not sent, so that C_e is row e - 1 of the section.

@@ -19,9 +19,9 @@ use Rattle.strings.proofs.SumLaws.{sum-same, sum-both, sum-scale, sum-lt, scale
 use Rattle.strings.proofs.Meaning.{bitOf-lt, bitOf-xor, bitOf-zero, bitOf-sum, bit-times, times-bit, bit-is}
 use Rattle.strings.proofs.XorLaws.{xor-assoc}
 use Rattle.trees.specs.Trees.{leafByte, Absorbed}
 use Rattle.tables.specs.Sums.{planesByte, NoPlanesFrom}
-use Rattle.tables.specs.Opened.{correctionBit, correctionByte, wByte}
+use Rattle.tables_opened.specs.Opened.{correctionBit, correctionByte, wByte}
 use Rattle.tables.proofs.TreeLaws.{times-lt, high-bit, planes-byte}
 
 -- what is left out is 0: its bits, its multiples, its bound
 bit-unless : (b : Bool) (y i : ℕ) → bitOf (cond b 0 y) i ≡ cond b 0 (bitOf y i)

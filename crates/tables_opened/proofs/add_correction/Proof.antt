@@ -1,4 +1,4 @@
--- `tables::opened::add_correction` meets its contract. Row e - 1 of the section is C_e, and nothing is added at e = 0.
+-- `tables_opened::add_correction` meets its contract. Row e - 1 of the section is C_e, and nothing is added at e = 0.
 -- Assumes nothing.
 use Prim.Native.Nat.{ℕ, suc, _*_, _-_}
 use mathlib.Core.Path.{_≡_, sym, ap, _∙_}
@@ -10,10 +10,10 @@ use lib.Bits.{bitXor, xor-zero-r}
 use lib.ListN.{length}
 use Rattle.strings.specs.Sums.{byteAt}
 use Rattle.strings.proofs.Rows.{row-byte}
-use Rattle.tables.specs.Opened.{correctionByte}
+use Rattle.tables_opened.specs.Opened.{correctionByte}
 use borrow.Author.Needs.{needs}
-use Rattle.tables.proofs.opened.add_correction.Statement.{statement}
-use Rattle.tables.proofs.opened.add_correction.Tie as tie
+use Rattle.tables_opened.proofs.add_correction.Statement.{statement}
+use Rattle.tables_opened.proofs.add_correction.Tie as tie
 
 sub-row-at : tie.Need-sub-row-at
 sub-row-at c = search needs

@@ -1,4 +1,4 @@
--- `tables::opened::load_lane` meets its contract. u and the planes of v are those of the opened tree; then u takes C_e,
+-- `tables_opened::load_lane` meets its contract. u and the planes of v are those of the opened tree; then u takes C_e,
 -- and the planes δ·(u + C_e).
 -- Assumes nothing.
 use Prim.Native.Nat.{ℕ, _+_, _*_, _/_, _^_, _<_}
@@ -9,12 +9,12 @@ use lib.Bits.{bitXor}
 use lib.ListN.{length}
 use Rattle.strings.specs.Sums.{byteAt, bitOf, xorSum}
 use Rattle.trees.specs.Trees.{leafByte}
-use Rattle.tables.specs.Opened.{correctionByte}
+use Rattle.tables_opened.specs.Opened.{correctionByte}
 use Rattle.tables.proofs.TreeLaws.{opened-fits}
-use Rattle.tables.proofs.OpenedLaws.{planes-w, none-added}
+use Rattle.tables_opened.proofs.OpenedLaws.{planes-w, none-added}
 use borrow.Author.Needs.{needs}
-use Rattle.tables.proofs.opened.load_lane.Statement.{statement}
-use Rattle.tables.proofs.opened.load_lane.Tie as tie
+use Rattle.tables_opened.proofs.load_lane.Statement.{statement}
+use Rattle.tables_opened.proofs.load_lane.Tie as tie
 
 sum-tree-requires : tie.Need-sum-tree-requires
 sum-tree-requires c κs =
