@@ -8,7 +8,7 @@ set -eu
 cd "$(dirname "$0")/.."
 work=$(mktemp -d)
 trap 'rm -rf "$work"' EXIT
-kernels='lanes chunks trees tables hash equations
+kernels='lanes chunks trees tables tables_opened hash equations
     forms_choices forms_columns forms_folds forms_planes forms_batching forms'
 
 # The limits; the most equations in one pass; the elements of the field, and those besides 0; and lengths of buffers

@@ -14,7 +14,7 @@ use Rattle.protocol.specs.Prover.{v, qs0, qs1, qs0Section, qs1Section}
 use Rattle.strings.specs.Sums.{byteAt}
 use Rattle.tables.specs.Sums.{TableIs}
 use Rattle.tables.proofs.SumsMeaning.{byteOf, table-v}
-use Rattle.prover.proofs.SumSections.{IsU}
+use Rattle.prover_sections.proofs.SumSections.{IsU}
 use Rattle.format.proofs.FitLaws.{in-width}
 use Rattle.lanes.specs.Lanes.{laneAt, maskLane, maskBits}
 use Rattle.forms.specs.Batch.{formsByte, middlesByte}

@@ -1,5 +1,2 @@
-pub mod SumSections
-pub mod HashLaws
-pub mod HashSections
 pub mod LoadedLaws
 pub mod BatchSections

@@ -5,10 +5,10 @@ use mathlib.Core.Bool.{true}
 use mathlib.Core.List.{List, _++_}
 use Prim.Native.Nat.{ℕ, _+_, _*_, _-_, _≤_, _<_}
 use native.Mathlib.Omega.{arith}
-use lib.ListN.{length, take, replicate, length-replicate, List·getD-append}
-use lib.Seq.{getD-take}
+use lib.ListN.{length, replicate, length-replicate, List·getD-append}
 use Rattle.protocol.specs.Strings.{bytesFor}
 use Rattle.protocol.specs.Frames.{framedLength}
+use Rattle.protocol.specs.Alphabet.{Alphabet}
 use Rattle.protocol.specs.Binary.{bits256}
 use Rattle.protocol.specs.Shape.{Shape, limits, perTree, wOf}
 use Rattle.protocol.specs.Sections.{commitLengths, hashLengths}
@@ -25,8 +25,8 @@ use Rattle.questions.specs.Asking.{SizedKey}
 use Rattle.questions.specs.Facts.{KeyFacts, LeavesForm}
 use Rattle.prover.specs.Loaded.{Buffers}
 
-pub leaves-long : (s : Shape) (leaves : List ℕ) → LeavesForm bits256 s leaves → length leaves ≡ s .τ * perTree bits256 * wOf bits256 s
-leaves-long s leaves f = leaves-length bits256 s leaves (f .leaves-exact)
+pub leaves-long : (A : Alphabet) (s : Shape) (leaves : List ℕ) → LeavesForm A s leaves → length leaves ≡ s .τ * perTree A * wOf A s
+leaves-long A s leaves f = leaves-length A s leaves (f .leaves-exact)
 
 -- what the first part of a buffer holds, the buffer holds
 pub sums-more : (p q leaves : List ℕ) (τ w count : ℕ) → length p ≡ τ * w → SumsAre p leaves τ w count → SumsAre (p ++ q) leaves τ w count
@@ -35,13 +35,9 @@ sums-more p q leaves τ w count long are e b l h = List·getD-append p q 0 (e * 
 pub table-more : (p q leaves : List ℕ) (τ w count : ℕ) → τ ≤ lanes → length p ≡ 8 * w * lanes → TableIs p leaves τ w count → TableIs (p ++ q) leaves τ w count
 table-more p q leaves τ w count few long is e c l h = List·getD-append p q 0 (c * lanes + e) (omega (arith, long, row-end c (8 * w) lanes h)) ∙ is e c l h
 
--- and so does its first part, as far as the table goes
-pub table-less : (tab leaves : List ℕ) (τ w count : ℕ) → τ ≤ lanes → TableIs tab leaves τ w count → TableIs (take (8 * w * lanes) tab) leaves τ w count
-table-less tab leaves τ w count few is e c l h = getD-take (8 * w * lanes) tab (c * lanes + e) 0 (omega (arith, row-end c (8 * w) lanes h)) ∙ is e c l h
-
 -- a key whose questions got a yes has its sections
-pub key-form : (s : Shape) (key : List ℕ) → KeyFacts bits256 s key → SizedKey bits256 s key
-key-form s key f = record { header = f .header; sizes = f .in-range; exact = f .key-exact }
+pub key-form : (A : Alphabet) (s : Shape) (key : List ℕ) → KeyFacts A s key → SizedKey A s key
+key-form A s key f = record { header = f .header; sizes = f .in-range; exact = f .key-exact }
 
 -- the buffers of a call, made for the largest key, have room for this one
 pub buffers-of : (s : Shape) → limits s ≡ true → Buffers bits256 s (replicate (8 * mostLeaf * lanes) 0) (replicate (lanes * mostLeaf) 0)

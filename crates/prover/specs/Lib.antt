@@ -1,4 +1,2 @@
-pub mod Hash
 pub mod Loaded
-pub mod Framed
 pub mod Steps

@@ -1,7 +1,5 @@
 // The prover: its trees are loaded, and each step then writes its framed sections into its own part of the output.
-pub mod framed;
 pub mod steps;
-pub mod vole;
 
 ghost use mathlib.Core.Path.{_≡_};
 ghost use Rattle.format.specs.Sizes.{alphabetFor, shapeFor};

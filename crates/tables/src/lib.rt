@@ -1,5 +1,4 @@
 // Leaf sums for all repetitions: u_e in the rows of a table, v_e in the lanes of another.
-pub mod opened;
 mod parts;
 
 ghost use mathlib.Core.Path.{_≡_};
@@ -28,7 +27,7 @@ pub fn leaves_of(r: usize) -> usize
 }
 
 // The sums of one tree with leaf delta left out, in room for a plane to each bit of a byte: the planes from r on are 0.
-fn sum_tree(u: &mut [u8], planes: &mut [u8], tree: &[u8], delta: usize, r: usize)
+pub fn sum_tree(u: &mut [u8], planes: &mut [u8], tree: &[u8], delta: usize, r: usize)
     requires { ⌜ (length (now planes) ≡ 8 * length (now u)) × (r ≤ 8) × TreeFits (now tree) (length (now u)) delta (2 ^ r) ⌝ }
     ensures { λ _. ⌜ TreeSummed (now (tree .entry)) (length (now (u .entry))) delta (2 ^ r) r (now (u .exit)) (now (planes .exit)) (length (now (u .entry))) ⌝ }
     ensures { λ _. ⌜ NoPlanesFrom r (length (now (u .entry))) (now (planes .exit)) ⌝ }

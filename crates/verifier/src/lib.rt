@@ -52,7 +52,7 @@ fn ask_checks(
     let tau = s.tau;
     let w = leaf_bytes(s);
     let len = BITS * w * LANES;
-    tables::opened::load_opened(
+    tables_opened::load_opened(
         &mut space[..len],
         opened,
         delta,

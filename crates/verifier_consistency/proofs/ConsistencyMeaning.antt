@@ -21,9 +21,9 @@ use Rattle.strings.specs.Sums.{byteAt}
 use Rattle.strings.proofs.Rows.{row-byte}
 use Rattle.strings.proofs.Meaning.{byte-times}
 use Rattle.lanes.specs.Lanes.{laneAt}
-use Rattle.tables.specs.Opened.{Opened}
+use Rattle.tables_opened.specs.Opened.{Opened}
 use Rattle.tables.proofs.SumsMeaning.{byteOf, same-bytes}
-use Rattle.tables.proofs.OpenedMeaning.{opened-lane}
+use Rattle.tables_opened.proofs.OpenedMeaning.{opened-lane}
 use Rattle.hash.specs.Hashed.{hashLane}
 use Rattle.hash.proofs.HashMeaning.{hash-lane-is}
 use Rattle.questions.specs.Facts.{HashForm}

@@ -19,7 +19,7 @@ use Rattle.protocol.specs.Alphabet.{Alphabet}
 use Rattle.protocol.specs.Shape.{Shape}
 use Rattle.protocol.specs.Questions.{consistentIn}
 use Rattle.strings.specs.Sums.{byteAt, maskByte}
-use Rattle.tables.specs.Opened.{Opened}
+use Rattle.tables_opened.specs.Opened.{Opened}
 
 abbrev pub rowConsistent : List ℕ → List ℕ → List ℕ → ℕ → ℕ → Bool
 rowConsistent hashed v u δ t = allBelow t (λ ρ. eqb (byteAt hashed ρ) (bitXor (byteAt v ρ) (δ * bit u ρ)))

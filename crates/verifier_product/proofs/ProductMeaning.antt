@@ -31,9 +31,9 @@ use Rattle.strings.proofs.Meaning.{byte-sum, byte-times}
 use Rattle.lanes.specs.Lanes.{laneAt, maskLane}
 use Rattle.format.proofs.FitLaws.{mask-below, k-below}
 use Rattle.forms.proofs.FormsMeaning.{form-is, lin-is, batch-is, mask-is}
-use Rattle.tables.specs.Opened.{Opened}
+use Rattle.tables_opened.specs.Opened.{Opened}
 use Rattle.tables.proofs.SumsMeaning.{byteOf, same-bytes}
-use Rattle.tables.proofs.OpenedMeaning.{opened-lane}
+use Rattle.tables_opened.proofs.OpenedMeaning.{opened-lane}
 use Rattle.questions.proofs.FirstLaws.{first-congr}
 use Rattle.verifier_product.specs.Product.{valueByte, productByte, maskedByte, firstDiffering}
 

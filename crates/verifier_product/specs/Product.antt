@@ -31,7 +31,7 @@ use Rattle.protocol.specs.Questions.{productIn}
 use Rattle.strings.specs.Sums.{byteAt, xorSum}
 use Rattle.lanes.specs.Lanes.{lanes, laneAt, LanesAdded, maskLane}
 use Rattle.equations.specs.Equations.{rowOf}
-use Rattle.tables.specs.Opened.{Opened}
+use Rattle.tables_opened.specs.Opened.{Opened}
 use Rattle.forms_batching.specs.Batched.{CellsRoom}
 use Rattle.forms.specs.Forms.{rowBit}
 use Rattle.forms.specs.Batch.{batchByte, formsByte}

@@ -11,12 +11,11 @@ use lib.Bits.{bitXor}
 use Rattle.protocol.specs.Lists.{blockAt}
 use Rattle.protocol.specs.Strings.{bytesFor, bit, pack}
 use Rattle.protocol.specs.Frames.{frame, framedLength}
-use Rattle.protocol.specs.Binary.{bits256}
 use Rattle.protocol.specs.Shape.{Shape, limits, kOf, wOf}
 use Rattle.protocol.specs.Sections.{commitLengths, hashLengths}
 use Rattle.protocol.specs.Prover.{cSection, dSection, ũSection, ṼSection, qs0Section, qs1Section}
 use Rattle.protocol.proofs.ListLaws.{row-end}
-use Rattle.format.specs.Sizes.{shapeFor}
+use Rattle.format.specs.Sizes.{alphabetFor, shapeFor}
 use Rattle.format.proofs.SizeLaws.{in-limits, k-most, w-most, bytes-most, corrections-most, hashed-most, row-most}
 use Rattle.format.proofs.FitLaws.{n-fits, l-fits, variables-fit}
 use Rattle.sections.proofs.Writes.{framed-one, framed-two, rest-length, part-starts, take-length}
@@ -73,8 +72,8 @@ returns c =
     let a = c .before .before .before .before .before .before .before .before .before .before .before .before .before .before .before .before .before .before .before .before .args in
     let shape = (shapeFor (c .before .before .before .before .before .before .before .before .before .before .before .before .before .before .before .before .before .before .before .before .args .s)) in
     λ leaves loaded.
-    framed-two (c .before .before .before .before .before .before .before .before .before .before .before .before .hash-bytes .result) (c .before .before .before .before .before .before .before .before .before .hash-into .last .0) (drop (c .before .before .before .before .before .before .before .before .before .before .before .before .hash-bytes .result) (now (a .out))) (c .before .before .before .before .batch-into .last .0) (ũSection bits256 shape leaves (now (a .matrix)) ∷ ṼSection bits256 shape leaves (now (a .matrix)) ∷ [])
-    (qs0Section bits256 shape leaves (now (a .key)) (now (a .batching)) ∷ qs1Section bits256 shape leaves (now (a .key)) (now (a .witness)) (now (a .batching)) ∷ [])
+    framed-two (c .before .before .before .before .before .before .before .before .before .before .before .before .hash-bytes .result) (c .before .before .before .before .before .before .before .before .before .hash-into .last .0) (drop (c .before .before .before .before .before .before .before .before .before .before .before .before .hash-bytes .result) (now (a .out))) (c .before .before .before .before .batch-into .last .0) (ũSection (alphabetFor (a .s)) shape leaves (now (a .matrix)) ∷ ṼSection (alphabetFor (a .s)) shape leaves (now (a .matrix)) ∷ [])
+    (qs0Section (alphabetFor (a .s)) shape leaves (now (a .key)) (now (a .batching)) ∷ qs1Section (alphabetFor (a .s)) shape leaves (now (a .key)) (now (a .witness)) (now (a .batching)) ∷ [])
     (c .before .before .before .before .before .before .before .before .before .hash-into .kept .0 ∙ take-length (c .before .before .before .before .before .before .before .before .before .before .before .before .hash-bytes .result) (now (c .before .before .before .before .before .before .before .before .before .before .before .before .before .before .before .before .before .before .before .before .args .out)) (omega (arith, c .before .before .before .before .before .before .before .before .before .before .before .before .hash-bytes .ensures ∙ hash-length (shapeFor (c .before .before .before .before .before .before .before .before .before .before .before .before .before .before .before .before .before .before .before .before .args .s)), c .before .before .before .before .before .before .before .before .before .before .before .before .before .before .before .before .before .before .before .before .pre .out-length))) (c .before .before .before .before .before .before .before .before .before .hash-into .ensures leaves loaded) (c .before .before .before .before .batch-into .ensures leaves loaded)
 
 pub rest-into-spec : {M : Type 1} → statement M

@@ -10,17 +10,16 @@ use native.Mathlib.Omega.{arith}
 use denote.Ref.{now}
 use lib.ListN.{length, take, drop, length-append, length-drop}
 use lib.Seq.{take-at}
-use Rattle.protocol.specs.Binary.{bits256}
 use Rattle.protocol.specs.Shape.{wOf}
 use Rattle.protocol.specs.Answers.{ask}
 use Rattle.protocol.specs.Questions.{consistentIn, productIn, q14}
 use Rattle.lanes.specs.Lanes.{lanes}
-use Rattle.format.specs.Sizes.{shapeFor}
+use Rattle.format.specs.Sizes.{alphabetFor, shapeFor}
 use Rattle.format.specs.Verdict.{answerOf}
 use Rattle.format.proofs.AskLaws.{then-ask, go-on, stop-at}
 use Rattle.format.proofs.SizeLaws.{in-limits, w-most}
 use Rattle.sections.proofs.Writes.{take-length}
-use Rattle.tables.specs.Opened.{Opened}
+use Rattle.tables_opened.specs.Opened.{Opened}
 use Rattle.questions.proofs.ProofLaws.{section-lengths}
 use Rattle.questions.proofs.AnswerLaws.{asked-of-each}
 use Rattle.verifier.proofs.GivenLaws.{opened-is, opened-begins, opened-long}
@@ -62,10 +61,10 @@ load-opened-requires c κs =
     let shape = shapeFor (s .args .s) in
     let facts = s .pre .0 .0 in
     rw (c .before .before .before .leaf-bytes .ensures, c .degree-of .ensures) (
-      take-length (8 * wOf bits256 shape * lanes) (now (s .args .space)) (s .pre .1 .0),
-      opened-long shape (now (s .args .opened)) (facts .of-opened),
+      take-length (8 * wOf (alphabetFor (s .args .s)) shape * lanes) (now (s .args .space)) (s .pre .1 .0),
+      opened-long (alphabetFor (s .args .s)) shape (now (s .args .opened)) (facts .of-opened),
       facts .of-challenge,
-      c .before .proof-section .ensures (s .args .s) (facts .of-proof) .1 ∙ section-lengths bits256 shape .c-length,
+      c .before .proof-section .ensures (s .args .s) (facts .of-proof) .1 ∙ section-lengths (alphabetFor (s .args .s)) shape .c-length,
       in-limits shape (facts .of-key .in-range) .τ-most,
       omega (arith, w-most shape (facts .of-key .in-range)),
       omega arith,
@@ -76,14 +75,14 @@ load-opened-requires c κs =
 table-long : (c : tie.After-load-opened) → length (c .load-opened .last .0) ≡ 8 * c .before .before .before .before .leaf-bytes .result * lanes
 table-long c = c .load-opened .kept .0 ∙ take-length (8 * c .before .before .before .before .leaf-bytes .result * lanes) (now (c .before .before .before .before .before .before .before .before .before .before .before .before .args .space)) (begins (c .before .before .before .before))
 
-loaded : (c : tie.After-load-opened) → let a = c .before .before .before .before .before .before .before .before .before .before .before .before .args in Opened bits256 (shapeFor (a .s)) (now (a .delta)) (now (a .opened)) (now (a .proof)) (c .load-opened .last .0)
+loaded : (c : tie.After-load-opened) → let a = c .before .before .before .before .before .before .before .before .before .before .before .before .args in Opened (alphabetFor (a .s)) (shapeFor (a .s)) (now (a .delta)) (now (a .opened)) (now (a .proof)) (c .load-opened .last .0)
 loaded c =
     let s = c .before .before .before .before .before .before .before .before .before .before .before .before in
     let a = s .args in
     let degree = c .before .degree-of in
     let section = c .before .before .proof-section in
     let width = c .before .before .before .before .leaf-bytes in
-    opened-is (shapeFor (a .s)) (now (a .delta)) (now (a .opened)) (now (a .proof)) (c .load-opened .last .0) (now (section .result)) (width .result) (degree .result) (width .ensures)
+    opened-is (alphabetFor (a .s)) (shapeFor (a .s)) (now (a .delta)) (now (a .opened)) (now (a .proof)) (c .load-opened .last .0) (now (section .result)) (width .result) (degree .result) (width .ensures)
     (section .ensures (a .s) (s .pre .0 .0 .of-proof) .0) (degree .ensures) (omega (arith, table-long c, width .ensures)) (c .load-opened .ensures)
 
 -- and is the front of the space
@@ -110,10 +109,10 @@ answer-requires c κs =
     omega (arith, in-limits (shapeFor (s .args .s)) (s .pre .0 .0 .of-key .in-range) .τ-most)
 
 -- the answer to question 14
-consistent : (c : tie.After-answer) → let a = c .before .before .before .before .before .before .before .before .before .before .before .before .before .before .before .before .before .args in answerOf (c .answer .result) ≡ ask (q14 bits256 (shapeFor (a .s)) (now (a .delta)) (now (a .matrix)) (now (a .opened)) (now (a .proof)) ∷ [])
+consistent : (c : tie.After-answer) → let a = c .before .before .before .before .before .before .before .before .before .before .before .before .before .before .before .before .before .args in answerOf (c .answer .result) ≡ ask (q14 (alphabetFor (a .s)) (shapeFor (a .s)) (now (a .delta)) (now (a .matrix)) (now (a .opened)) (now (a .proof)) ∷ [])
 consistent c =
     let a = c .before .before .before .before .before .before .before .before .before .before .before .before .before .before .before .before .before .args in
-    let p : ℕ → Bool = consistentIn bits256 (shapeFor (a .s)) (now (a .delta)) (now (a .matrix)) (now (a .opened)) (now (a .proof)) in
+    let p : ℕ → Bool = consistentIn (alphabetFor (a .s)) (shapeFor (a .s)) (now (a .delta)) (now (a .matrix)) (now (a .opened)) (now (a .proof)) in
     let l = c .before .before .before .before .before in
     asked-of-each (a .s .tau) p 14 (c .before .check-consistency .result) (c .before .check-consistency .ensures (now (a .opened)) (rw (front l) (loaded l))) (c .answer .ensures)
 
@@ -148,12 +147,12 @@ returns-2 : tie.Need-returns-2
 returns-2 c =
     let a = c .before .before .before .before .before .before .before .before .before .before .before .before .before .before .before .before .before .before .before .before .before .before .before .before .args in
     let shape = shapeFor (a .s) in
-    let r : ℕ → Bool = productIn bits256 shape (now (a .key)) (now (a .delta)) (now (a .batching)) (now (a .opened)) (now (a .proof)) in
+    let r : ℕ → Bool = productIn (alphabetFor (a .s)) shape (now (a .key)) (now (a .delta)) (now (a .batching)) (now (a .opened)) (now (a .proof)) in
     let p = c .before .before .before .check-product in
     let l = c .before .before .before .before .before .before .before .before .before .before .before .before in
     let rest = drop (8 * c .before .before .before .before .before .before .before .before .before .before .before .before .before .before .before .before .leaf-bytes .result * lanes) (now (a .space)) in
     let few = in-limits shape (c .before .before .before .before .before .before .before .before .before .before .before .before .before .before .before .before .before .before .before .before .before .before .before .before .pre .0 .0 .of-key .in-range) .τ-most in
-    let is = opened-begins shape (now (a .delta)) (now (a .opened)) (now (a .proof)) (l .load-opened .last .0) rest few (loaded l) in
+    let is = opened-begins (alphabetFor (a .s)) shape (now (a .delta)) (now (a .opened)) (now (a .proof)) (l .load-opened .last .0) rest few (loaded l) in
     then-ask _ _ (consistent (c .before .before .before .before .before .before .before)) (go-on (c .before .before .before .before .before .enum-told .given .1) (asked-of-each (a .s .tau) r 15 (p .result) (p .ensures (now (a .opened)) is) (c .answer2 .ensures)))
 
 pub ask-checks-spec : {M : Type 1} → statement M

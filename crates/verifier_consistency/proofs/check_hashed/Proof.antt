@@ -7,9 +7,8 @@ use mathlib.Core.List.{List}
 use native.Mathlib.Omega.{arith}
 use denote.Ref.{now}
 use lib.Dec.{lit<}
-use Rattle.protocol.specs.Binary.{bits256}
 use Rattle.protocol.specs.Sections.{lengths}
-use Rattle.format.specs.Sizes.{shapeFor}
+use Rattle.format.specs.Sizes.{alphabetFor, shapeFor}
 use Rattle.format.proofs.SizeLaws.{in-limits}
 use Rattle.equations.proofs.BlockLaws.{bytes-enough}
 use Rattle.verifier_consistency.specs.Consistency.{firstInconsistent}
@@ -34,7 +33,7 @@ first-inconsistent-requires c κs =
     let s = c .before .before .before .before .before .before .before .before .before .before .before .before in
     let shape = shapeFor (s .args .s) in
     let form = s .pre .0 .2 .0 in
-    let sections = section-lengths bits256 shape in
+    let sections = section-lengths (alphabetFor (s .args .s)) shape in
     let each = ap (λ (n : ℕ). n * s .args .s .t) (sym (s .pre .0 .3)) in (
       (c .before .before .before .before .before .hash-all .kept .0 ∙ s .pre .1 .1 ∙ each, c .before .proof-section .ensures (s .args .s) form .1 ∙ sections .v-length ∙ each),
       in-limits shape (s .pre .0 .0) .t-most,
@@ -55,7 +54,7 @@ returns c opened is =
     c .first-inconsistent .ensures
     ∙ ap₂ (λ (v u : List ℕ). firstInconsistent (hashed .last .0) v u (now (a .delta)) (a .s .t)) (c .before .before .proof-section .ensures (a .s) form .0) (c .before .proof-section2 .ensures (a .s) form .0)
     ∙ first-inconsistent-is shape (now (a .delta)) opened (now (a .proof)) (now (a .table)) is (s .pre .0 .3) (λ i. c .before .before .before .before .before .before .before .before .before .shared-slice-known3 .given i .fits) (now (a .matrix)) (hashed .last .0) (s .pre .0 .1)
-    (section-bytes (lengths bits256 shape) (now (a .proof)) 3 (lit< tt) (λ i. c .before .before .before .before .before .before .before .before .shared-slice-known4 .given i .fits)) (hashed .ensures)
+    (section-bytes (lengths (alphabetFor (a .s)) shape) (now (a .proof)) 3 (lit< tt) (λ i. c .before .before .before .before .before .before .before .before .shared-slice-known4 .given i .fits)) (hashed .ensures)
 
 pub check-hashed-spec : {M : Type 1} → statement M
 check-hashed-spec =

@@ -12,14 +12,13 @@ use lib.Dec.{lit<}
 use lib.ListN.{getD-replicate}
 use lib.Bits.{bitXor}
 use Rattle.protocol.specs.Strings.{bytesFor, bit}
-use Rattle.protocol.specs.Binary.{bits256}
 use Rattle.protocol.specs.Key.{sectionA, sectionB}
 use Rattle.protocol.specs.Alphabet.{Alphabet}
 use Rattle.protocol.specs.Shape.{Shape, maskAt}
 use Rattle.protocol.specs.Sections.{lengths}
 use Rattle.strings.specs.Sums.{byteAt}
 use Rattle.lanes.specs.Lanes.{lanes, laneAt, maskLane}
-use Rattle.format.specs.Sizes.{shapeFor}
+use Rattle.format.specs.Sizes.{alphabetFor, shapeFor}
 use Rattle.format.proofs.SizeLaws.{in-limits}
 use Rattle.format.proofs.FitLaws.{mask-below, variables-fit, l-fits}
 use Rattle.equations.proofs.BlockLaws.{bytes-enough}
@@ -55,7 +54,7 @@ add-difference-requires c κs =
     let s = c .before .before .before .before .before .before .before .before .before .before .before in
     let shape = shapeFor (s .args .s) in (
       omega (arith, s .pre .1 .1 .0, variables-fit shape),
-      omega (arith, c .before .proof-section .ensures (s .args .s) (s .pre .0 .1 .0) .1, section-lengths bits256 shape .d-length, bytes-enough (s .args .s .n)),
+      omega (arith, c .before .proof-section .ensures (s .args .s) (s .pre .0 .1 .0) .1, section-lengths (alphabetFor (s .args .s)) shape .d-length, bytes-enough (s .args .s .n)),
       c .before .before .before .before .load-challenge .kept .0,
     )
 
@@ -125,8 +124,8 @@ first-differing-requires c κs =
     let shape = shapeFor (s .args .s) in
     let form = s .pre .0 .1 .0 in (
       omega (arith, s .pre .0 .2, c .before .before .before .before .before .before .product-lanes .kept .0, in-limits shape (s .pre .0 .0 .in-range) .τ-most),
-      c .before .proof-section2 .ensures (s .args .s) form .1 ∙ section-lengths bits256 shape .qs0-length ∙ sym (s .pre .0 .2),
-      c .proof-section3 .ensures (s .args .s) form .1 ∙ section-lengths bits256 shape .qs1-length ∙ sym (s .pre .0 .2),
+      c .before .proof-section2 .ensures (s .args .s) form .1 ∙ section-lengths (alphabetFor (s .args .s)) shape .qs0-length ∙ sym (s .pre .0 .2),
+      c .proof-section3 .ensures (s .args .s) form .1 ∙ section-lengths (alphabetFor (s .args .s)) shape .qs1-length ∙ sym (s .pre .0 .2),
     )
 
 same-length : tie.Need-same-length
@@ -163,12 +162,12 @@ returns c opened is =
     ∙ keys .ensures .0 k e h (lane e l)
     ∙ ap (λ (r : List ℕ). bitXor (laneAt (now (a .space)) k e) (bit r k * byteAt challenge e)) d)
     (λ e k l h. keys .ensures .1 k e h (lane e l)) key χ (left .last .0) (λ i. c .before .before .before .before .before .before .before .before .before .before .before .before .before .before .before .before .before .before .before .before .before .before .before .before .before .before .before .before .before .before .before .before .before .shared-slice-known3 .given i .fits)
-    (section-bytes (lengths bits256 shape) proof 4 (lit< tt) (λ i. c .before .before .before .before .before .before .before .before .before .before .before .before .before .before .before .before .before .before .before .before .before .before .before .before .before .before .before .before .before .before .before .before .shared-slice-known4 .given i .fits))
+    (section-bytes (lengths (alphabetFor (a .s)) shape) proof 4 (lit< tt) (λ i. c .before .before .before .before .before .before .before .before .before .before .before .before .before .before .before .before .before .before .before .before .before .before .before .before .before .before .before .before .before .before .before .before .shared-slice-known4 .given i .fits))
     (λ e l.
     left .ensures e l
-    ∙ ap₂ bitXor (masks .ensures e l ∙ ap (λ (z : ℕ). bitXor z (maskLane T (maskAt bits256 shape e) e)) (getD-replicate lanes e 0 0 (lane e l)))
+    ∙ ap₂ bitXor (masks .ensures e l ∙ ap (λ (z : ℕ). bitXor z (maskLane T (maskAt (alphabetFor (a .s)) shape e) e)) (getD-replicate lanes e 0 0 (lane e l)))
     (ap₂ (λ (r q : List ℕ). productByte (a .s .n) (a .s .m) r q y χ e (byteAt challenge e) (f e)) (c .before .before .before .before .before .before .before .before .before .before .before .before .section-a .ensures .0) (c .before .before .before .before .before .before .before .before .before .before .before .section-b .ensures .0)
-    ∙ ap (λ (r : List ℕ). productByte (a .s .n) (a .s .m) (sectionA bits256 shape key) (sectionB bits256 shape key) r χ e (byteAt challenge e) (f e)) (c .before .before .before .before .before .before .before .before .before .before .section-y .ensures .0)))
+    ∙ ap (λ (r : List ℕ). productByte (a .s .n) (a .s .m) (sectionA (alphabetFor (a .s)) shape key) (sectionB (alphabetFor (a .s)) shape key) r χ e (byteAt challenge e) (f e)) (c .before .before .before .before .before .before .before .before .before .before .section-y .ensures .0)))
 
 pub check-product-spec : {M : Type 1} → statement M
 check-product-spec =

@@ -7,10 +7,9 @@ use native.Mathlib.Nat.{mul-assoc}
 use denote.Ref.{now}
 use lib.Bits.{bitXor}
 use Rattle.protocol.specs.Strings.{bytesFor, bit}
-use Rattle.protocol.specs.Binary.{bits256}
 use Rattle.protocol.specs.Key.{sectionA, sectionB}
 use Rattle.strings.specs.Sums.{byteAt}
-use Rattle.format.specs.Sizes.{shapeFor}
+use Rattle.format.specs.Sizes.{alphabetFor, shapeFor}
 use Rattle.format.proofs.SizeLaws.{in-limits}
 use Rattle.forms_columns.specs.Stacks.{coordinateOf}
 use Rattle.forms.specs.Batch.{formsByte, middlesByte}
@@ -20,10 +19,10 @@ use Rattle.prover.proofs.steps.add_forms.Statement.{statement}
 use Rattle.prover.proofs.steps.add_forms.Tie as tie
 
 section-a-requires : tie.Need-section-a-requires
-section-a-requires c κs = key-form (shapeFor (c .before .before .before .before .before .before .before .before .before .before .args .s)) (now (c .before .before .before .before .before .before .before .before .before .before .args .key)) (c .before .before .before .before .before .before .before .before .before .before .pre .key-facts)
+section-a-requires c κs = key-form (alphabetFor (c .before .before .before .before .before .before .before .before .before .before .args .s)) (shapeFor (c .before .before .before .before .before .before .before .before .before .before .args .s)) (now (c .before .before .before .before .before .before .before .before .before .before .args .key)) (c .before .before .before .before .before .before .before .before .before .before .pre .key-facts)
 
 section-b-requires : tie.Need-section-b-requires
-section-b-requires c κs = key-form (shapeFor (c .before .before .before .before .before .before .before .before .before .before .before .args .s)) (now (c .before .before .before .before .before .before .before .before .before .before .before .args .key)) (c .before .before .before .before .before .before .before .before .before .before .before .pre .key-facts)
+section-b-requires c κs = key-form (alphabetFor (c .before .before .before .before .before .before .before .before .before .before .before .args .s)) (shapeFor (c .before .before .before .before .before .before .before .before .before .before .before .args .s)) (now (c .before .before .before .before .before .before .before .before .before .before .before .args .key)) (c .before .before .before .before .before .before .before .before .before .before .before .pre .key-facts)
 
 batch-lanes-requires : tie.Need-batch-lanes-requires
 batch-lanes-requires c κs =
@@ -57,8 +56,8 @@ returns : tie.Need-returns
 returns c =
     let a = c .before .before .before .before .before .before .before .before .before .before .before .before .before .before .before .before .before .before .before .args in
     let done = c .before .before .before .before .before .before .batch-lanes in
-    let forms : now (c .before .before .before .before .before .before .before .before .section-a .result) ≡ sectionA bits256 (shapeFor (c .before .before .before .before .before .before .before .before .before .before .before .before .before .before .before .before .before .before .before .args .s)) (now (c .before .before .before .before .before .before .before .before .before .before .before .before .before .before .before .before .before .before .before .args .key)) = c .before .before .before .before .before .before .before .before .section-a .ensures .0 in
-    let linear : now (c .before .before .before .before .before .before .before .section-b .result) ≡ sectionB bits256 (shapeFor (c .before .before .before .before .before .before .before .before .before .before .before .before .before .before .before .before .before .before .before .args .s)) (now (c .before .before .before .before .before .before .before .before .before .before .before .before .before .before .before .before .before .before .before .args .key)) = c .before .before .before .before .before .before .before .section-b .ensures .0 in (
+    let forms : now (c .before .before .before .before .before .before .before .before .section-a .result) ≡ sectionA (alphabetFor (c .before .before .before .before .before .before .before .before .before .before .before .before .before .before .before .before .before .before .before .args .s)) (shapeFor (c .before .before .before .before .before .before .before .before .before .before .before .before .before .before .before .before .before .before .before .args .s)) (now (c .before .before .before .before .before .before .before .before .before .before .before .before .before .before .before .before .before .before .before .args .key)) = c .before .before .before .before .before .before .before .before .section-a .ensures .0 in
+    let linear : now (c .before .before .before .before .before .before .before .section-b .result) ≡ sectionB (alphabetFor (c .before .before .before .before .before .before .before .before .before .before .before .before .before .before .before .before .before .before .before .args .s)) (shapeFor (c .before .before .before .before .before .before .before .before .before .before .before .before .before .before .before .before .before .before .before .args .s)) (now (c .before .before .before .before .before .before .before .before .before .before .before .before .before .before .before .before .before .before .before .args .key)) = c .before .before .before .before .before .before .before .section-b .ensures .0 in (
       (λ e h. done .ensures .0 e h ∙ ap (λ (A : List ℕ). bitXor (byteAt (now (a .qs0)) e) (formsByte (a .s .n) (a .s .m) A (now (a .batching)) e (coordinateOf (now (a .vectors)) e))) forms),
       (λ e h. done .ensures .1 e h ∙ ap₂ (λ (A b : List ℕ). bitXor (byteAt (now (a .qs1)) e) (middlesByte (a .s .n) (a .s .m) A b (bit (now (a .witness))) (now (a .batching)) e (coordinateOf (now (a .vectors)) e))) forms linear),
     )

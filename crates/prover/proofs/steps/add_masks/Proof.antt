@@ -8,12 +8,11 @@ use denote.Ref.{now}
 use lib.ListN.{length}
 use lib.Bits.{bitXor}
 use Rattle.protocol.specs.Lists.{blockAt}
-use Rattle.protocol.specs.Binary.{bits256}
 use Rattle.protocol.specs.Shape.{wOf}
 use Rattle.protocol.proofs.ListLaws.{row-end}
 use Rattle.strings.specs.Sums.{byteAt}
 use Rattle.lanes.specs.Lanes.{maskBits, firstMask}
-use Rattle.format.specs.Sizes.{shapeFor}
+use Rattle.format.specs.Sizes.{alphabetFor, shapeFor}
 use Rattle.format.proofs.SizeLaws.{in-limits, k-most}
 use Rattle.format.proofs.FitLaws.{mask-below, l-fits}
 use borrow.Author.Needs.{needs}
@@ -31,12 +30,12 @@ add-masks-requires c κs =
 row-at-requires : tie.Need-row-at-requires
 row-at-requires c κs =
     let s = shapeFor (c .before .before .before .before .before .before .before .before .before .before .args .s) in
-    rw (c .before .before .before .before .before .leaf-bytes .ensures) (omega (arith, c .before .before .before .before .before .before .before .before .before .before .pre .buffers .sums-room, row-end 0 (s .τ) (wOf bits256 s) (in-limits s (c .before .before .before .before .before .before .before .before .before .before .pre .in-range) .τ-least)))
+    rw (c .before .before .before .before .before .leaf-bytes .ensures) (omega (arith, c .before .before .before .before .before .before .before .before .before .before .pre .buffers .sums-room, row-end 0 (s .τ) (wOf (alphabetFor (c .before .before .before .before .before .before .before .before .before .before .args .s)) s) (in-limits s (c .before .before .before .before .before .before .before .before .before .before .pre .in-range) .τ-least)))
 
 add-mask-bits-requires : tie.Need-add-mask-bits-requires
 add-mask-bits-requires c κs =
     let s = shapeFor (c .before .before .before .before .before .before .before .before .before .before .before .args .s) in
-    let long : length (now (c .row-at .result)) ≡ wOf bits256 s = c .row-at .ensures .1 ∙ c .before .before .before .before .before .before .leaf-bytes .ensures in
+    let long : length (now (c .row-at .result)) ≡ wOf (alphabetFor (c .before .before .before .before .before .before .before .before .before .before .before .args .s)) s = c .row-at .ensures .1 ∙ c .before .before .before .before .before .before .leaf-bytes .ensures in
     (c .before .before .before .before .before .before .before .before .before .before .before .pre .qs1-lanes, (in-limits s (c .before .before .before .before .before .before .before .before .before .before .before .pre .in-range) .τ-most, (λ e h. (omega (arith, long, mask-below s e h, l-fits s), omega (arith, mask-below s e h, k-most s (c .before .before .before .before .before .before .before .before .before .before .before .pre .in-range))))))
 
 same-length : tie.Need-same-length
@@ -47,7 +46,7 @@ same-length-2 c = search needs
 
 returns : tie.Need-returns
 returns c =
-    let row : now (c .before .before .before .row-at .result) ≡ blockAt (now (c .before .before .before .before .before .before .before .before .before .before .before .before .before .before .args .sums)) (wOf bits256 (shapeFor (c .before .before .before .before .before .before .before .before .before .before .before .before .before .before .args .s))) 0 = rw (c .before .before .before .before .before .before .before .before .before .leaf-bytes .ensures) at (c .before .before .before .row-at .ensures .0) in
+    let row : now (c .before .before .before .row-at .result) ≡ blockAt (now (c .before .before .before .before .before .before .before .before .before .before .before .before .before .before .args .sums)) (wOf (alphabetFor (c .before .before .before .before .before .before .before .before .before .before .before .before .before .before .args .s)) (shapeFor (c .before .before .before .before .before .before .before .before .before .before .before .before .before .before .args .s))) 0 = rw (c .before .before .before .before .before .before .before .before .before .leaf-bytes .ensures) at (c .before .before .before .row-at .ensures .0) in
     (c .before .before .before .before .before .before .before .add-masks .ensures, λ e h. c .before .before .add-mask-bits .ensures e h ∙ ap (λ (u : List ℕ). bitXor (byteAt (now (c .before .before .before .before .before .before .before .before .before .before .before .before .before .before .args .qs1)) e) (maskBits u (firstMask (c .before .before .before .before .before .before .before .before .before .before .before .before .before .before .args .s) e))) row)
 
 pub add-masks-spec : {M : Type 1} → statement M

@@ -11,12 +11,11 @@ use lib.Bits.{bitXor, xor-zero-l}
 use Rattle.protocol.specs.Lists.{blockAt}
 use Rattle.protocol.specs.Strings.{bytesFor, bit, pack}
 use Rattle.protocol.specs.Frames.{frame, framedLength}
-use Rattle.protocol.specs.Binary.{bits256}
 use Rattle.protocol.specs.Shape.{Shape, limits, kOf, wOf}
 use Rattle.protocol.specs.Sections.{commitLengths, hashLengths}
 use Rattle.protocol.specs.Prover.{cSection, dSection, ũSection, ṼSection, qs0Section, qs1Section}
 use Rattle.protocol.proofs.ListLaws.{row-end}
-use Rattle.format.specs.Sizes.{shapeFor}
+use Rattle.format.specs.Sizes.{alphabetFor, shapeFor}
 use Rattle.format.proofs.SizeLaws.{in-limits, k-most, w-most, bytes-most, corrections-most, hashed-most, row-most}
 use Rattle.format.proofs.FitLaws.{n-fits, l-fits, variables-fit}
 use Rattle.protocol.specs.Key.{sectionA, sectionB}
@@ -24,7 +23,7 @@ use Rattle.lanes.specs.Lanes.{lanes, laneAt, maskLane, maskBits, firstMask}
 use Rattle.forms_choices.proofs.ChoiceLaws.{up-to-first}
 use Rattle.forms_columns.specs.Stacks.{coordinateOf}
 use Rattle.forms.specs.Batch.{formsByte, middlesByte}
-use Rattle.prover.proofs.SumSections.{first-is-u}
+use Rattle.prover_sections.proofs.SumSections.{first-is-u}
 use Rattle.prover.proofs.BatchSections.{qs0-are, qs1-are}
 use Rattle.sections.proofs.Writes.{framed-one, framed-two, rest-length, part-starts, take-length}
 use borrow.Author.Needs.{needs}
@@ -108,7 +107,7 @@ returns c =
     let masked = c .before .before .before .before .before .before .before .before .before .before .before .before .before .before .before .before .before .add-masks in
     let formed = c .before .before .before .before .before .before .before .before .before .before .add-forms in
     let T = now (a .space) in
-    let u = blockAt (now (a .sums)) (wOf bits256 s) 0 in
+    let u = blockAt (now (a .sums)) (wOf (alphabetFor (a .s)) s) 0 in
     let g : ℕ → ℕ → ℕ = coordinateOf (filled .last .0) in
     let lane : (e : ℕ) → e < a .s .tau → e < lanes = λ e h. omega (arith, h, within .τ-most) in
     let same : (e k : ℕ) → e < a .s .tau → k < a .s .n → g e k ≡ laneAt T k e = λ e k l h. filled .ensures .0 e k l (omega (arith, h, within .n-most)) ∙ up-to-first (a .s .n) (λ z. laneAt T z e) k h in
@@ -120,13 +119,13 @@ returns c =
     (qs0-are s leaves (now (a .key)) (now (a .batching)) T (formed .last .0) (loaded .table-is) wide g same
     (λ e l.
     formed .ensures .0 e l
-    ∙ ap (λ (x : ℕ). bitXor x (formsByte (a .s .n) (a .s .m) (sectionA bits256 s (now (a .key))) (now (a .batching)) e (g e)))
+    ∙ ap (λ (x : ℕ). bitXor x (formsByte (a .s .n) (a .s .m) (sectionA (alphabetFor (a .s)) s (now (a .key))) (now (a .batching)) e (g e)))
     (masked .ensures .0 e l ∙ ap (λ (x : ℕ). bitXor x (maskLane T (firstMask (a .s) e) e)) (getD-replicate lanes e 0 0 (lane e l)) ∙ xor-zero-l (maskLane T (firstMask (a .s) e) e))))
     (qs1-are s leaves (now (a .key)) (now (a .batching)) T (formed .last .1 .0) (loaded .table-is) wide′ g same (now (a .witness)) u
     (first-is-u s leaves (now (a .sums)) (within .τ-least) (loaded .sums-are))
     (λ e l.
     formed .ensures .1 e l
-    ∙ ap (λ (x : ℕ). bitXor x (middlesByte (a .s .n) (a .s .m) (sectionA bits256 s (now (a .key))) (sectionB bits256 s (now (a .key))) (bit (now (a .witness))) (now (a .batching)) e (g e)))
+    ∙ ap (λ (x : ℕ). bitXor x (middlesByte (a .s .n) (a .s .m) (sectionA (alphabetFor (a .s)) s (now (a .key))) (sectionB (alphabetFor (a .s)) s (now (a .key))) (bit (now (a .witness))) (now (a .batching)) e (g e)))
     (masked .ensures .1 e l ∙ ap (λ (x : ℕ). bitXor x (maskBits u (firstMask (a .s) e))) (getD-replicate lanes e 0 0 (lane e l)) ∙ xor-zero-l (maskBits u (firstMask (a .s) e)))))
 
 pub batch-into-spec : {M : Type 1} → statement M

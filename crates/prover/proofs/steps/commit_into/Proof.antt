@@ -11,12 +11,11 @@ use lib.Bits.{bitXor}
 use Rattle.protocol.specs.Lists.{blockAt}
 use Rattle.protocol.specs.Strings.{bytesFor, bit, pack}
 use Rattle.protocol.specs.Frames.{frame, framedLength}
-use Rattle.protocol.specs.Binary.{bits256}
 use Rattle.protocol.specs.Shape.{Shape, limits, kOf, wOf}
 use Rattle.protocol.specs.Sections.{commitLengths, hashLengths}
 use Rattle.protocol.specs.Prover.{cSection, dSection, ũSection, ṼSection, qs0Section, qs1Section}
 use Rattle.protocol.proofs.ListLaws.{row-end}
-use Rattle.format.specs.Sizes.{settingFor, shapeFor}
+use Rattle.format.specs.Sizes.{alphabetFor, shapeFor}
 use Rattle.format.proofs.SizeLaws.{in-limits, k-most, w-most, bytes-most, corrections-most, hashed-most, row-most}
 use Rattle.format.proofs.FitLaws.{n-fits, l-fits, variables-fit}
 use Rattle.sections.proofs.Writes.{framed-one, framed-two, rest-length, part-starts, take-length}
@@ -32,22 +31,22 @@ leaf-bytes-requires c κs = search needs
 
 mul-split : tie.Need-mul-split
 mul-split c =
-    rw (c .leaf-bytes .ensures) (omega (arith, corrections-most (settingFor (c .before .before .before .before .before .args .s)) (shapeFor (c .before .before .before .before .before .args .s)) (c .before .before .before .before .before .pre .in-range)))
+    rw (c .leaf-bytes .ensures) (omega (arith, corrections-most (shapeFor (c .before .before .before .before .before .args .s)) (c .before .before .before .before .before .pre .in-range)))
 
 add-split : tie.Need-add-split
 add-split c =
-    rw (c .leaf-bytes .ensures) (omega (arith, corrections-most (settingFor (c .before .before .before .before .before .args .s)) (shapeFor (c .before .before .before .before .before .args .s)) (c .before .before .before .before .before .pre .in-range)))
+    rw (c .leaf-bytes .ensures) (omega (arith, corrections-most (shapeFor (c .before .before .before .before .before .args .s)) (c .before .before .before .before .before .pre .in-range)))
 
 slice-relend-prefix-write-c : tie.Need-slice-relend-prefix-write-c
 slice-relend-prefix-write-c c = rw (c .leaf-bytes .ensures) (omega (arith, c .before .before .before .before .before .pre .out-length))
 
 slice-aggregate-write-c : tie.Need-slice-aggregate-write-c
 slice-aggregate-write-c c =
-    rw (c .before .leaf-bytes .ensures) (sym (take-length (4 + (c .before .before .before .before .before .before .args .s .tau - 1) * wOf bits256 (shapeFor (c .before .before .before .before .before .before .args .s))) (now (c .before .before .before .before .before .before .args .out)) (omega (arith, c .before .before .before .before .before .before .pre .out-length))))
+    rw (c .before .leaf-bytes .ensures) (sym (take-length (4 + (c .before .before .before .before .before .before .args .s .tau - 1) * wOf (alphabetFor (c .before .before .before .before .before .before .args .s)) (shapeFor (c .before .before .before .before .before .before .args .s))) (now (c .before .before .before .before .before .before .args .out)) (omega (arith, c .before .before .before .before .before .before .pre .out-length))))
 
 write-c-requires : tie.Need-write-c-requires
 write-c-requires c κs =
-    rw (c .before .leaf-bytes .ensures) (c .before .before .before .before .before .before .pre .in-range, c .before .before .before .before .before .before .pre .sums-room, take-length (4 + (c .before .before .before .before .before .before .args .s .tau - 1) * wOf bits256 (shapeFor (c .before .before .before .before .before .before .args .s))) (now (c .before .before .before .before .before .before .args .out)) (omega (arith, c .before .before .before .before .before .before .pre .out-length)))
+    rw (c .before .leaf-bytes .ensures) (c .before .before .before .before .before .before .pre .in-range, c .before .before .before .before .before .before .pre .sums-room, take-length (4 + (c .before .before .before .before .before .before .args .s .tau - 1) * wOf (alphabetFor (c .before .before .before .before .before .before .args .s)) (shapeFor (c .before .before .before .before .before .before .args .s))) (now (c .before .before .before .before .before .before .args .out)) (omega (arith, c .before .before .before .before .before .before .pre .out-length)))
 
 sub-write-d : tie.Need-sub-write-d
 sub-write-d c =
@@ -74,7 +73,7 @@ returns c =
     let shape = (shapeFor (c .before .before .before .before .before .before .before .before .before .before .before .before .before .args .s)) in
     let first = c .before .before .before .before .before .before .write-c in
     λ leaves table loaded.
-    framed-two (4 + (a .s .tau - 1) * c .before .before .before .before .before .before .before .before .leaf-bytes .result) (first .last .0) (drop (4 + (a .s .tau - 1) * c .before .before .before .before .before .before .before .before .leaf-bytes .result) (now (a .out))) (c .before .before .write-d .last .0) (cSection bits256 shape leaves ∷ []) (dSection bits256 shape leaves (now (a .witness)) ∷ [])
+    framed-two (4 + (a .s .tau - 1) * c .before .before .before .before .before .before .before .before .leaf-bytes .result) (first .last .0) (drop (4 + (a .s .tau - 1) * c .before .before .before .before .before .before .before .before .leaf-bytes .result) (now (a .out))) (c .before .before .write-d .last .0) (cSection (alphabetFor (a .s)) shape leaves ∷ []) (dSection (alphabetFor (a .s)) shape leaves (now (a .witness)) ∷ [])
     (first .kept .0 ∙ take-length (4 + (c .before .before .before .before .before .before .before .before .before .before .before .before .before .args .s .tau - 1) * c .before .before .before .before .before .before .before .before .leaf-bytes .result) (now (c .before .before .before .before .before .before .before .before .before .before .before .before .before .args .out)) (rw (c .before .before .before .before .before .before .before .before .leaf-bytes .ensures) (omega (arith, c .before .before .before .before .before .before .before .before .before .before .before .before .before .pre .out-length)))) (first .ensures leaves (loaded .leaves-form) (loaded .sums-are)) (c .before .before .write-d .ensures leaves (loaded .sums-are))
 
 pub commit-into-spec : {M : Type 1} → statement M

@@ -11,12 +11,11 @@ use lib.Bits.{bitXor}
 use Rattle.protocol.specs.Lists.{blockAt}
 use Rattle.protocol.specs.Strings.{bytesFor, bit, pack}
 use Rattle.protocol.specs.Frames.{frame, framedLength}
-use Rattle.protocol.specs.Binary.{bits256}
 use Rattle.protocol.specs.Shape.{Shape, limits, kOf, wOf}
 use Rattle.protocol.specs.Sections.{commitLengths, hashLengths}
 use Rattle.protocol.specs.Prover.{cSection, dSection, ũSection, ṼSection, qs0Section, qs1Section}
 use Rattle.protocol.proofs.ListLaws.{row-end}
-use Rattle.format.specs.Sizes.{shapeFor}
+use Rattle.format.specs.Sizes.{alphabetFor, shapeFor}
 use Rattle.format.proofs.SizeLaws.{in-limits, k-most, w-most, bytes-most, corrections-most, hashed-most, row-most}
 use Rattle.format.proofs.FitLaws.{n-fits, l-fits, variables-fit}
 use Rattle.sections.proofs.Writes.{framed-one, framed-two, rest-length, part-starts, take-length}
@@ -67,7 +66,7 @@ returns c =
     let shape = (shapeFor (c .before .before .before .before .before .before .before .before .before .before .before .before .before .args .s)) in
     let first = c .before .before .before .before .before .before .write-u in
     λ leaves loaded.
-    framed-two (4 + c .before .before .before .before .before .before .before .before .bytes-for .result) (first .last .0) (drop (4 + c .before .before .before .before .before .before .before .before .bytes-for .result) (now (a .out))) (c .before .before .write-v .last .0) (ũSection bits256 shape leaves (now (a .matrix)) ∷ []) (ṼSection bits256 shape leaves (now (a .matrix)) ∷ [])
+    framed-two (4 + c .before .before .before .before .before .before .before .before .bytes-for .result) (first .last .0) (drop (4 + c .before .before .before .before .before .before .before .before .bytes-for .result) (now (a .out))) (c .before .before .write-v .last .0) (ũSection (alphabetFor (a .s)) shape leaves (now (a .matrix)) ∷ []) (ṼSection (alphabetFor (a .s)) shape leaves (now (a .matrix)) ∷ [])
     (first .kept .0 ∙ take-length (4 + c .before .before .before .before .before .before .before .before .bytes-for .result) (now (c .before .before .before .before .before .before .before .before .before .before .before .before .before .args .out)) (rw (c .before .before .before .before .before .before .before .before .bytes-for .ensures) (omega (arith, c .before .before .before .before .before .before .before .before .before .before .before .before .before .pre .out-length)))) (first .ensures leaves (loaded .sums-are)) (c .before .before .write-v .ensures leaves (loaded .table-is))
 
 pub hash-into-spec : {M : Type 1} → statement M

@@ -1,0 +1,3 @@
+pub mod SumSections
+pub mod HashLaws
+pub mod HashSections

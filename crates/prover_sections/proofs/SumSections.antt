@@ -1,0 +1,145 @@
+-- The written bytes are the sections C, d and ũ of 01.
+-- Assumes nothing.
+use mathlib.Core.Path.{_≡_, refl, sym, ap, ap₂, _∙_}
+use mathlib.Core.Bool.{true}
+use mathlib.Core.List.{List}
+use Prim.Native.Nat.{ℕ, zero, suc, _+_, _*_, _-_, _/_, _%_, _≤_, _<_}
+use native.Mathlib.Nat.{zero-mul, mul-zero, mod-eq-of-lt, div-add-mod', div-lt-iff-lt-mul, mod-lt}
+use native.Mathlib.Numerals.{add-one}
+use native.Mathlib.Decide.{decLe}
+use native.Mathlib.Omega.{arith}
+use lib.Bits.{bitXor, xor-lt}
+use lib.ListN.{length, List·getD-eq-default}
+use Rattle.algebra.specs.Sum.{sum}
+use Rattle.protocol.specs.Lists.{blockAt}
+use Rattle.protocol.specs.Strings.{bytesFor, bit, spareZero, pack}
+use Rattle.protocol.specs.Alphabet.{sym as symbol}
+use Rattle.protocol.specs.Binary.{bits256}
+use Rattle.protocol.specs.Shape.{Shape, perTree, kOf, lOf, wOf}
+use Rattle.protocol.specs.Questions.{hExact, hSpare, leavesExact, leavesSpare}
+use Rattle.protocol.specs.Key.{rowsSpare}
+use Rattle.protocol.specs.Prover.{u, correction, dOf, cSection, dSection, ũSection}
+use Rattle.protocol.proofs.ListLaws.{length-block}
+use Rattle.protocol.proofs.StringLaws.{bit-lt, spare-at, pack-congr}
+use Rattle.protocol.proofs.HashLaws.{hash-split}
+use Rattle.protocol.proofs.TestLaws.{eqb-eq, all-at}
+use Rattle.format.proofs.FitLaws.{in-width}
+use Rattle.strings.specs.Sums.{byteAt, bitOf}
+use Rattle.strings.specs.Products.{bitProduct}
+use Rattle.strings.proofs.Rows.{row-end, row-byte, row-lt}
+use Rattle.strings.proofs.Meaning.{bitOf-xor, bit-is, byte-sum, byte-bit, byte-scale}
+use Rattle.strings.proofs.SumLaws.{sum-same, sum-short}
+use Rattle.strings.proofs.ProductLaws.{product-lt}
+use Rattle.strings.proofs.Packed.{packed, rows-are}
+use Rattle.prover_sections.specs.Hash.{hashBit}
+use Rattle.tables.specs.Sums.{SumsAre, CorrectionsAre}
+use Rattle.tables.proofs.SumsMeaning.{byteOf, u-lt, u-spare, sums-u}
+
+abbrev Element : Type 0
+Element = bits256 .K .base .R .F
+
+-- the symbol of a sum of two bits
+sum-symbol : (a b : Element) → byteOf a < 2 → byteOf b < 2 → bits256 .symbolOf (bits256 .K .base .R .add a b) ≡ bitXor (byteOf a) (byteOf b)
+sum-symbol a b h k = ap (λ x. x % 2) (bits256 .K .byte-add a b) ∙ mod-eq-of-lt (xor-lt 1 (byteOf a) (byteOf b) h k)
+
+-- what its rows hold, a string of rows holds
+rows-lt : (l : List ℕ) (n w m : ℕ) → 0 < m → length l ≡ n * w → ((e b : ℕ) → e < n → b < w → byteAt l (e * w + b) < m) → (i : ℕ) → byteAt l i < m
+rows-lt l n w m pos long rows i = go (decLe (length l) i) w refl
+  where
+    past : length l ≤ i → byteAt l i < m
+    past h = rw (List·getD-eq-default l 0 h) pos
+
+    go : Dec (length l ≤ i) → (v : ℕ) → v ≡ w → byteAt l i < m
+    go (yes h) v z = past h
+    go (no h) zero z = absurd (h (omega (arith, long, mul-zero n, ap (λ x. n * x) z)))
+    go (no f) (suc v) z =
+        let h : i < length l = omega (arith, f) in
+        let k : 0 < w = omega arith in
+        let q : i / w < n = div-lt-iff-lt-mul k .1 (rw (← long) h) in
+        rw (div-add-mod' i w) at (rows (i / w) (i % w) q (mod-lt i k))
+
+width-is : (s : Shape) → wOf bits256 s ≡ bytesFor (lOf bits256 s)
+unfolding wOf
+width-is s = refl
+
+-- row has the coordinates of 01's u
+abbrev pub IsU : Shape → List ℕ → List ℕ → Type 0
+IsU s leaves row = (c : ℕ) → c < 8 * wOf bits256 s → bit row c ≡ byteOf (u bits256 s leaves 0 c)
+
+pub first-is-u : (s : Shape) (leaves sums : List ℕ) → 0 < s .τ → SumsAre sums leaves (s .τ) (wOf bits256 s) (perTree bits256) → IsU s leaves (blockAt sums (wOf bits256 s) 0)
+first-is-u s leaves sums pos are c h = sums-u s leaves 0 c sums (s .τ) are pos h
+
+module _ (s : Shape) (leaves : List ℕ) where
+  abbrev w : ℕ
+  w = wOf bits256 s
+
+  module _ (out sums : List ℕ) (are : SumsAre sums leaves (s .τ) w (perTree bits256)) (written : CorrectionsAre out sums (s .τ - 1) w) where
+    correction-bit : (e c : ℕ) → e < s .τ - 1 → c < 8 * w
+        → bit (blockAt out w e) c ≡ bitXor (byteOf (u bits256 s leaves (suc e) c)) (byteOf (u bits256 s leaves 0 c))
+    correction-bit e c l h =
+        let k : c / 8 < w = omega arith in
+        let first : 0 * w + c / 8 ≡ c / 8 = omega arith in
+        bit-is (blockAt out w e) c
+        ∙ ap (λ x. bitOf x (c % 8)) (row-byte out w e (c / 8) k ∙ written e (c / 8) l k)
+        ∙ bitOf-xor (byteAt sums ((e + 1) * w + c / 8)) (byteAt sums (c / 8)) (c % 8)
+        ∙ ap₂ bitXor
+        (ap (λ i. bitOf (byteAt sums (i * w + c / 8)) (c % 8)) (add-one e) ∙ row-bit (suc e) k ∙ sums-u s leaves (suc e) c sums (s .τ) are (omega arith) h)
+        (ap (λ i. bitOf (byteAt sums i) (c % 8)) (sym first) ∙ row-bit 0 k ∙ sums-u s leaves 0 c sums (s .τ) are (omega arith) h)
+      where
+        row-bit : (i : ℕ) → c / 8 < w → bitOf (byteAt sums (i * w + c / 8)) (c % 8) ≡ bit (blockAt sums w i) c
+        row-bit i k = sym (bit-is (blockAt sums w i) c ∙ ap (λ x. bitOf x (c % 8)) (row-byte sums w i (c / 8) k))
+
+    pub corrections-are : leavesExact bits256 s (perTree bits256) leaves ≡ true → leavesSpare bits256 s (perTree bits256) leaves ≡ true
+        → length out ≡ (s .τ - 1) * w → ((i : ℕ) → byteAt sums i < 256) → out ≡ cSection bits256 s leaves
+    unfolding cSection correction
+    corrections-are exact zeros long sums-bytes = rows-are w (s .τ - 1) out _ long row
+      where
+        bytes : (i : ℕ) → byteAt out i < 256
+        bytes = rows-lt out (s .τ - 1) w 256 (omega arith) long (λ e b l h. rw (written e b l h) (xor-lt 8 (byteAt sums ((e + 1) * w + b)) (byteAt sums b) (sums-bytes ((e + 1) * w + b)) (sums-bytes b)))
+
+        row : (e : ℕ) → e < s .τ - 1 → blockAt out w e ≡ pack (lOf bits256 s) (λ c. bits256 .symbolOf (correction bits256 s leaves (suc e) c))
+        row e l =
+            packed (lOf bits256 s) (blockAt out w e) _ (size ∙ width-is s) (row-lt out w e 256 (omega arith) bytes)
+            (λ c h. correction-bit e c l (in-width s c h) ∙ sym (sum-symbol (u bits256 s leaves (suc e) c) (u bits256 s leaves 0 c) (u-lt s leaves (suc e) c) (u-lt s leaves 0 c)))
+            (λ c low high.
+            let k : c < 8 * w = omega (arith, size) in
+            correction-bit e c l k ∙ ap₂ bitXor (u-spare s leaves (suc e) c exact zeros (omega arith) low k) (u-spare s leaves 0 c exact zeros (omega arith) low k))
+          where
+            size : length (blockAt out w e) ≡ w
+            size = length-block out w e (omega (arith, row-end e (s .τ - 1) w l))
+
+  pub difference-is : (x row : List ℕ) → IsU s leaves row → pack (s .n) (λ c. bitXor (bit x c) (bit row c)) ≡ dSection bits256 s leaves x
+  unfolding dSection dOf symbol lOf kOf
+  difference-is x row is =
+      pack-congr (s .n) _ _ (λ c l.
+      ap₂ bitXor (sym (byte-bit (bits256 .K) (bit x c) (bit-lt x c))) (is c (in-width s c (omega arith)))
+      ∙ sym (sum-symbol (bits256 .K .elem (bit x c)) (u bits256 s leaves 0 c) (rw (byte-bit (bits256 .K) (bit x c) (bit-lt x c)) (bit-lt x c)) (u-lt s leaves 0 c)))
+
+  module _ (H′ row : List ℕ) (exact : hExact bits256 s H′ ≡ true) (zeros : hSpare bits256 s H′ ≡ true) (is : IsU s leaves row) where
+    abbrev k : ℕ
+    k = kOf bits256 s
+
+    abbrev rowAt : ℕ → List ℕ
+    rowAt ρ = blockAt H′ (bytesFor k) ρ
+
+    row-spare : (ρ c : ℕ) → ρ < s .t → k ≤ c → c < bytesFor k * 8 → bit (rowAt ρ) c ≡ 0
+    unfolding hExact hSpare rowsSpare
+    row-spare ρ c l low high =
+        let long : length H′ ≡ s .t * bytesFor k = eqb-eq _ _ exact in
+        spare-at k (rowAt ρ) (all-at (s .t) (λ i. spareZero (rowAt i) k) zeros ρ l) c low (rw (length-block H′ (bytesFor k) ρ (omega (arith, long, row-end ρ (s .t) (bytesFor k) l))) high)
+
+    -- the product with a row of H′ as the field has it
+    product-is : (ρ : ℕ) → ρ < s .t → bitProduct (bytesFor k * 8) (rowAt ρ) row ≡ byteOf (sum (bits256 .K .base .R) k (λ c. bits256 .K .base .R .mul (symbol bits256 (rowAt ρ) c) (u bits256 s leaves 0 c)))
+    unfolding symbol lOf bytesFor
+    product-is ρ l =
+        sum-short k (bytesFor k * 8) _ (omega arith) (λ c low high. ap (λ q. q * bit row c) (row-spare ρ c l low high) ∙ zero-mul (bit row c))
+        ∙ sum-same k _ _ (λ c h. ap (λ q. bit (rowAt ρ) c * q) (is c (in-width s c (omega arith))) ∙ sym (byte-scale (bits256 .K) (bit (rowAt ρ) c) (u bits256 s leaves 0 c) (bit-lt (rowAt ρ) c)))
+        ∙ sym (byte-sum (bits256 .K) k _)
+
+    pub hash-is : pack (s .t) (hashBit H′ row k) ≡ ũSection bits256 s leaves H′
+    unfolding ũSection lOf
+    hash-is =
+        pack-congr (s .t) _ _ (λ ρ l.
+        ap₂ bitXor (product-is ρ l) (is (k + ρ) (in-width s (k + ρ) (omega arith)))
+        ∙ sym (sum-symbol _ (u bits256 s leaves 0 (k + ρ)) (rw (← product-is ρ l) (product-lt (bytesFor k * 8) (rowAt ρ) row)) (u-lt s leaves 0 (k + ρ)))
+        ∙ ap (bits256 .symbolOf) (sym (hash-split bits256 s H′ ρ (u bits256 s leaves 0) l)))
