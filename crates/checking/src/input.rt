@@ -4,11 +4,12 @@ ghost use mathlib.Core.Bool.{true};
 ghost use Prim.Native.Nat.{_≤_};
 ghost use lib.ListN.{length};
 ghost use Rattle.protocol.specs.Frames.{framed, framedLength};
-ghost use Rattle.protocol.specs.Binary.{bits256};
+ghost use Rattle.protocol.specs.CheckEdges.{eight};
 ghost use Rattle.protocol.specs.Check.{lengthsIn, checkOf};
 ghost use Rattle.format.specs.Verdict.{answerOf};
 ghost use Rattle.checking.specs.Checked.{checkedOf, verifyParts};
 use super::Checked;
+use field::Gf256;
 use format::Verdict;
 use sections::Span;
 use sections::find;
@@ -16,6 +17,9 @@ use sections::section_no;
 
 // The most bytes that are taken, counts included.
 const MOST_INPUT: usize = 65536;
+
+// The degree of the check program (request 3).
+const DEGREE: u32 = Gf256::DEGREE as u32;
 
 // Reads as many sections as lengths has room for, one at a time, by the counts that stand there. Are they all whole,
 // and is nothing left over? Then lengths has their lengths.
@@ -43,6 +47,7 @@ fn verify_sections(input: &[u8], lengths: &[usize]) -> Verdict
 {
     verifier::verify(
         section_no(input, lengths, 0),
+        DEGREE,
         section_no(input, lengths, 1),
         section_no(input, lengths, 2),
         section_no(input, lengths, 3),
@@ -53,7 +58,7 @@ fn verify_sections(input: &[u8], lengths: &[usize]) -> Verdict
 
 // What the verifier answers to the input's six sections, or that they could not be read.
 pub fn read_and_verify(input: &[u8]) -> Checked
-    ensures { λ r. ⌜ checkedOf r ≡ checkOf bits256 (now (input .entry)) ⌝ }
+    ensures { λ r. ⌜ checkedOf r ≡ checkOf eight (now (input .entry)) ⌝ }
 {
     if MOST_INPUT < input.len() {
         return Checked::Unread;

@@ -9,10 +9,11 @@ use native.Mathlib.Omega.{arith}
 use lib.Dec.{leb}
 use Rattle.algebra.specs.Field.{Field}
 use Rattle.algebra.specs.Coded.{Coded}
-use Rattle.field.specs.Gf256.{gf256}
+use Rattle.field.specs.Degrees.{degree}
+use Rattle.protocol.specs.Alphabet.{Alphabet}
 use Rattle.algebra.proofs.CountLaws.{and-left, and-right}
 use Rattle.protocol.specs.Strings.{bytesFor}
-use Rattle.protocol.specs.Binary.{bits256}
+use Rattle.protocol.specs.Setting.{Setting, alphabetOf}
 use Rattle.protocol.specs.Frames.{framedLength}
 use Rattle.protocol.specs.Key.{keyLengths}
 use Rattle.protocol.specs.Sections.{lengths, commitLengths, hashLengths, batchLengths}
@@ -58,26 +59,8 @@ bytes-up-to most bits h = omega arith
 pub bytes-most : (bits : ℕ) → bits ≤ mostHashed → bytesFor bits ≤ mostRow
 bytes-most = bytes-up-to mostHashed
 
+-- what does not depend on the setting
 module _ (s : Shape) (h : limits s ≡ true) where
-  pub k-most : kOf bits256 s ≤ mostHashed
-  unfolding kOf
-  k-most = let b = in-limits s h in omega arith
-
-  pub l-most : lOf bits256 s ≤ mostHashed + mostHashRows
-  unfolding lOf
-  l-most = let b = in-limits s h in omega (arith, k-most)
-
-  pub w-most : wOf bits256 s ≤ mostLeaf
-  unfolding wOf
-  w-most = bytes-up-to (mostHashed + mostHashRows) (lOf bits256 s) l-most
-
-  -- products of sizes
-  pub corrections-most : (s .τ - 1) * wOf bits256 s ≤ (mostRepetitions - 1) * mostLeaf
-  corrections-most = let b = in-limits s h in let e : s .τ - 1 ≤ mostRepetitions - 1 = omega arith in mul-le-mul e w-most
-
-  pub hash-matrix-most : s .t * bytesFor (kOf bits256 s) ≤ mostHashRows * mostRow
-  hash-matrix-most = mul-le-mul (in-limits s h .t-most) (bytes-most (kOf bits256 s) k-most)
-
   pub batching-most : s .τ * s .m ≤ mostRepetitions * mostEquations
   batching-most = mul-le-mul (in-limits s h .τ-most) (in-limits s h .m-most)
 
@@ -96,32 +79,59 @@ module _ (s : Shape) (h : limits s ≡ true) where
   pub linear-most : s .m * bytesFor (s .n) ≤ mostEquations * mostWitness
   linear-most = mul-le-mul (in-limits s h .m-most) row-most
 
-  -- a tree has at most as many leaves as the field has elements
-  pub trees-most : (per : ℕ) → per ≤ gf256 .base .size → s .τ * per ≤ mostRepetitions * gf256 .base .size
+  -- a tree has at most as many leaves as there are bytes
+  pub trees-most : (per : ℕ) → per ≤ 256 → s .τ * per ≤ mostRepetitions * 256
   trees-most per l = mul-le-mul (in-limits s h .τ-most) l
 
-  pub leaves-most : (per : ℕ) → per ≤ gf256 .base .size → s .τ * per * wOf bits256 s ≤ mostRepetitions * gf256 .base .size * mostLeaf
-  leaves-most per l = mul-le-mul (trees-most per l) w-most
+-- what does: a mask has at most eight coordinates
+module _ (g : Setting) (s : Shape) (h : limits s ≡ true) where
+  abbrev A : Alphabet
+  A = alphabetOf g
+
+  pub masks-most : s .τ * A .masks ≤ mostRepetitions * degree
+  masks-most = mul-le-mul (in-limits s h .τ-most) (A .K .degree≤8)
+
+  pub k-most : kOf (alphabetOf g) s ≤ mostHashed
+  unfolding kOf
+  k-most = let b = in-limits s h in omega (arith, masks-most)
+
+  pub l-most : lOf (alphabetOf g) s ≤ mostHashed + mostHashRows
+  unfolding lOf
+  l-most = let b = in-limits s h in omega (arith, k-most)
+
+  pub w-most : wOf (alphabetOf g) s ≤ mostLeaf
+  unfolding wOf
+  w-most = bytes-up-to (mostHashed + mostHashRows) (lOf A s) l-most
+
+  -- products of sizes
+  pub corrections-most : (s .τ - 1) * wOf (alphabetOf g) s ≤ (mostRepetitions - 1) * mostLeaf
+  corrections-most = let b = in-limits s h in let e : s .τ - 1 ≤ mostRepetitions - 1 = omega arith in mul-le-mul e w-most
+
+  pub hash-matrix-most : s .t * bytesFor (kOf (alphabetOf g) s) ≤ mostHashRows * mostRow
+  hash-matrix-most = mul-le-mul (in-limits s h .t-most) (bytes-most (kOf A s) k-most)
+
+  pub leaves-most : (per : ℕ) → per ≤ 256 → s .τ * per * wOf (alphabetOf g) s ≤ mostRepetitions * 256 * mostLeaf
+  leaves-most per l = mul-le-mul (trees-most s h per l) w-most
 
   -- strings of sections, each after its count of four bytes
-  pub commit-most : framedLength (commitLengths bits256 s) ≤ 2 * 4 + (mostRepetitions - 1) * mostLeaf + mostWitness
+  pub commit-most : framedLength (commitLengths (alphabetOf g) s) ≤ 2 * 4 + (mostRepetitions - 1) * mostLeaf + mostWitness
   unfolding framedLength commitLengths
-  commit-most = omega (arith, corrections-most, row-most)
+  commit-most = omega (arith, corrections-most, row-most s h)
 
-  pub hash-most : framedLength (hashLengths bits256 s) ≤ 2 * 4 + (mostHashRows + 7) / 8 + mostRepetitions * mostHashRows
+  pub hash-most : framedLength (hashLengths (alphabetOf g) s) ≤ 2 * 4 + (mostHashRows + 7) / 8 + mostRepetitions * mostHashRows
   unfolding framedLength hashLengths
-  hash-most = let b = in-limits s h in omega (arith, bytes-up-to mostHashRows (s .t) (b .t-most), hashed-most)
+  hash-most = let b = in-limits s h in omega (arith, bytes-up-to mostHashRows (s .t) (b .t-most), hashed-most s h)
 
-  pub batch-most : framedLength (batchLengths bits256 s) ≤ 2 * 4 + 2 * mostRepetitions
+  pub batch-most : framedLength (batchLengths (alphabetOf g) s) ≤ 2 * 4 + 2 * mostRepetitions
   unfolding framedLength batchLengths
   batch-most = let b = in-limits s h in omega arith
 
   pub proof-most
-      : framedLength (lengths bits256 s)
+      : framedLength (lengths (alphabetOf g) s)
       ≤ 6 * 4 + (mostRepetitions - 1) * mostLeaf + mostWitness + (mostHashRows + 7) / 8 + mostRepetitions * mostHashRows + 2 * mostRepetitions
   unfolding framedLength lengths
-  proof-most = let b = in-limits s h in omega (arith, corrections-most, row-most, bytes-up-to mostHashRows (s .t) (b .t-most), hashed-most)
+  proof-most = let b = in-limits s h in omega (arith, corrections-most, row-most s h, bytes-up-to mostHashRows (s .t) (b .t-most), hashed-most s h)
 
-  pub key-most : framedLength (keyLengths bits256 s) ≤ 3 * 4 + mostEquations * mostVariables * mostWitness + mostEquations * mostWitness + (mostEquations + 7) / 8
+  pub key-most : framedLength (keyLengths (alphabetOf g) s) ≤ 3 * 4 + mostEquations * mostVariables * mostWitness + mostEquations * mostWitness + (mostEquations + 7) / 8
   unfolding framedLength keyLengths
-  key-most = let b = in-limits s h in omega (arith, matrices-most, linear-most, bytes-up-to mostEquations (s .m) (b .m-most))
+  key-most = let b = in-limits s h in omega (arith, matrices-most s h, linear-most s h, bytes-up-to mostEquations (s .m) (b .m-most))

@@ -5,7 +5,7 @@
 use Prim.Native.Nat.{ℕ}
 use Rattle.protocol.specs.Answers.{Answer, accepted, refused}
 use Rattle.format.specs.declared.Reason.{Reason}
-use Rattle.format.specs.declared.Reason.the-variants.{ShortHeader, SizeOutOfRange, KeyLength, KeySpareBit, ChallengeLength, HashSpareBit, LeafLength, LeafSpareBit, WitnessForm, OutputLength, EquationFails, ProofLength, ProofSpareBit, Inconsistent, ProductDiffers}
+use Rattle.format.specs.declared.Reason.the-variants.{ShortHeader, SizeOutOfRange, KeyLength, KeySpareBit, ChallengeLength, HashSpareBit, LeafLength, LeafSpareBit, WitnessForm, OutputLength, EquationFails, ProofLength, ProofSpareBit, Inconsistent, ProductDiffers, DegreeUnserved, ChallengeElement, ProofElement}
 use Rattle.format.specs.declared.Refusal.{Refusal}
 use Rattle.format.specs.declared.Verdict.{Verdict}
 use Rattle.format.specs.declared.Verdict.the-variants.{Accepted, Refused}
@@ -26,6 +26,9 @@ numberFor ProofLength = 12
 numberFor ProofSpareBit = 13
 numberFor Inconsistent = 14
 numberFor ProductDiffers = 15
+numberFor DegreeUnserved = 16
+numberFor ChallengeElement = 17
+numberFor ProofElement = 18
 
 abbrev pub answerOf : Verdict → Answer
 answerOf Accepted = accepted

@@ -11,7 +11,7 @@ ghost use Prim.Native.Nat.{_<_};
 ghost use Rattle.protocol.specs.Answers.{refused, question, ask};
 ghost use Rattle.format.specs.Verdict.{numberFor, answerOf, andThen};
 
-// Why a call refuses: one case for each question of 01.
+// Why a call refuses: one case for each question of 01, and for 16 to 18 of request 3.
 pub enum Reason {
     ShortHeader,
     SizeOutOfRange,
@@ -28,6 +28,9 @@ pub enum Reason {
     ProofSpareBit,
     Inconsistent,
     ProductDiffers,
+    DegreeUnserved,
+    ChallengeElement,
+    ProofElement,
 }
 
 // A number and a place held together.
@@ -44,7 +47,7 @@ pub enum Verdict {
 
 // The number that 01 gives a question.
 pub fn number(reason: Reason) -> u32
-    ensures { λ r. ⌜ (r ≡ numberFor reason) × (r < 16) ⌝ }
+    ensures { λ r. ⌜ (r ≡ numberFor reason) × (r < 19) ⌝ }
 {
     match reason {
         Reason::ShortHeader => 1,
@@ -62,6 +65,9 @@ pub fn number(reason: Reason) -> u32
         Reason::ProofSpareBit => 13,
         Reason::Inconsistent => 14,
         Reason::ProductDiffers => 15,
+        Reason::DegreeUnserved => 16,
+        Reason::ChallengeElement => 17,
+        Reason::ProofElement => 18,
     }
 }
 

@@ -5,11 +5,13 @@ ghost use Prim.Native.Nat.{_+_, _*_, _<_, _≤_, _^_};
 ghost use Rattle.protocol.specs.Strings.{bytesFor};
 ghost use Rattle.algebra.specs.Coded.{Coded};
 ghost use Rattle.protocol.specs.Alphabet.{Alphabet};
-ghost use Rattle.protocol.specs.Shape.{within, limits, maskAt, kOf, lOf, wOf};
+ghost use Rattle.protocol.specs.Setting.{served};
+ghost use Rattle.protocol.specs.Shape.{within, limits, perTree, maskAt, kOf, lOf, wOf};
 ghost use Rattle.protocol.specs.Key.{keyLengths};
 ghost use Rattle.protocol.specs.Sections.{lengths, commitLengths, hashLengths, batchLengths};
-ghost use Rattle.format.specs.Sizes.{alphabetFor, shapeFor, SizesOf};
+ghost use Rattle.format.specs.Sizes.{settingFor, alphabetFor, shapeFor, SizesOf};
 use super::numbers::number2;
+use field::Gf16;
 use field::Gf256;
 use strings::BITS;
 
@@ -43,17 +45,19 @@ pub const MOST_LEAF: usize = (MOST_HASHED + MOST_HASH_ROWS + 7) / BITS;
 // The bytes of n, m, τ, t at the start of a key.
 pub const HEADER: usize = 8;
 
-// The sizes in a key's header. A key too short to have one, which question 1 refuses, gives zeros.
-pub fn sizes_of(key: &[u8]) -> Sizes
-    ensures { λ r. ⌜ SizesOf (now (key .entry)) r ⌝ }
+// The sizes in a key's header, with the degree that is named beside it. A key too short to have a header, which
+// question 1 refuses, gives zeros.
+pub fn sizes_of(key: &[u8], degree: u32) -> Sizes
+    ensures { λ r. ⌜ SizesOf (now (key .entry)) r × (r .degree ≡ degree) ⌝ }
 {
+    let degree = degree as usize;
     if key.len() < HEADER {
         return Sizes {
             n: 0,
             m: 0,
             tau: 0,
             t: 0,
-            degree: Gf256::DEGREE,
+            degree,
             alphabet: BINARY,
         };
     }
@@ -62,9 +66,17 @@ pub fn sizes_of(key: &[u8]) -> Sizes
         m: number2(key, 2),
         tau: number2(key, 4),
         t: number2(key, 6),
-        degree: Gf256::DEGREE,
+        degree,
         alphabet: BINARY,
     }
+}
+
+// Question 16: is the degree one that is served?
+pub fn degree_served(s: Sizes) -> bool
+    ensures { λ r. ⌜ r ≡ served (settingFor s) ⌝ }
+{
+    let degree = s.degree;
+    (degree == Gf256::DEGREE) | (degree == Gf16::DEGREE)
 }
 
 fn in_range(most: usize, x: usize) -> bool
@@ -95,11 +107,18 @@ pub fn bytes_for(bits: usize) -> usize
     (bits + 7) / BITS
 }
 
-// The degree of the field.
+// The degree of the field: as many mask coordinates has a repetition.
 pub fn degree_of(s: Sizes) -> usize
-    ensures { λ r. ⌜ r ≡ alphabetFor s .K .degree ⌝ }
+    ensures { λ r. ⌜ (r ≡ alphabetFor s .masks) × (r ≤ 8) ⌝ }
 {
-    Gf256::DEGREE
+    field::degree_of(s.degree)
+}
+
+// The leaves of a tree: as many as the field has elements.
+pub fn tree_leaves(s: Sizes) -> usize
+    ensures { λ r. ⌜ (r ≡ perTree (alphabetFor s)) × (r ≤ 256) × (0 < r) ⌝ }
+{
+    field::size_of(s.degree)
 }
 
 // The first mask coordinate of repetition e. Each repetition has its own mask, as many coordinates as the degree, and
@@ -108,7 +127,7 @@ pub fn mask_at(s: Sizes, e: usize) -> usize
     requires { ⌜ maskAt (alphabetFor s) (shapeFor s) e < 2 ^ 64 ⌝ }
     ensures { λ r. ⌜ r ≡ maskAt (alphabetFor s) (shapeFor s) e ⌝ }
 {
-    s.n + e * Gf256::DEGREE
+    s.n + e * degree_of(s)
 }
 
 // k = n + the masks of all repetitions: the coordinates that a row of H′ covers.
@@ -116,7 +135,7 @@ pub fn hashed_bits(s: Sizes) -> usize
     requires { ⌜ limits (shapeFor s) ≡ true ⌝ }
     ensures { λ r. ⌜ r ≡ kOf (alphabetFor s) (shapeFor s) ⌝ }
 {
-    s.n + s.tau * Gf256::DEGREE
+    s.n + s.tau * degree_of(s)
 }
 
 // L = k + t: the coordinates of a leaf.

@@ -12,7 +12,7 @@ use lib.ListN.{drop}
 use lib.Seq.{getD-take, getD-drop}
 use Rattle.protocol.specs.Lists.{part, blockAt}
 use Rattle.protocol.specs.Strings.{bytesFor, bit}
-use Rattle.protocol.specs.Binary.{bits256}
+use Rattle.protocol.specs.Setting.{Setting, alphabetOf}
 use Rattle.protocol.specs.Shape.{Shape, kOf}
 use Rattle.protocol.proofs.ListLaws.{row-end}
 use Rattle.strings.specs.Sums.{byteAt, bitOf, xorSum, selected}
@@ -41,9 +41,9 @@ block-some n x pos le full = go (decLt x n)
     go (no ge) = omega arith
 
 -- and in each row of H′
-pub row-some : (s : Shape) → 1 ≤ s .n → 0 < bytesFor (kOf bits256 s)
+pub row-some : (g : Setting) (s : Shape) → 1 ≤ s .n → 0 < bytesFor (kOf (alphabetOf g) s)
 unfolding bytesFor kOf
-row-some s h = omega arith
+row-some g s h = omega arith
 
 module _ (H′ T : List ℕ) (width k from len ρ e : ℕ) (fits : from + len ≤ width) (lane : e < lanes) where
   abbrev row : List ℕ

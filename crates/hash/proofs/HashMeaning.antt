@@ -9,10 +9,11 @@ use native.Mathlib.Omega.{arith}
 use lib.ListN.{length}
 use lib.Bits.{bitXor, xor-zero-r}
 use Rattle.algebra.specs.Sum.{sum}
+use Rattle.algebra.specs.Coded.{Coded}
 use Rattle.protocol.specs.Lists.{blockAt}
 use Rattle.protocol.specs.Strings.{bytesFor, bit, spareZero}
 use Rattle.protocol.specs.Alphabet.{sym as symbol}
-use Rattle.protocol.specs.Binary.{bits256}
+use Rattle.protocol.specs.Setting.{Setting, alphabetOf}
 use Rattle.protocol.specs.Shape.{Shape, kOf, lOf}
 use Rattle.protocol.specs.Key.{rowsSpare}
 use Rattle.protocol.specs.Forms.{hash}
@@ -32,9 +33,6 @@ use Rattle.questions.specs.Facts.{HashForm}
 use Rattle.hash.specs.Hashed.{hashLane}
 use Rattle.format.proofs.FitLaws.{k-below}
 
-abbrev F : Type 0
-F = bits256 .K .base .R .F
-
 -- the terms past k are 0
 sum-cut : (k m : ℕ) (f : ℕ → ℕ) → ((i : ℕ) → i < m → f (k + i) ≡ 0) → xorSum (k + m) f ≡ xorSum k f
 unfolding xorSum
@@ -42,51 +40,52 @@ sum-cut k zero f h = rw add-zero
 sum-cut k (suc m) f h = rw add-suc (ap₂ bitXor (sum-cut k m f (λ i l. h i (omega arith))) (h m (omega arith)) ∙ xor-zero-r (xorSum k f))
 
 -- a bit times an element, as a byte
-bit-times : (q : ℕ) (a : F) → q < 2 → byteOf (bits256 .K .base .R .mul (bits256 .K .elem q) a) ≡ q * byteOf a
-bit-times q a h =
-    ap byteOf (bits256 .K .base .R .mul-comm (bits256 .K .elem q) a ∙ ap (λ z. bits256 .K .base .R .mul z (bits256 .K .elem q)) (sym (bits256 .K .elem-byte a)))
-    ∙ byte-times (bits256 .K) (byteOf a) q (bits256 .K .byte-lt a) h ∙ mul-comm (byteOf a) q
+bit-times : (K : Coded) (q : ℕ) (a : K .base .R .F) → q < 2 → K .byte (K .base .R .mul (K .elem q) a) ≡ q * K .byte a
+bit-times K q a h =
+    ap (K .byte) (K .base .R .mul-comm (K .elem q) a ∙ ap (λ z. K .base .R .mul z (K .elem q)) (sym (K .elem-byte a)))
+    ∙ byte-times K (K .byte a) q (K .byte-lt a) h ∙ mul-comm (K .byte a) q
 
 -- a sum over bits of elements, on bytes
-pub bits-sum : (n : ℕ) (row : List ℕ) (f : ℕ → F) → byteOf (sum (bits256 .K .base .R) n (λ c. bits256 .K .base .R .mul (symbol bits256 row c) (f c))) ≡ xorSum n (λ c. bit row c * byteOf (f c))
+pub bits-sum : (g : Setting) (n : ℕ) (row : List ℕ) (f : ℕ → alphabetOf g .K .base .R .F)
+    → byteOf g (sum (alphabetOf g .K .base .R) n (λ c. alphabetOf g .K .base .R .mul (symbol (alphabetOf g) row c) (f c))) ≡ xorSum n (λ c. bit row c * byteOf g (f c))
 unfolding symbol
-bits-sum n row f = byte-sum (bits256 .K) n _ ∙ sum-same n _ _ (λ c l. bit-times (bit row c) (f c) (bit-lt row c))
+bits-sum g n row f = byte-sum (alphabetOf g .K) n _ ∙ sum-same n _ _ (λ c l. bit-times (alphabetOf g .K) (bit row c) (f c) (bit-lt row c))
 
-module _ (s : Shape) (H′ table : List ℕ) (f : ℕ → F) (ρ e : ℕ) (exact : hExact bits256 s H′ ≡ true) (spare : hSpare bits256 s H′ ≡ true) (l : ρ < s .t)
-    (is : (c : ℕ) → c < lOf bits256 s → byteAt table (c * lanes + e) ≡ byteOf (f c)) where
+module _ (g : Setting) (s : Shape) (H′ table : List ℕ) (f : ℕ → alphabetOf g .K .base .R .F) (ρ e : ℕ) (exact : hExact (alphabetOf g) s H′ ≡ true) (spare : hSpare (alphabetOf g) s H′ ≡ true) (l : ρ < s .t)
+    (is : (c : ℕ) → c < lOf (alphabetOf g) s → byteAt table (c * lanes + e) ≡ byteOf g (f c)) where
   abbrev k : ℕ
-  k = kOf bits256 s
+  k = kOf (alphabetOf g) s
 
   abbrev row : List ℕ
   row = blockAt H′ (bytesFor k) ρ
 
-  row-length : length (blockAt H′ (bytesFor (kOf bits256 s)) ρ) ≡ bytesFor (kOf bits256 s)
+  row-length : length (blockAt H′ (bytesFor (kOf (alphabetOf g) s)) ρ) ≡ bytesFor (kOf (alphabetOf g) s)
   unfolding hExact
   row-length = length-block H′ (bytesFor k) ρ (omega (arith, eqb-eq (length H′) (s .t * bytesFor k) exact, row-end ρ (s .t) (bytesFor k) l))
 
-  row-spare : (c : ℕ) → k ≤ c → c < bytesFor (kOf bits256 s) * 8 → bit row c ≡ 0
+  row-spare : (c : ℕ) → k ≤ c → c < bytesFor (kOf (alphabetOf g) s) * 8 → bit row c ≡ 0
   unfolding hSpare rowsSpare
   row-spare c low high =
       spare-at k row (all-at (s .t) (λ i. spareZero (blockAt H′ (bytesFor k) i) k) spare ρ l) c low (rw row-length high)
 
-  identity-in : kOf bits256 s + ρ < lOf bits256 s
+  identity-in : kOf (alphabetOf g) s + ρ < lOf (alphabetOf g) s
   unfolding lOf
   identity-in = omega (arith, l)
 
-  selected-is : selected (bytesFor k * 8) row table lanes e ≡ byteOf (sum (bits256 .K .base .R) k (λ c. bits256 .K .base .R .mul (symbol bits256 row c) (f c)))
+  selected-is : selected (bytesFor k * 8) row table lanes e ≡ byteOf g (sum (alphabetOf g .K .base .R) k (λ c. alphabetOf g .K .base .R .mul (symbol (alphabetOf g) row c) (f c)))
   selected-is =
       let n : bytesFor k * 8 ≡ k + (bytesFor k * 8 - k) = omega (arith, bytes-enough k) in
       ap (λ m. selected m row table lanes e) n
       ∙ sum-cut k (bytesFor k * 8 - k) (λ c. bit row c * byteAt table (c * lanes + e))
       (λ i h. ap (λ (b : ℕ). b * byteAt table ((k + i) * lanes + e)) (row-spare (k + i) (omega arith) (omega (arith, bytes-enough k))) ∙ zero-mul (byteAt table ((k + i) * lanes + e)))
-      ∙ sum-same k _ _ (λ c h. ap (λ (y : ℕ). bit row c * y) (is c (k-below s c h)))
-      ∙ sym (bits-sum k row f)
+      ∙ sum-same k _ _ (λ c h. ap (λ (y : ℕ). bit row c * y) (is c (k-below g s c h)))
+      ∙ sym (bits-sum g k row f)
 
-  pub hash-lane-is : hashLane H′ (bytesFor (kOf bits256 s)) (kOf bits256 s) table ρ e ≡ byteOf (hash bits256 s H′ ρ f)
+  pub hash-lane-is : hashLane H′ (bytesFor (kOf (alphabetOf g) s)) (kOf (alphabetOf g) s) table ρ e ≡ byteOf g (hash (alphabetOf g) s H′ ρ f)
   hash-lane-is =
-      ap₂ bitXor selected-is (is (k + ρ) identity-in) ∙ sym (bits256 .K .byte-add _ (f (k + ρ))) ∙ ap byteOf (sym (hash-split bits256 s H′ ρ f l))
+      ap₂ bitXor selected-is (is (k + ρ) identity-in) ∙ sym (alphabetOf g .K .byte-add _ (f (k + ρ))) ∙ ap (byteOf g) (sym (hash-split (alphabetOf g) s H′ ρ f l))
 
 -- H′ of the right form has its rows
-pub hash-length : (s : Shape) (H′ : List ℕ) → HashForm bits256 s H′ → length H′ ≡ s .t * bytesFor (kOf bits256 s)
+pub hash-length : (g : Setting) (s : Shape) (H′ : List ℕ) → HashForm (alphabetOf g) s H′ → length H′ ≡ s .t * bytesFor (kOf (alphabetOf g) s)
 unfolding hExact
-hash-length s H′ f = eqb-eq (length H′) (s .t * bytesFor (kOf bits256 s)) (f .hash-exact)
+hash-length g s H′ f = eqb-eq (length H′) (s .t * bytesFor (kOf (alphabetOf g) s)) (f .hash-exact)

@@ -1,7 +1,8 @@
 -- What the definitions agree with: the computed bytes, answers and edges, gathered.
 -- No theorem of the protocol is used, so that an edit of the definitions meets a value.
 -- Assumes nothing.
-use Rattle.protocol.specs.Binary.{bits256}
+use Rattle.protocol.specs.Alphabet.{Alphabet}
+use Rattle.protocol.specs.Setting.{Setting}
 use Rattle.protocol.specs.MaskPlaces.{MaskPlaces}
 use Rattle.protocol.specs.SmallExample.{SmallKey, SmallColumns, SmallBytes, SmallProof, SmallReplies}
 use Rattle.protocol.specs.ThreeRepetitions.{ThreeRepetitions}
@@ -24,8 +25,8 @@ edges = (limits-are, forms-are, numbers-are, lengths-are, order-is, derived-are,
 pub calls : Refusals × Taken
 calls = (refusals-are, all-taken)
 
-pub masks-placed : MaskPlaces bits256
-masks-placed = mask-places bits256
+pub masks-placed : (A : Alphabet) → MaskPlaces A
+masks-placed = mask-places
 
-pub questions-put : QuestionNumbers bits256
-questions-put = question-numbers bits256
+pub questions-put : (g : Setting) → QuestionNumbers g
+questions-put = question-numbers

@@ -8,7 +8,7 @@ use Prim.Native.Nat.{ℕ, zero, suc, _+_, _*_, _≤_, _<_}
 use native.Mathlib.Omega.{arith}
 use Rattle.algebra.proofs.CountLaws.{and-left, and-right}
 use Rattle.protocol.specs.Shape.{Shape}
-use Rattle.protocol.specs.Answers.{Answer, accepted, refused, numberOf, placeOf, word, isAccepted, Question, ask, allYes, Published, taken, header-short, size-out-of-range, key-length, key-spare-bit, challenge-length, hash-spare-bit, leaf-length, leaf-spare-bit, witness-form, output-length, equation-fails, proof-length, proof-spare-bit, inconsistent, product-differs}
+use Rattle.protocol.specs.Answers.{Answer, accepted, refused, numberOf, placeOf, word, isAccepted, Question, ask, allYes, Published, taken, header-short, size-out-of-range, key-length, key-spare-bit, challenge-length, hash-spare-bit, leaf-length, leaf-spare-bit, witness-form, output-length, equation-fails, proof-length, proof-spare-bit, inconsistent, product-differs, degree-unserved, challenge-element, proof-element}
 use Rattle.protocol.specs.Statements.{FirstNo, AskRefuses, AskFirstNo, AskAccepts, WordInjective}
 use Rattle.protocol.proofs.TestLaws.{both-true}
 
@@ -119,6 +119,9 @@ rebuilt s a proof-length = refl
 rebuilt s a proof-spare-bit = refl
 rebuilt s a (inconsistent e l) = refl
 rebuilt s a (product-differs e l) = refl
+rebuilt s a degree-unserved = refl
+rebuilt s a challenge-element = refl
+rebuilt s a proof-element = refl
 
 pub place-lt : (s : Shape) → s .m ≤ 65536 → s .τ ≤ 65536 → (a : Answer) → Published s a → placeOf a < 65536
 place-lt s hm hτ a taken = omega arith
@@ -137,6 +140,9 @@ place-lt s hm hτ a proof-length = omega arith
 place-lt s hm hτ a proof-spare-bit = omega arith
 place-lt s hm hτ a (inconsistent e l) = omega arith
 place-lt s hm hτ a (product-differs e l) = omega arith
+place-lt s hm hτ a degree-unserved = omega arith
+place-lt s hm hτ a challenge-element = omega arith
+place-lt s hm hτ a proof-element = omega arith
 
 -- the word of a refusal tells its number and place
 pub word-tells : (s : Shape) (a : Answer) → Published s a → placeOf a < 65536 → (i p : ℕ) → p < 65536 → suc i * 65536 + p ≡ word a → a ≡ refused (suc i) p

@@ -7,22 +7,21 @@ use Prim.Native.Nat.{ℕ}
 use lib.Dec.{leb}
 use lib.ListN.{length}
 use Rattle.protocol.specs.Frames.{framed}
-use Rattle.protocol.specs.Binary.{bits256}
 use Rattle.protocol.specs.Calls.{verifyAnswer}
 use Rattle.protocol.specs.Check.{answered, unread, lengthsIn, readable, checkOf, decimal, decimalDigits}
-use Rattle.protocol.specs.CheckEdges.{section, CheckReads, Decimals}
+use Rattle.protocol.specs.CheckEdges.{eight, section, CheckReads, Decimals}
 use Rattle.protocol.proofs.TestLaws.{leb-yes, leb-no, both-true}
 
 and-false : (b : Bool) → (b && false) ≡ false
 and-false true = refl
 and-false false = refl
 
-unread-is : (input : List ℕ) → readable 6 65536 input ≡ false → checkOf bits256 input ≡ unread
+unread-is : (input : List ℕ) → readable 6 65536 input ≡ false → checkOf eight input ≡ unread
 unfolding checkOf
 unread-is input h = rw (checkOf, h)
 
 read-is : (input : List ℕ) → readable 6 65536 input ≡ true
-    → checkOf bits256 input ≡ answered (verifyAnswer bits256 (section 0 input) (section 1 input) (section 2 input) (section 3 input) (section 4 input) (section 5 input))
+    → checkOf eight input ≡ answered (verifyAnswer eight (section 0 input) (section 1 input) (section 2 input) (section 3 input) (section 4 input) (section 5 input))
 unfolding checkOf
 read-is input h = rw (checkOf, h)
 

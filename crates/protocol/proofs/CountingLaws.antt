@@ -14,63 +14,28 @@ use Rattle.algebra.specs.Count.{count, passes, product}
 use Rattle.algebra.proofs.CountLaws.{count-words, words-congr}
 use Rattle.protocol.specs.Lists.{allBelow, allTrue, blockAt}
 use Rattle.protocol.specs.Frames.{framed}
-use Rattle.protocol.specs.Alphabet.{Alphabet}
+use Rattle.protocol.specs.Alphabet.{Alphabet, elementsIn}
+use Rattle.protocol.specs.Setting.{Setting, served, q16, alphabetOf}
 use Rattle.protocol.specs.Shape.{Shape, shapeOf, limits, perTree, perOpened, lOf, wOf}
 use Rattle.protocol.specs.Key.{rowsSpare, keyExact, keySpare}
 use Rattle.protocol.specs.Sections.{Sections, lengths, sectionsIn}
 use Rattle.protocol.specs.Leaves.{leafAt, openTree, openedLeaf}
 use Rattle.protocol.specs.Verifier.{consistentAt, productAt}
 use Rattle.protocol.specs.Answers.{isAccepted}
-use Rattle.protocol.specs.Questions.{hExact, χExact, ΔExact, hSpare, leavesExact, leavesSpare, proofSpare, treeOf, consistentIn, productIn, q1, q2, q3, q4, q5, q6, q7, q8, q12, q13, q14, q15}
-use Rattle.protocol.specs.Calls.{verifyAnswer, wellFormed}
+use Rattle.protocol.specs.Questions.{hExact, χExact, ΔExact, hSpare, leavesExact, leavesSpare, proofSpare, proofElements, treeOf, consistentIn, productIn, q1, q2, q3, q4, q5, q6, q7, q8, q12, q13, q14, q15, q17, q18}
+use Rattle.protocol.specs.Calls.{verifyAnswer, wellFormedQuestions, wellFormed}
 use Rattle.protocol.specs.Counting.{opening, acceptedCount, checksAt, factor}
 use Rattle.protocol.proofs.TestLaws.{eqb-same, eqb-eq, and-true, both-true, all-true, all-at, all-of, all-congr, all-and, passes-all}
 use Rattle.protocol.proofs.ListLaws.{row-end, getD-map, cut-at}
 use Rattle.protocol.proofs.LeafLaws.{cut-opened, opened-length, opened-block}
 use Rattle.protocol.proofs.AnswerLaws.{all-yes, accepted-all}
+use Rattle.protocol.proofs.ElementLaws.{elements-map}
 
 module _ (A : Alphabet) where
   open Alphabet A using (K, spareZero)
   open Coded K using (base, byte)
   open Field base using (R, size, elements)
   open Ring R using (F, 𝟘)
-
-  -- what well-formed says, question by question
-  pub record Form (s : Shape) (key leaves H′ χ proof : List ℕ) : Type 0 where
-    pub k1 : leb 8 (length key) ≡ true
-    pub k2 : limits s ≡ true
-    pub k3 : keyExact A s key ≡ true
-    pub k4 : keySpare A s key ≡ true
-    pub k5H : hExact A s H′ ≡ true
-    pub k5χ : χExact A s χ ≡ true
-    pub k6 : hSpare A s H′ ≡ true
-    pub k7 : leavesExact A s (perTree A) leaves ≡ true
-    pub k8 : leavesSpare A s (perTree A) leaves ≡ true
-    pub k12 : framed (lengths A s) proof ≡ true
-    pub k13 : proofSpare A s (sectionsIn A s proof) ≡ true
-
-  pub form-of : (key leaves H′ χ proof : List ℕ) → wellFormed A key leaves H′ χ proof ≡ true → Form (shapeOf key) key leaves H′ χ proof
-  unfolding wellFormed
-  form-of key leaves H′ χ proof h =
-      let s = shapeOf key in
-      let t =
-      all-yes
-      (q1 A s key ∷ q2 A s ∷ q3 A s key ∷ q4 A s key ∷ q5 A s (hExact A s H′ ∷ χExact A s χ ∷ []) ∷ q6 A s H′ ∷ q7 A s (perTree A) leaves
-      ∷ q8 A s (perTree A) leaves ∷ q12 A s proof ∷ q13 A s proof ∷ []) h in
-      let f = all-true (hExact A s H′ ∷ χExact A s χ ∷ []) (t .1 .1 .1 .1 .0) in
-      record {
-        k1 = t .0;
-        k2 = t .1 .0;
-        k3 = t .1 .1 .0;
-        k4 = t .1 .1 .1 .0;
-        k5H = f .0;
-        k5χ = f .1 .0;
-        k6 = t .1 .1 .1 .1 .1 .0;
-        k7 = t .1 .1 .1 .1 .1 .1 .0;
-        k8 = t .1 .1 .1 .1 .1 .1 .1 .0;
-        k12 = t .1 .1 .1 .1 .1 .1 .1 .1 .0;
-        k13 = t .1 .1 .1 .1 .1 .1 .1 .1 .1 .0;
-      }
 
   module _ (s : Shape) (leaves : List ℕ) (k7 : leavesExact A s (perTree A) leaves ≡ true) where
     pub leaves-length : length leaves ≡ s .τ * perTree A * wOf A s
@@ -97,6 +62,56 @@ module _ (A : Alphabet) where
             all-of (s .τ * (perTree A - 1)) _
             (cut-at (wOf A s) (s .τ * (perTree A - 1)) (λ z. spareZero z (lOf A s)) _ (cut-opened (perTree A) (wOf A s) (s .τ) leaves leaves-length (λ z. spareZero z (lOf A s)) leaf-spare Δ b))
 
+module _ (g : Setting) where
+  abbrev A : Alphabet
+  A = alphabetOf g
+
+  open Alphabet A using (K)
+  open Coded K using (base, byte)
+  open Field base using (R, size, elements)
+  open Ring R using (F, 𝟘)
+
+  -- what well-formed says, question by question
+  pub record Form (s : Shape) (key leaves H′ χ proof : List ℕ) : Type 0 where
+    pub k16 : served g ≡ true
+    pub k1 : leb 8 (length key) ≡ true
+    pub k2 : limits s ≡ true
+    pub k3 : keyExact A s key ≡ true
+    pub k4 : keySpare A s key ≡ true
+    pub k5H : hExact A s H′ ≡ true
+    pub k5χ : χExact A s χ ≡ true
+    pub k6 : hSpare A s H′ ≡ true
+    pub k17 : elementsIn A χ ≡ true
+    pub k7 : leavesExact A s (perTree A) leaves ≡ true
+    pub k8 : leavesSpare A s (perTree A) leaves ≡ true
+    pub k12 : framed (lengths A s) proof ≡ true
+    pub k13 : proofSpare A s (sectionsIn A s proof) ≡ true
+    pub k18 : proofElements A s (sectionsIn A s proof) ≡ true
+
+  pub form-of : (key leaves H′ χ proof : List ℕ) → wellFormed g key leaves H′ χ proof ≡ true → Form (shapeOf key) key leaves H′ χ proof
+  unfolding wellFormed
+  form-of key leaves H′ χ proof h =
+      let s = shapeOf key in
+      let t = all-yes (wellFormedQuestions g key leaves H′ χ proof) h in
+      let f = all-true (hExact A s H′ ∷ χExact A s χ ∷ []) (t .1 .1 .1 .1 .1 .0) in
+      let r = t .1 .1 .1 .1 .1 .1 in
+      record {
+        k16 = t .0;
+        k1 = t .1 .0;
+        k2 = t .1 .1 .0;
+        k3 = t .1 .1 .1 .0;
+        k4 = t .1 .1 .1 .1 .0;
+        k5H = f .0;
+        k5χ = f .1 .0;
+        k6 = r .0;
+        k17 = all-true (elementsIn A χ ∷ []) (r .1 .0) .0;
+        k7 = r .1 .1 .0;
+        k8 = r .1 .1 .1 .0;
+        k12 = r .1 .1 .1 .1 .0;
+        k13 = r .1 .1 .1 .1 .1 .0;
+        k18 = r .1 .1 .1 .1 .1 .1 .0;
+      }
+
   module _ (key leaves H′ χ proof : List ℕ) (f : Form (shapeOf key) key leaves H′ χ proof) (Δ : List F) (n : length Δ ≡ shapeOf key .τ) where
     abbrev s : Shape
     s = shapeOf key
@@ -121,17 +136,17 @@ module _ (A : Alphabet) where
     unfolding ΔExact
     Δ-exact = eqb-same _ _ (length-map Δ byte ∙ n)
 
-    two : isAccepted (verifyAnswer A key Δᵇ H′ χ opened proof) ≡ (allBelow (s .τ) (consistentIn A s Δᵇ H′ opened proof) && (allBelow (s .τ) (productIn A s key Δᵇ χ opened proof) && true))
+    two : isAccepted (verifyAnswer g key Δᵇ H′ χ opened proof) ≡ (allBelow (s .τ) (consistentIn A s Δᵇ H′ opened proof) && (allBelow (s .τ) (productIn A s key Δᵇ χ opened proof) && true))
     unfolding verifyAnswer
     two =
         accepted-all _
-        ∙ rw (f .k1, f .k2, f .k3, f .k4, Δ-exact, f .k5H, f .k5χ, f .k6, opened-exact s leaves (f .k7) Δᵇ below, opened-spare s leaves (f .k7) Δᵇ below (f .k8), f .k12, f .k13)
+        ∙ rw (f .k16, f .k1, f .k2, f .k3, f .k4, Δ-exact, f .k5H, f .k5χ, f .k6, elements-map A Δ, f .k17, opened-exact A s leaves (f .k7) Δᵇ below, opened-spare A s leaves (f .k7) Δᵇ below (f .k8), f .k12, f .k13, f .k18)
 
     at-e : (e : ℕ) → e < s .τ → (consistentIn A s Δᵇ H′ opened proof e && productIn A s key Δᵇ χ opened proof e) ≡ checksAt A key leaves H′ χ s p e (byte (getD Δ e 𝟘))
     unfolding consistentIn productIn checksAt
-    at-e e le = rw (tree-is s leaves (f .k7) Δᵇ below e le, byte-at e le)
+    at-e e le = rw (tree-is A s leaves (f .k7) Δᵇ below e le, byte-at e le)
 
-    pub splits : isAccepted (verifyAnswer A key (map byte Δ) H′ χ (opening A (shapeOf key) leaves (map byte Δ)) proof)
+    pub splits : isAccepted (verifyAnswer g key (map byte Δ) H′ χ (opening A (shapeOf key) leaves (map byte Δ)) proof)
         ≡ passes (λ e x. checksAt A key leaves H′ χ (shapeOf key) (sectionsIn A (shapeOf key) proof) e (byte x)) Δ
     splits =
         two
@@ -142,7 +157,7 @@ module _ (A : Alphabet) where
         ∙ sym (passes-all (λ e x. checksAt A key leaves H′ χ s p e (byte x)) Δ 𝟘)
 
   pub count-product : (key leaves H′ χ proof : List ℕ) → Form (shapeOf key) key leaves H′ χ proof
-      → acceptedCount A key leaves H′ χ proof ≡ product (shapeOf key .τ) (factor A key leaves H′ χ proof)
+      → acceptedCount g key leaves H′ χ proof ≡ product (shapeOf key .τ) (factor A key leaves H′ χ proof)
   unfolding acceptedCount factor
   count-product key leaves H′ χ proof f =
       words-congr elements (shapeOf key .τ) _ (passes (λ e x. checksAt A key leaves H′ χ (shapeOf key) (sectionsIn A (shapeOf key) proof) e (byte x))) (λ Δ n. splits key leaves H′ χ proof f Δ n)

@@ -1,13 +1,14 @@
 -- Demands 2 and 3, sentence by sentence. The client's words stand above each type in specs/Demands.
 -- Assumes nothing.
 use mathlib.Core.Path.{_≡_, refl, sym, ap, ap₂, _∙_}
-use mathlib.Core.Logic.{_≢_}
-use mathlib.Core.Bool.{Bool, true, _&&_}
+use mathlib.Core.Logic.{_≢_, _⊎_, inl, inr}
+use mathlib.Core.Bool.{Bool, true, false, _&&_, _||_, false≢true}
 use mathlib.Core.List.{List, [], _∷_, map}
 use Prim.Native.Nat.{ℕ, zero, suc, _<_}
 use native.Mathlib.Omega.{arith}
 use lib.Dec.{eqb}
 use lib.ListN.{length, getD, length-map}
+use Rattle.field.specs.Degrees.{fieldOf}
 use Rattle.algebra.specs.Ring.{Ring}
 use Rattle.algebra.specs.Field.{Field}
 use Rattle.algebra.specs.Coded.{Coded}
@@ -21,36 +22,21 @@ use Rattle.algebra.proofs.CountLaws.{words-congr}
 use Rattle.algebra.proofs.StringLaws.{strings-length, strings-once}
 use Rattle.protocol.specs.Lists.{allBelow, table}
 use Rattle.protocol.specs.Strings.{bytes}
-use Rattle.protocol.specs.Alphabet.{Alphabet, sym as symbol}
-use Rattle.protocol.specs.Binary.{bits256}
+use Rattle.protocol.specs.Alphabet.{Alphabet, sym as symbol, Lawful}
+use Rattle.protocol.specs.Setting.{Setting, setting, served, alphabetOf, sizeOf}
 use Rattle.protocol.specs.Shape.{Shape, shapeOf}
 use Rattle.protocol.specs.Sections.{Sections, sectionsIn}
 use Rattle.protocol.specs.Forms.{error, χAt, batch}
 use Rattle.protocol.specs.Verifier.{candidate, batchedError}
 use Rattle.protocol.specs.Questions.{solves}
-use Rattle.protocol.specs.Demands.{StepBytes, RefusedExactlyWhen, AcceptsExactlyWhen, HonestProofAccepted, Demand3}
+use Rattle.protocol.specs.Demands.{SizesAre, StepBytes, RefusedExactlyWhen, AcceptsExactlyWhen, HonestProofAccepted, Demand3}
 use Rattle.protocol.proofs.TestLaws.{bool-iff, eqb-eq, eqb-same, all-at}
 use Rattle.protocol.proofs.ListLaws.{table-at}
 use Rattle.protocol.proofs.StringLaws.{pack-bytes}
-use Rattle.protocol.proofs.BinaryLaws.{bits256-lawful}
+use Rattle.protocol.proofs.ElementLaws.{element-lt, elements-bytes}
+use Rattle.protocol.proofs.BinaryLaws.{binary-lawful}
 use Rattle.protocol.proofs.Published.{refuses-exactly-when}
-use Rattle.protocol.proofs.Theorems.{steps-are-whole, accepts-exactly, honest-accepted, forgery-count, hiding-columns, candidate-is-witness}
-
-pub step-bytes : StepBytes
-step-bytes = steps-are-whole bits256
-
-pub refused-exactly-when : RefusedExactlyWhen
-refused-exactly-when = refuses-exactly-when bits256 .prove-refuses
-
-pub accepts-exactly-when : AcceptsExactlyWhen
-accepts-exactly-when = accepts-exactly bits256
-
-solved : (key x : List ℕ) → solves bits256 (shapeOf key) key x ≡ true → (i : ℕ) → i < shapeOf key .m → error bits256 (shapeOf key) key i (symbol bits256 x) ≡ bits256 .K .base .R .𝟘
-unfolding solves
-solved key x h i l = bits256 .K .base .eqb-sound _ _ (all-at (shapeOf key .m) (λ i. isZero (bits256 .K .base) (error bits256 (shapeOf key) key i (symbol bits256 x))) h i l)
-
-pub honest-proof-accepted : HonestProofAccepted
-honest-proof-accepted key leaves x H′ χ Δ f h n b = honest-accepted bits256 bits256-lawful key leaves x H′ χ Δ f (solved key x h) n b
+use Rattle.protocol.proofs.Theorems.{steps-are-whole, accepts-exactly, honest-accepted, forgery-count, other-bytes, hiding-columns, candidate-is-witness}
 
 -- a batched sum is the sum of its column
 module _ (A : Alphabet) (s : Shape) (key χ leaves : List ℕ) (p : Sections) (e : ℕ) where
@@ -88,19 +74,57 @@ module _ (K : Coded) where
   numbers-once τ Δ n b =
       words-congr elements τ _ (same same? (map elem Δ)) (λ z l. letters z Δ b) ∙ strings-once base τ (map elem Δ) (length-map Δ elem ∙ n)
 
-module _ (key leaves H′ χ proof : List ℕ) where
-  pub demand-3 : Demand3 key leaves H′ χ proof
-  demand-3 = record {
-    count-equals-product = λ h. forgery-count bits256 key leaves H′ χ proof h .count-is-product;
-    each-factor = λ h. forgery-count bits256 key leaves H′ χ proof h .four-cases;
-    large-count-needs-full = λ h. forgery-count bits256 key leaves H′ χ proof h .large-count;
-    full-spells-candidate = λ h. forgery-count bits256 key leaves H′ χ proof h .full-error;
-    every-challenge-once = numbers-once (bits256 .K) (shapeOf key .τ);
-    challenges-in-all = strings-length (bits256 .K .base) (shapeOf key .τ);
-    candidate-is-witness = (candidate-is-witness bits256 bits256-lawful key leaves proof, λ e. pack-bytes (shapeOf key .n) _ (λ c. bits256-lawful .symbol-lt _));
-    that-sum = λ e. column-is bits256 (shapeOf key) key χ leaves (sectionsIn bits256 (shapeOf key) proof) e;
-    columns-if-failing = hiding-columns bits256 key leaves proof .failing;
-    columns-if-solving = hiding-columns bits256 key leaves proof .solving;
-    every-column-once = numbers-once (bits256 .K) (shapeOf key .m);
-    columns-in-all = strings-length (bits256 .K .base) (shapeOf key .m);
-  }
+pub sizes-are : SizesAre
+unfolding fieldOf served
+sizes-are = record {
+  eight = (refl, refl);
+  four = (refl, refl);
+  no-other = λ g h. go g (eqb (g .degree) 8) (eqb (g .degree) 4) refl refl h;
+  every-byte = λ s b. elements-bytes (alphabetOf (setting 8)) refl s b;
+}
+  where
+    go : (g : Setting) (b c : Bool) → eqb (g .degree) 8 ≡ b → eqb (g .degree) 4 ≡ c → (b || c) ≡ true → (g ≡ setting 8) ⊎ (g ≡ setting 4)
+    go g true c e k h = inl (ap setting (eqb-eq (g .degree) 8 e))
+    go g false true e k h = inr (ap setting (eqb-eq (g .degree) 4 k))
+    go g false false e k h = absurd (false≢true h)
+
+module _ (g : Setting) where
+  abbrev A : Alphabet
+  A = alphabetOf g
+
+  laws : Lawful (alphabetOf g)
+  laws = binary-lawful (fieldOf (g .degree))
+
+  pub step-bytes : StepBytes g
+  step-bytes = steps-are-whole A
+
+  pub refused-exactly-when : RefusedExactlyWhen g
+  refused-exactly-when = refuses-exactly-when g .prove-refuses
+
+  pub accepts-exactly-when : AcceptsExactlyWhen g
+  accepts-exactly-when = accepts-exactly g
+
+  solved : (key x : List ℕ) → solves A (shapeOf key) key x ≡ true → (i : ℕ) → i < shapeOf key .m → error A (shapeOf key) key i (symbol A x) ≡ A .K .base .R .𝟘
+  unfolding solves
+  solved key x h i l = A .K .base .eqb-sound _ _ (all-at (shapeOf key .m) (λ i. isZero (A .K .base) (error A (shapeOf key) key i (symbol A x))) h i l)
+
+  pub honest-proof-accepted : HonestProofAccepted g
+  honest-proof-accepted key leaves x H′ χ Δ f h n b = honest-accepted g key leaves x H′ χ Δ f (solved key x h) n (λ e l. element-lt A Δ b e)
+
+  module _ (key leaves H′ χ proof : List ℕ) where
+    pub demand-3 : Demand3 g key leaves H′ χ proof
+    demand-3 = record {
+      count-equals-product = λ h. forgery-count g key leaves H′ χ proof h .count-is-product;
+      each-factor = λ h. forgery-count g key leaves H′ χ proof h .four-cases;
+      large-count-needs-full = λ h. forgery-count g key leaves H′ χ proof h .large-count;
+      full-spells-candidate = λ h. forgery-count g key leaves H′ χ proof h .full-error;
+      other-bytes-refused = λ h Δ opened n b. other-bytes g key leaves H′ χ proof h Δ opened n b;
+      every-challenge-once = λ Δ n b. numbers-once (A .K) (shapeOf key .τ) Δ n (λ e l. element-lt A Δ b e);
+      challenges-in-all = strings-length (A .K .base) (shapeOf key .τ);
+      candidate-is-witness = (candidate-is-witness A laws key leaves proof, λ e. pack-bytes (shapeOf key .n) _ (λ c. laws .symbol-lt _));
+      that-sum = λ e. column-is A (shapeOf key) key χ leaves (sectionsIn A (shapeOf key) proof) e;
+      columns-if-failing = hiding-columns A key leaves proof .failing;
+      columns-if-solving = hiding-columns A key leaves proof .solving;
+      every-column-once = λ s n b. numbers-once (A .K) (shapeOf key .m) s n (λ e l. element-lt A s b e);
+      columns-in-all = strings-length (A .K .base) (shapeOf key .m);
+    }

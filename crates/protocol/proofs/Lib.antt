@@ -24,6 +24,7 @@ pub mod CountingLaws
 pub mod LimitLaws
 pub mod SymbolLaws
 pub mod HonestLaws
+pub mod ElementLaws
 pub mod Published
 pub mod Theorems
 pub mod Demands

@@ -5,7 +5,7 @@ use mathlib.Core.Bool.{Bool, true, false, _||_}
 use mathlib.Core.List.{List, [], _∷_}
 use Prim.Native.Nat.{ℕ}
 use lib.Dec.{eqb}
-use Rattle.protocol.specs.Alphabet.{Alphabet}
+use Rattle.protocol.specs.Setting.{Setting}
 use Rattle.protocol.specs.Answers.{numberOf, Question, ask}
 use Rattle.protocol.specs.Calls.{testPuts, commitPuts, hashQuestions, batchPuts, provePuts, verifyPuts, testAnswer, commitAnswer, hashAnswer, batchAnswer, proveAnswer, verifyAnswer}
 use Rattle.protocol.specs.QuestionNumbers.{numbers, among, OwnNumbers}
@@ -33,13 +33,13 @@ number-among (x ∷ qs) = go (x .yes?) refl (number-among qs)
         ap (λ a. among (0 ∷ numbers (x ∷ qs)) (numberOf a)) (ask-no x qs e)
         ∙ or-second (eqb (x .number) 0) (eqb (x .number) (x .number)) (among (numbers qs) (x .number)) (eqb-same (x .number) (x .number) refl)
 
-pub own-numbers : (A : Alphabet) → OwnNumbers A
+pub own-numbers : (g : Setting) → OwnNumbers g
 unfolding testAnswer commitAnswer hashAnswer batchAnswer proveAnswer verifyAnswer
-own-numbers A = record {
-  test-own = λ key x. number-among (testPuts A key x);
-  commit-own = λ key leaves x out. number-among (commitPuts A key leaves x out);
-  hash-own = λ key leaves H′ out. number-among (hashQuestions A key leaves H′ out);
-  batch-own = λ key leaves x χ out. number-among (batchPuts A key leaves x χ out);
-  prove-own = λ key leaves x H′ χ out. number-among (provePuts A key leaves x H′ χ out);
-  verify-own = λ key Δ H′ χ opened proof. number-among (verifyPuts A key Δ H′ χ opened proof);
+own-numbers g = record {
+  test-own = λ key x. number-among (testPuts g key x);
+  commit-own = λ key leaves x out. number-among (commitPuts g key leaves x out);
+  hash-own = λ key leaves H′ out. number-among (hashQuestions g key leaves H′ out);
+  batch-own = λ key leaves x χ out. number-among (batchPuts g key leaves x χ out);
+  prove-own = λ key leaves x H′ χ out. number-among (provePuts g key leaves x H′ χ out);
+  verify-own = λ key Δ H′ χ opened proof. number-among (verifyPuts g key Δ H′ χ opened proof);
 }

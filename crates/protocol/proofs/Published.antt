@@ -7,18 +7,19 @@ use mathlib.Core.Bool.{Bool, true, false, false≢true, true≢false}
 use mathlib.Core.List.{List, [], _∷_, _++_}
 use Prim.Native.Nat.{ℕ, _<_}
 use native.Mathlib.Omega.{arith}
+use lib.ListN.{drop}
 use Rattle.algebra.specs.Ring.{Ring}
 use Rattle.algebra.specs.Field.{Field}
 use Rattle.algebra.specs.Coded.{Coded}
 use Rattle.algebra.proofs.FieldLaws.{dec, eqb-true}
 use Rattle.protocol.specs.Lists.{allBelow, firstNot}
 use Rattle.protocol.specs.Alphabet.{Alphabet, sym as symbol}
-use Rattle.protocol.specs.Shape.{Shape, shapeOf, perTree, perOpened}
-use Rattle.protocol.specs.Sections.{lengths, commitLengths, hashLengths, batchLengths}
+use Rattle.protocol.specs.Setting.{Setting, alphabetOf}
+use Rattle.protocol.specs.Shape.{Shape, shapeOf}
 use Rattle.protocol.specs.Forms.{error}
-use Rattle.protocol.specs.Answers.{Answer, refused, Question, allYes, ask, Published, header-short, size-out-of-range, key-length, key-spare-bit, challenge-length, hash-spare-bit, leaf-length, leaf-spare-bit, witness-form, output-length, equation-fails, proof-length, proof-spare-bit, inconsistent, product-differs}
-use Rattle.protocol.specs.Questions.{ΔExact, hExact, χExact, equationHolds, solves, consistentIn, productIn, q1, q2, q3, q4, q5, q6, q7, q8, q9, q10, q11, q12, q13, q14, q15}
-use Rattle.protocol.specs.Calls.{testQuestions, commitQuestions, hashQuestions, batchQuestions, proveQuestions, verifyQuestions, testAnswer, commitAnswer, hashAnswer, batchAnswer, proveAnswer, verifyAnswer, testForm, commitForm, batchForm, proveForm}
+use Rattle.protocol.specs.Answers.{Answer, refused, Question, allYes, ask, Published, header-short, size-out-of-range, key-length, key-spare-bit, challenge-length, hash-spare-bit, leaf-length, leaf-spare-bit, witness-form, output-length, equation-fails, proof-length, proof-spare-bit, inconsistent, product-differs, degree-unserved, challenge-element, proof-element}
+use Rattle.protocol.specs.Questions.{equationHolds, solves, consistentIn, productIn}
+use Rattle.protocol.specs.Calls.{keyQuestions, testPuts, commitPuts, batchPuts, provePuts, verifyPuts, testQuestions, commitQuestions, hashQuestions, batchQuestions, proveQuestions, testAnswer, commitAnswer, hashAnswer, batchAnswer, proveAnswer, verifyAnswer, testForm, commitForm, batchForm, proveForm}
 use Rattle.protocol.specs.Statements.{AllPublished, SomeFails, FirstFails, FirstFailing, RefusedIff, RefusesExactly}
 use Rattle.protocol.proofs.TestLaws.{all-at, first-not}
 use Rattle.protocol.proofs.AnswerLaws.{Listed, published-ask, on-form}
@@ -68,133 +69,68 @@ module _ (A : Alphabet) where
                 (firstNot (s .m) holds, first-fails (some-first-fails 11 (s .m) holds no), refused-first 11 (s .m) holds form f no),
           )
 
+module _ (g : Setting) where
+  abbrev A : Alphabet
+  A = alphabetOf g
+
   module _ (key : List ℕ) (r : Answer) where
     form : (i : ℕ) (b : Bool) → Published (shapeOf key) (refused i 0) → b ≡ false → r ≡ refused i 0 → Published (shapeOf key) r
     form i b c = on-form (shapeOf key) r i b c
 
-    eleven : (x : List ℕ) → allBelow (shapeOf key .m) (holds key x) ≡ false → r ≡ refused 11 (firstNot (shapeOf key .m) (holds key x)) → Published (shapeOf key) r
-    eleven x e h = rw h (equation-fails _ (first-not (shapeOf key .m) (holds key x) e .0))
+    eleven : (x : List ℕ) → allBelow (shapeOf key .m) (holds A key x) ≡ false → r ≡ refused 11 (firstNot (shapeOf key .m) (holds A key x)) → Published (shapeOf key) r
+    eleven x e h = rw h (equation-fails _ (first-not (shapeOf key .m) (holds A key x) e .0))
 
-  pub all-published : AllPublished A
+    fourteen : (Δ H′ opened proof : List ℕ) → let C = consistentIn A (shapeOf key) Δ H′ opened proof in
+        allBelow (shapeOf key .τ) C ≡ false → r ≡ refused 14 (firstNot (shapeOf key .τ) C) → Published (shapeOf key) r
+    fourteen Δ H′ opened proof e h = rw h (inconsistent _ (first-not (shapeOf key .τ) (consistentIn A (shapeOf key) Δ H′ opened proof) e .0))
+
+    fifteen : (Δ χ opened proof : List ℕ) → let Q = productIn A (shapeOf key) key Δ χ opened proof in
+        allBelow (shapeOf key .τ) Q ≡ false → r ≡ refused 15 (firstNot (shapeOf key .τ) Q) → Published (shapeOf key) r
+    fifteen Δ χ opened proof e h = rw h (product-differs _ (first-not (shapeOf key .τ) (productIn A (shapeOf key) key Δ χ opened proof) e .0))
+
+    -- after the questions on the setting and the key
+    key-listed : (qs : List Question) → Listed (shapeOf key) r qs → Listed (shapeOf key) r (keyQuestions g key ++ qs)
+    key-listed qs l = (form 16 _ degree-unserved, (form 1 _ header-short, (form 2 _ size-out-of-range, (form 3 _ key-length, (form 4 _ key-spare-bit, l)))))
+
+  pub all-published : AllPublished g
   unfolding testAnswer commitAnswer hashAnswer batchAnswer proveAnswer verifyAnswer solves
   all-published = record {
     test-published = λ key x.
-        let a = testAnswer A key x in
-        published-ask (shapeOf key) a (testQuestions A key x ++ (q11 A (shapeOf key) key x ∷ [])) (form key a 1 _ header-short, (form key a 2 _ size-out-of-range, (form key a 3 _ key-length, (form key a 4 _ key-spare-bit, (form key a 9 _ witness-form, (eleven key a x, tt))))))
-        refl;
+        let a = testAnswer g key x in
+        published-ask (shapeOf key) a (testPuts g key x) (key-listed key a (drop 5 (testPuts g key x)) (form key a 9 _ witness-form, (eleven key a x, tt))) refl;
     commit-published = λ key leaves x out.
-        let a = commitAnswer A key leaves x out in
-        published-ask (shapeOf key) a (commitQuestions A key leaves x out ++ (q11 A (shapeOf key) key x ∷ []))
-        (form key a 1 _ header-short, (form key a 2 _ size-out-of-range, (form key a 3 _ key-length, (form key a 4 _ key-spare-bit, (form key a 7 _ leaf-length, (form key a 8 _ leaf-spare-bit, (form key a 9 _ witness-form, (form key a 10 _ output-length, (eleven key a x, tt)))))))))
+        let a = commitAnswer g key leaves x out in
+        published-ask (shapeOf key) a (commitPuts g key leaves x out)
+        (key-listed key a (drop 5 (commitPuts g key leaves x out)) (form key a 7 _ leaf-length, (form key a 8 _ leaf-spare-bit, (form key a 9 _ witness-form, (form key a 10 _ output-length, (eleven key a x, tt))))))
         refl;
     hash-published = λ key leaves H′ out.
-        let r = hashAnswer A key leaves H′ out in
-        published-ask (shapeOf key) r (hashQuestions A key leaves H′ out)
-        (form key r 1 _ header-short, (form key r 2 _ size-out-of-range, (form key r 3 _ key-length, (form key r 4 _ key-spare-bit, (form key r 5 _ challenge-length, (form key r 6 _ hash-spare-bit, (form key r 7 _ leaf-length, (form key r 8 _ leaf-spare-bit, (form key r 10 _ output-length, tt)))))))))
+        let a = hashAnswer g key leaves H′ out in
+        published-ask (shapeOf key) a (hashQuestions g key leaves H′ out)
+        (key-listed key a (drop 5 (hashQuestions g key leaves H′ out)) (form key a 5 _ challenge-length, (form key a 6 _ hash-spare-bit, (form key a 7 _ leaf-length, (form key a 8 _ leaf-spare-bit, (form key a 10 _ output-length, tt))))))
         refl;
     batch-published = λ key leaves x χ out.
-        let a = batchAnswer A key leaves x χ out in
-        published-ask (shapeOf key) a (batchQuestions A key leaves x χ out ++ (q11 A (shapeOf key) key x ∷ [])) (
-          form key a 1 _ header-short,
-          (
-            form key a 2 _ size-out-of-range,
-            (
-              form key a 3 _ key-length,
-              (
-                form key a 4 _ key-spare-bit,
-                (
-                  form key a 5 _ challenge-length,
-                  (
-                    form key a 7 _ leaf-length,
-                    (
-                      form key a 8 _ leaf-spare-bit,
-                      (
-                        form key a 9 _ witness-form,
-                        (
-                          form key a 10 _ output-length,
-                          (eleven key a x, tt),
-                        ),
-                      ),
-                    ),
-                  ),
-                ),
-              ),
-            ),
-          ),
-        )
+        let a = batchAnswer g key leaves x χ out in
+        published-ask (shapeOf key) a (batchPuts g key leaves x χ out)
+        (key-listed key a (drop 5 (batchPuts g key leaves x χ out)) (form key a 5 _ challenge-length, (form key a 17 _ challenge-element, (form key a 7 _ leaf-length, (form key a 8 _ leaf-spare-bit, (form key a 9 _ witness-form, (form key a 10 _ output-length, (eleven key a x, tt))))))))
         refl;
     prove-published = λ key leaves x H′ χ out.
-        let a = proveAnswer A key leaves x H′ χ out in
-        published-ask (shapeOf key) a (proveQuestions A key leaves x H′ χ out ++ (q11 A (shapeOf key) key x ∷ [])) (
-          form key a 1 _ header-short,
-          (
-            form key a 2 _ size-out-of-range,
-            (
-              form key a 3 _ key-length,
-              (
-                form key a 4 _ key-spare-bit,
-                (
-                  form key a 5 _ challenge-length,
-                  (
-                    form key a 6 _ hash-spare-bit,
-                    (
-                      form key a 7 _ leaf-length,
-                      (
-                        form key a 8 _ leaf-spare-bit,
-                        (
-                          form key a 9 _ witness-form,
-                          (form key a 10 _ output-length, (eleven key a x, tt)),
-                        ),
-                      ),
-                    ),
-                  ),
-                ),
-              ),
-            ),
-          ),
-        )
+        let a = proveAnswer g key leaves x H′ χ out in
+        published-ask (shapeOf key) a (provePuts g key leaves x H′ χ out)
+        (key-listed key a (drop 5 (provePuts g key leaves x H′ χ out)) (form key a 5 _ challenge-length, (form key a 6 _ hash-spare-bit, (form key a 17 _ challenge-element, (form key a 7 _ leaf-length, (form key a 8 _ leaf-spare-bit, (form key a 9 _ witness-form, (form key a 10 _ output-length, (eleven key a x, tt)))))))))
         refl;
     verify-published = λ key Δ H′ χ opened proof.
         let s = shapeOf key in
-        let r = verifyAnswer A key Δ H′ χ opened proof in
-        let C = consistentIn A s Δ H′ opened proof in
-        let Q = productIn A s key Δ χ opened proof in
-        published-ask s r (verifyQuestions A key Δ H′ χ opened proof ++ (q14 A s Δ H′ opened proof ∷ q15 A s key Δ χ opened proof ∷ [])) (
-          form key r 1 _ header-short,
-          (
-            form key r 2 _ size-out-of-range,
-            (
-              form key r 3 _ key-length,
-              (
-                form key r 4 _ key-spare-bit,
-                (
-                  form key r 5 _ challenge-length,
-                  (
-                    form key r 6 _ hash-spare-bit,
-                    (
-                      form key r 7 _ leaf-length,
-                      (
-                        form key r 8 _ leaf-spare-bit,
-                        (
-                          form key r 12 _ proof-length,
-                          (form key r 13 _ proof-spare-bit, ((λ e h. rw h (inconsistent _ (first-not (s .τ) C e .0))), ((λ e h. rw h (product-differs _ (first-not (s .τ) Q e .0))), tt))),
-                        ),
-                      ),
-                    ),
-                  ),
-                ),
-              ),
-            ),
-          ),
-        )
+        let a = verifyAnswer g key Δ H′ χ opened proof in
+        published-ask s a (verifyPuts g key Δ H′ χ opened proof)
+        (key-listed key a (drop 5 (verifyPuts g key Δ H′ χ opened proof)) (form key a 5 _ challenge-length, (form key a 6 _ hash-spare-bit, (form key a 17 _ challenge-element, (form key a 7 _ leaf-length, (form key a 8 _ leaf-spare-bit, (form key a 12 _ proof-length, (form key a 13 _ proof-spare-bit, (form key a 18 _ proof-element, (fourteen key a Δ H′ opened proof, (fifteen key a Δ χ opened proof, tt)))))))))))
         refl;
   }
 
-  pub refuses-exactly-when : RefusesExactly A
+  pub refuses-exactly-when : RefusesExactly g
   unfolding testAnswer commitAnswer batchAnswer proveAnswer testForm commitForm batchForm proveForm solves
   refuses-exactly-when = record {
-    test-refuses = λ key x f. refused-iff key x (testQuestions A key x) refl f;
-    commit-refuses = λ key leaves x out f. refused-iff key x (commitQuestions A key leaves x out) refl f;
-    batch-refuses = λ key leaves x χ out f. refused-iff key x (batchQuestions A key leaves x χ out) refl f;
-    prove-refuses = λ key leaves x H′ χ out f. refused-iff key x (proveQuestions A key leaves x H′ χ out) refl f;
+    test-refuses = λ key x f. refused-iff A key x (testQuestions g key x) refl f;
+    commit-refuses = λ key leaves x out f. refused-iff A key x (commitQuestions g key leaves x out) refl f;
+    batch-refuses = λ key leaves x χ out f. refused-iff A key x (batchQuestions g key leaves x χ out) refl f;
+    prove-refuses = λ key leaves x H′ χ out f. refused-iff A key x (proveQuestions g key leaves x H′ χ out) refl f;
   }

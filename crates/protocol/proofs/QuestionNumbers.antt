@@ -1,11 +1,11 @@
 -- The numbers of the questions that each call puts, computed.
 -- Assumes nothing.
 use mathlib.Core.Path.{refl}
-use Rattle.protocol.specs.Alphabet.{Alphabet}
+use Rattle.protocol.specs.Setting.{Setting}
 use Rattle.protocol.specs.QuestionNumbers.{QuestionNumbers}
 
-pub question-numbers : (A : Alphabet) → QuestionNumbers A
-question-numbers A = record {
+pub question-numbers : (g : Setting) → QuestionNumbers g
+question-numbers g = record {
   test-puts = λ key x. refl;
   commit-puts = λ key leaves x out. refl;
   hash-puts = λ key leaves H′ out. refl;

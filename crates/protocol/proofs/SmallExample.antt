@@ -3,9 +3,10 @@
 use mathlib.Core.Path.{_≡_, refl, ap, _∙_}
 use mathlib.Core.List.{List, [], _∷_}
 use Rattle.protocol.specs.Frames.{frame, count4}
+use Rattle.protocol.specs.Binary.{bits16}
 use Rattle.protocol.specs.Sections.{Sections, bytesOf}
 use Rattle.protocol.specs.Prover.{sectionsOf, proofOf}
-use Rattle.protocol.specs.SmallExample.{bits16, key, witness, leaves, H′, χ, Δ, proof, opened, SmallKey, SmallColumns, SmallBytes, SmallProof, SmallReplies}
+use Rattle.protocol.specs.SmallExample.{key, witness, leaves, H′, χ, Δ, proof, opened, SmallKey, SmallColumns, SmallBytes, SmallProof, SmallReplies}
 use Rattle.protocol.proofs.Computing.{computing}
 
 pub small-key : SmallKey

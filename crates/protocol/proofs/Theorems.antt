@@ -1,4 +1,4 @@
--- The statements of specs/Statements, proved for every lawful alphabet.
+-- The statements of specs/Statements, proved for every lawful alphabet and every setting.
 -- Assumes nothing.
 use mathlib.Core.Path.{_≡_, refl, sym, ap, ap₂, _∙_, subst}
 use mathlib.Core.Logic.{_≢_, _⊎_, inl, inr, _↔_}
@@ -8,7 +8,8 @@ use Prim.Native.Nat.{ℕ, zero, suc, _+_, _*_, _-_, _^_, _≤_, _<_}
 use native.Mathlib.Decide.{decLt}
 use native.Mathlib.Omega.{arith}
 use lib.Dec.{lit<}
-use lib.ListN.{length, getD, length-map}
+use lib.ListN.{length, getD, drop, length-map}
+use Rattle.field.specs.Degrees.{fieldOf}
 use Rattle.algebra.specs.Ring.{Ring}
 use Rattle.algebra.specs.Field.{Field}
 use Rattle.algebra.specs.Coded.{Coded}
@@ -20,30 +21,33 @@ use Rattle.algebra.proofs.StringLaws.{above}
 use Rattle.algebra.proofs.ColumnLaws.{columns-fail, columns-all}
 use Rattle.protocol.specs.Lists.{allBelow, allTrue}
 use Rattle.protocol.specs.Frames.{frame}
-use Rattle.protocol.specs.Alphabet.{Alphabet, sym as symbol, IsSymbol, Lawful}
+use Rattle.protocol.specs.Alphabet.{Alphabet, sym as symbol, elementsIn, IsSymbol, Lawful}
+use Rattle.protocol.specs.Setting.{Setting, alphabetOf}
 use Rattle.protocol.specs.Shape.{Shape, shapeOf, limits, perTree, perOpened, wOf}
 use Rattle.protocol.specs.Sections.{Sections, bytesOf, sectionsIn}
 use Rattle.protocol.specs.Leaves.{openTree, openedLeaf}
 use Rattle.protocol.specs.Forms.{quad, lin, yOf, error}
 use Rattle.protocol.specs.Prover.{v, a₀, a₁, cSection, dSection, ũSection, ṼSection, qs0Section, qs1Section, sectionsOf, commitBytes, hashBytes, batchBytes, proofOf}
 use Rattle.protocol.specs.Verifier.{candidate, correctionAt}
-use Rattle.protocol.specs.Answers.{accepted, isAccepted, Question, ask, allYes}
-use Rattle.protocol.specs.Questions.{hExact, χExact, solves, witnessForm, proofSpare, leavesExact, consistentIn, productIn, q1, q2, q3, q4, q5, q6, q7, q8, q9, q12, q13, q14, q15}
-use Rattle.protocol.specs.Calls.{testQuestions, commitQuestions, batchQuestions, proveQuestions, verifyQuestions, testAnswer, commitAnswer, batchAnswer, proveAnswer, verifyAnswer, honestForm, verifyForm, wellFormed}
+use Rattle.protocol.specs.Answers.{accepted, refused, isAccepted, Question, ask, allYes}
+use Rattle.protocol.specs.Questions.{ΔExact, hExact, χExact, solves, witnessForm, proofSpare, proofElements, leavesExact, consistentIn, productIn, q5, q6, q14, q15, q17}
+use Rattle.protocol.specs.Calls.{testQuestions, commitQuestions, batchQuestions, proveQuestions, verifyQuestions, honestQuestions, wellFormedQuestions, keyQuestions, verifyPuts, testAnswer, commitAnswer, batchAnswer, proveAnswer, verifyAnswer, honestForm, verifyForm, wellFormed}
 use Rattle.protocol.specs.Counting.{opening, acceptedCount, checksAt, factor}
 use Rattle.protocol.specs.Coefficients.{conditions}
 use Rattle.protocol.specs.Statements.{OpenedByPlace, OpenedForm, VoleIdentity, Expansion, ProverExpansion, HonestAccepted, HonestWellFormed, AcceptsExactly, FirstNamed, StepsAreWhole, ProofReadsBack, CandidateIsWitness, candidateBytes, ForgeryCount, HidingColumns, errorOf, factorOf}
-use Rattle.protocol.proofs.TestLaws.{both-true, all-at, all-of, all-true, eqb-same, passes-all}
+use Rattle.protocol.proofs.TestLaws.{both-true, all-at, all-of, all-true, true-all, eqb-same, passes-all}
 use Rattle.protocol.proofs.FrameLaws.{frame-append}
 use Rattle.protocol.proofs.LeafLaws.{open-place}
 use Rattle.protocol.proofs.VoleLaws.{vole}
 use Rattle.protocol.proofs.FormLaws.{expand, quad-congr, lin-congr}
 use Rattle.protocol.proofs.CoefficientLaws.{checks-passing}
-use Rattle.protocol.proofs.AnswerLaws.{accepted-all, accepted-of, all-yes, yes-all, ask-after}
+use Rattle.protocol.proofs.AnswerLaws.{accepted-all, accepted-of, all-yes, yes-all, ask-after, ask-first-no}
 use Rattle.protocol.proofs.EachLaws.{without-by, names-first}
 use Rattle.protocol.proofs.Published.{names-eleven}
 use Rattle.protocol.proofs.CountingLaws.{Form, form-of, leaves-length, opened-exact, opened-spare, tree-is, splits, count-product}
 use Rattle.protocol.proofs.LimitLaws.{bounds-of}
+use Rattle.protocol.proofs.BinaryLaws.{binary-lawful}
+use Rattle.protocol.proofs.ElementLaws.{honest-elements as proof-elements}
 use Rattle.protocol.proofs.SymbolLaws.{sym-symbol, pack-sym, u-symbol}
 use Rattle.protocol.proofs.HonestLaws.{passing-all, exact, sections-back, spare}
 
@@ -93,97 +97,11 @@ module _ (A : Alphabet) where
       let c : List (List ℕ) = qs0Section A s leaves key χ ∷ qs1Section A s leaves key x χ ∷ [] in
       ap (λ r. frame a ++ r) (frame-append b c) ∙ frame-append a (b ++ c)
 
-  pub accepts-exactly : AcceptsExactly A
-  unfolding verifyAnswer verifyForm
-  accepts-exactly key Δ H′ χ opened proof h = (to, from)
-    where
-      s : Shape
-      s = shapeOf key
-
-      C : ℕ → Bool
-      C = consistentIn A (shapeOf key) Δ H′ opened proof
-
-      Q : ℕ → Bool
-      Q = productIn A (shapeOf key) key Δ χ opened proof
-
-      split : isAccepted (verifyAnswer A key Δ H′ χ opened proof) ≡ (allBelow (shapeOf key .τ) C && (allBelow (shapeOf key .τ) Q && true))
-      split =
-          ap isAccepted (ask-after (verifyQuestions A key Δ H′ χ opened proof) (q14 A (shapeOf key) Δ H′ opened proof ∷ q15 A (shapeOf key) key Δ χ opened proof ∷ []) h)
-          ∙ accepted-all (q14 A (shapeOf key) Δ H′ opened proof ∷ q15 A (shapeOf key) key Δ χ opened proof ∷ [])
-
-      to : verifyAnswer A key Δ H′ χ opened proof ≡ accepted → (e : ℕ) → e < shapeOf key .τ → (C e ≡ true) × (Q e ≡ true)
-      to a e l =
-          let t : (allBelow (shapeOf key .τ) C && (allBelow (shapeOf key .τ) Q && true)) ≡ true = sym split ∙ ap isAccepted a in
-          let r = and-right (allBelow (shapeOf key .τ) C) (allBelow (shapeOf key .τ) Q && true) t in
-          (all-at (shapeOf key .τ) C (and-left (allBelow (shapeOf key .τ) C) _ t) e l, all-at (shapeOf key .τ) Q (and-left (allBelow (shapeOf key .τ) Q) true r) e l)
-
-      from : ((e : ℕ) → e < shapeOf key .τ → (C e ≡ true) × (Q e ≡ true)) → verifyAnswer A key Δ H′ χ opened proof ≡ accepted
-      from f =
-          accepted-of _ (split ∙ both-true _ _ (all-of (shapeOf key .τ) C (λ e l. f e l .0)) (both-true _ true (all-of (shapeOf key .τ) Q (λ e l. f e l .1)) refl))
-
-  pub first-named : FirstNamed A
-  unfolding testAnswer commitAnswer batchAnswer proveAnswer verifyAnswer solves
-  first-named = record {
-    test-eleven = λ key x. names-eleven A key x (testQuestions A key x) refl;
-    commit-eleven = λ key leaves x out. names-eleven A key x (commitQuestions A key leaves x out) refl;
-    batch-eleven = λ key leaves x χ out. names-eleven A key x (batchQuestions A key leaves x χ out) refl;
-    prove-eleven = λ key leaves x H′ χ out. names-eleven A key x (proveQuestions A key leaves x H′ χ out) refl;
-    fourteen = λ key Δ H′ χ opened proof e h.
-        let s = shapeOf key in
-        let before = verifyQuestions A key Δ H′ χ opened proof in
-        names-first 14 (s .τ) (consistentIn A s Δ H′ opened proof) before (q15 A s key Δ χ opened proof ∷ []) (without-by 14 before refl) (omega arith, tt) e h .1;
-    fifteen = λ key Δ H′ χ opened proof e h.
-        let s = shapeOf key in
-        let before = verifyQuestions A key Δ H′ χ opened proof ++ (q14 A s Δ H′ opened proof ∷ []) in
-        let t = names-first 15 (s .τ) (productIn A s key Δ χ opened proof) before [] (without-by 15 before refl) tt e h in
-        (t .1, all-at (s .τ) (consistentIn A s Δ H′ opened proof) (last-yes (verifyQuestions A key Δ H′ χ opened proof) (q14 A s Δ H′ opened proof) (t .0)));
-  }
-
   -- the factors, of leaves of exact length
   module _ (key leaves H′ χ proof : List ℕ) (k7 : leavesExact A (shapeOf key) (perTree A) leaves ≡ true) where
     pub factor-is : (e : ℕ) → e < shapeOf key .τ → factor A key leaves H′ χ proof e ≡ count (passing base (conditions A (shapeOf key) key leaves H′ χ (sectionsIn A (shapeOf key) proof) e)) elements
     unfolding factor
     factor-is e le = count-congr _ _ (checks-passing A (shapeOf key) key leaves H′ χ (sectionsIn A (shapeOf key) proof) e (leaves-length A (shapeOf key) leaves k7) le) elements
-
-  pub forgery-count : (key leaves H′ χ proof : List ℕ) → wellFormed A key leaves H′ χ proof ≡ true → ForgeryCount A key leaves H′ χ proof
-  forgery-count key leaves H′ χ proof h = record {
-    four-cases = four;
-    full-exactly = full;
-    full-error = λ e l k. full e l .0 k .c2-zero;
-    count-is-product = count-product A key leaves H′ χ proof form;
-    large-count = large;
-  }
-    where
-      form : Form A (shapeOf key) key leaves H′ χ proof
-      form = form-of A key leaves H′ χ proof h
-
-      f : ℕ → ℕ
-      f = factor A key leaves H′ χ proof
-
-      four : (e : ℕ) → e < shapeOf key .τ → (f e ≡ 0) ⊎ ((f e ≡ 1) ⊎ ((f e ≡ 2) ⊎ (f e ≡ size)))
-      four e l = rw (factor-is key leaves H′ χ proof (form .k7) e l) (factor-values base (conditions A (shapeOf key) key leaves H′ χ (sectionsIn A (shapeOf key) proof) e))
-
-      full : (e : ℕ) → e < shapeOf key .τ → (f e ≡ size) ↔ Trivial base (conditions A (shapeOf key) key leaves H′ χ (sectionsIn A (shapeOf key) proof) e)
-      full e l = rw (factor-is key leaves H′ χ proof (form .k7) e l) (factor-iff base (conditions A (shapeOf key) key leaves H′ χ (sectionsIn A (shapeOf key) proof) e))
-
-      large : 2 ^ (shapeOf key .τ) < acceptedCount A key leaves H′ χ proof → (e : ℕ) × (e < shapeOf key .τ) × (f e ≡ size)
-      large k = finish (above (shapeOf key .τ) f (λ e. e < shapeOf key .τ → f e ≡ size) cases (rw (count-product A key leaves H′ χ proof form) at k))
-        where
-          pick : (e : ℕ) → (f e ≡ 0) ⊎ ((f e ≡ 1) ⊎ ((f e ≡ 2) ⊎ (f e ≡ size))) → (e < shapeOf key .τ → f e ≡ size) ⊎ (f e ≤ 2)
-          pick e (inl z) = inr (omega arith)
-          pick e (inr (inl z)) = inr (omega arith)
-          pick e (inr (inr (inl z))) = inr (omega arith)
-          pick e (inr (inr (inr z))) = inl (λ l. z)
-
-          by : (e : ℕ) → Dec (e < shapeOf key .τ) → (e < shapeOf key .τ → f e ≡ size) ⊎ (f e ≤ 2)
-          by e (yes l) = pick e (four e l)
-          by e (no n) = inl (λ l. absurd (n l))
-
-          cases : (e : ℕ) → (e < shapeOf key .τ → f e ≡ size) ⊎ (f e ≤ 2)
-          cases e = by e (decLt e (shapeOf key .τ))
-
-          finish : (e : ℕ) × (e < shapeOf key .τ) × (e < shapeOf key .τ → f e ≡ size) → (e : ℕ) × (e < shapeOf key .τ) × (f e ≡ size)
-          finish (e, l, g) = (e, l, g l)
 
   pub hiding-columns : (key leaves proof : List ℕ) → HidingColumns A key leaves proof
   hiding-columns key leaves proof = record {
@@ -196,69 +114,6 @@ module _ (A : Alphabet) where
     unfolding proofOf
     proof-reads-back key leaves x H′ χ h =
         (exact A laws (shapeOf key) leaves key x H′ χ (bounds-of (shapeOf key) h), sections-back A laws (shapeOf key) leaves key x H′ χ)
-
-    pub honest-well-formed : HonestWellFormed A
-    unfolding honestForm wellFormed proofOf
-    honest-well-formed key leaves x H′ χ h =
-        let s = shapeOf key in
-        let P = sectionsOf A s leaves key x H′ χ in
-        let t =
-        all-yes
-        (q1 A s key ∷ q2 A s ∷ q3 A s key ∷ q4 A s key ∷ q5 A s (hExact A s H′ ∷ χExact A s χ ∷ []) ∷ q6 A s H′ ∷ q7 A s (perTree A) leaves
-        ∷ q8 A s (perTree A) leaves ∷ q9 A s x ∷ []) h in
-        yes-all
-        (q1 A s key ∷ q2 A s ∷ q3 A s key ∷ q4 A s key ∷ q5 A s (hExact A s H′ ∷ χExact A s χ ∷ []) ∷ q6 A s H′ ∷ q7 A s (perTree A) leaves
-        ∷ q8 A s (perTree A) leaves ∷ q12 A s (bytesOf P) ∷ q13 A s (bytesOf P) ∷ []) (
-          t .0,
-          (
-            t .1 .0,
-            (
-              t .1 .1 .0,
-              (
-                t .1 .1 .1 .0,
-                (
-                  t .1 .1 .1 .1 .0,
-                  (
-                    t .1 .1 .1 .1 .1 .0,
-                    (
-                      t .1 .1 .1 .1 .1 .1 .0,
-                      (
-                        t .1 .1 .1 .1 .1 .1 .1 .0,
-                        (
-                          exact A laws s leaves key x H′ χ (bounds-of s (t .1 .0)),
-                          (ap (proofSpare A s) (sections-back A laws s leaves key x H′ χ) ∙ spare A laws s leaves key x H′ χ, tt),
-                        ),
-                      ),
-                    ),
-                  ),
-                ),
-              ),
-            ),
-          ),
-        )
-
-    -- over elements; then a string of bytes is one of elements
-    honest-elements : (key leaves x H′ χ : List ℕ) → honestForm A key leaves x H′ χ ≡ true → ((i : ℕ) → i < shapeOf key .m → error A (shapeOf key) key i (symbol A x) ≡ 𝟘)
-        → (Δ : List F) → length Δ ≡ shapeOf key .τ → verifyAnswer A key (map byte Δ) H′ χ (opening A (shapeOf key) leaves (map byte Δ)) (proofOf A key leaves x H′ χ) ≡ accepted
-    unfolding proofOf
-    honest-elements key leaves x H′ χ h solved Δ n =
-        let s = shapeOf key in
-        let P = sectionsOf A s leaves key x H′ χ in
-        let form = form-of A key leaves H′ χ (bytesOf P) (honest-well-formed key leaves x H′ χ h) in
-        accepted-of _
-        (splits A key leaves H′ χ (bytesOf P) form Δ n ∙ passes-all (λ e y. checksAt A key leaves H′ χ s (sectionsIn A s (bytesOf P)) e (byte y)) Δ 𝟘
-        ∙ all-of (length Δ) _ (λ e l. ap (λ p. checksAt A key leaves H′ χ s p e (byte (getD Δ e 𝟘))) (sections-back A laws s leaves key x H′ χ)
-        ∙ checks-passing A s key leaves H′ χ P e (leaves-length A s leaves (form .k7)) (omega (arith, l, n)) (getD Δ e 𝟘)
-        ∙ passing-all A laws s leaves key x H′ χ e (omega (arith, l, n)) solved (getD Δ e 𝟘)))
-
-    bytes-back : (Δ : List ℕ) → ((e : ℕ) → e < length Δ → getD Δ e 0 < size) → map byte (map elem Δ) ≡ Δ
-    bytes-back [] h = refl
-    bytes-back (x ∷ Δ) h = ap₂ _∷_ (K .byte-elem x (h 0 (omega arith))) (bytes-back Δ (λ e l. h (suc e) (omega arith)))
-
-    pub honest-accepted : HonestAccepted A
-    honest-accepted key leaves x H′ χ Δ h solved n b =
-        subst (λ D. verifyAnswer A key D H′ χ (opening A (shapeOf key) leaves D) (proofOf A key leaves x H′ χ) ≡ accepted) (bytes-back Δ b)
-        (honest-elements key leaves x H′ χ h solved (map elem Δ) (length-map Δ elem ∙ n))
 
     correction-symbol : (s : Shape) (p : Sections) (e c : ℕ) → IsSymbol A (correctionAt A s p e c)
     unfolding correctionAt
@@ -280,3 +135,150 @@ module _ (A : Alphabet) where
           both-true _ _ (eqb-same _ _ (laws .pack-length (s .n) _)) (laws .pack-spare (s .n) _ (λ c. laws .symbol-lt (x c))),
           λ i. ap (λ z. z ⊕ yOf A s key i) (ap₂ _⊕_ (quad-congr A s key i y x y x same same) (lin-congr A s key i y x same)),
         )
+
+-- of the calls
+module _ (g : Setting) where
+  abbrev A : Alphabet
+  A = alphabetOf g
+
+  laws : Lawful (alphabetOf g)
+  laws = binary-lawful (fieldOf (g .degree))
+
+  open Alphabet A using (K)
+  open Coded K using (base, elem, byte)
+  open Field base using (R, size, elements)
+  open Ring R using (F, 𝟘)
+
+  pub accepts-exactly : AcceptsExactly g
+  unfolding verifyAnswer verifyForm
+  accepts-exactly key Δ H′ χ opened proof h = (to, from)
+    where
+      s : Shape
+      s = shapeOf key
+
+      C : ℕ → Bool
+      C = consistentIn A (shapeOf key) Δ H′ opened proof
+
+      Q : ℕ → Bool
+      Q = productIn A (shapeOf key) key Δ χ opened proof
+
+      split : isAccepted (verifyAnswer g key Δ H′ χ opened proof) ≡ (allBelow (shapeOf key .τ) C && (allBelow (shapeOf key .τ) Q && true))
+      split =
+          ap isAccepted (ask-after (verifyQuestions g key Δ H′ χ opened proof) (q14 A (shapeOf key) Δ H′ opened proof ∷ q15 A (shapeOf key) key Δ χ opened proof ∷ []) h)
+          ∙ accepted-all (q14 A (shapeOf key) Δ H′ opened proof ∷ q15 A (shapeOf key) key Δ χ opened proof ∷ [])
+
+      to : verifyAnswer g key Δ H′ χ opened proof ≡ accepted → (e : ℕ) → e < shapeOf key .τ → (C e ≡ true) × (Q e ≡ true)
+      to a e l =
+          let t : (allBelow (shapeOf key .τ) C && (allBelow (shapeOf key .τ) Q && true)) ≡ true = sym split ∙ ap isAccepted a in
+          let r = and-right (allBelow (shapeOf key .τ) C) (allBelow (shapeOf key .τ) Q && true) t in
+          (all-at (shapeOf key .τ) C (and-left (allBelow (shapeOf key .τ) C) _ t) e l, all-at (shapeOf key .τ) Q (and-left (allBelow (shapeOf key .τ) Q) true r) e l)
+
+      from : ((e : ℕ) → e < shapeOf key .τ → (C e ≡ true) × (Q e ≡ true)) → verifyAnswer g key Δ H′ χ opened proof ≡ accepted
+      from f =
+          accepted-of _ (split ∙ both-true _ _ (all-of (shapeOf key .τ) C (λ e l. f e l .0)) (both-true _ true (all-of (shapeOf key .τ) Q (λ e l. f e l .1)) refl))
+
+  pub first-named : FirstNamed g
+  unfolding testAnswer commitAnswer batchAnswer proveAnswer verifyAnswer solves
+  first-named = record {
+    test-eleven = λ key x. names-eleven A key x (testQuestions g key x) refl;
+    commit-eleven = λ key leaves x out. names-eleven A key x (commitQuestions g key leaves x out) refl;
+    batch-eleven = λ key leaves x χ out. names-eleven A key x (batchQuestions g key leaves x χ out) refl;
+    prove-eleven = λ key leaves x H′ χ out. names-eleven A key x (proveQuestions g key leaves x H′ χ out) refl;
+    fourteen = λ key Δ H′ χ opened proof e h.
+        let s = shapeOf key in
+        let before = verifyQuestions g key Δ H′ χ opened proof in
+        names-first 14 (s .τ) (consistentIn A s Δ H′ opened proof) before (q15 A s key Δ χ opened proof ∷ []) (without-by 14 before refl) (omega arith, tt) e h .1;
+    fifteen = λ key Δ H′ χ opened proof e h.
+        let s = shapeOf key in
+        let before = verifyQuestions g key Δ H′ χ opened proof ++ (q14 A s Δ H′ opened proof ∷ []) in
+        let t = names-first 15 (s .τ) (productIn A s key Δ χ opened proof) before [] (without-by 15 before refl) tt e h in
+        (t .1, all-at (s .τ) (consistentIn A s Δ H′ opened proof) (last-yes (verifyQuestions g key Δ H′ χ opened proof) (q14 A s Δ H′ opened proof) (t .0)));
+  }
+
+  pub forgery-count : (key leaves H′ χ proof : List ℕ) → wellFormed g key leaves H′ χ proof ≡ true → ForgeryCount g key leaves H′ χ proof
+  forgery-count key leaves H′ χ proof h = record {
+    four-cases = four;
+    full-exactly = full;
+    full-error = λ e l k. full e l .0 k .c2-zero;
+    count-is-product = count-product g key leaves H′ χ proof form;
+    large-count = large;
+  }
+    where
+      form : Form g (shapeOf key) key leaves H′ χ proof
+      form = form-of g key leaves H′ χ proof h
+
+      f : ℕ → ℕ
+      f = factor A key leaves H′ χ proof
+
+      four : (e : ℕ) → e < shapeOf key .τ → (f e ≡ 0) ⊎ ((f e ≡ 1) ⊎ ((f e ≡ 2) ⊎ (f e ≡ size)))
+      four e l = rw (factor-is A key leaves H′ χ proof (form .k7) e l) (factor-values base (conditions A (shapeOf key) key leaves H′ χ (sectionsIn A (shapeOf key) proof) e))
+
+      full : (e : ℕ) → e < shapeOf key .τ → (f e ≡ size) ↔ Trivial base (conditions A (shapeOf key) key leaves H′ χ (sectionsIn A (shapeOf key) proof) e)
+      full e l = rw (factor-is A key leaves H′ χ proof (form .k7) e l) (factor-iff base (conditions A (shapeOf key) key leaves H′ χ (sectionsIn A (shapeOf key) proof) e))
+
+      large : 2 ^ (shapeOf key .τ) < acceptedCount g key leaves H′ χ proof → (e : ℕ) × (e < shapeOf key .τ) × (f e ≡ size)
+      large k = finish (above (shapeOf key .τ) f (λ e. e < shapeOf key .τ → f e ≡ size) cases (rw (count-product g key leaves H′ χ proof form) at k))
+        where
+          pick : (e : ℕ) → (f e ≡ 0) ⊎ ((f e ≡ 1) ⊎ ((f e ≡ 2) ⊎ (f e ≡ size))) → (e < shapeOf key .τ → f e ≡ size) ⊎ (f e ≤ 2)
+          pick e (inl z) = inr (omega arith)
+          pick e (inr (inl z)) = inr (omega arith)
+          pick e (inr (inr (inl z))) = inr (omega arith)
+          pick e (inr (inr (inr z))) = inl (λ l. z)
+
+          by : (e : ℕ) → Dec (e < shapeOf key .τ) → (e < shapeOf key .τ → f e ≡ size) ⊎ (f e ≤ 2)
+          by e (yes l) = pick e (four e l)
+          by e (no n) = inl (λ l. absurd (n l))
+
+          cases : (e : ℕ) → (e < shapeOf key .τ → f e ≡ size) ⊎ (f e ≤ 2)
+          cases e = by e (decLt e (shapeOf key .τ))
+
+          finish : (e : ℕ) × (e < shapeOf key .τ) × (e < shapeOf key .τ → f e ≡ size) → (e : ℕ) × (e < shapeOf key .τ) × (f e ≡ size)
+          finish (e, l, g) = (e, l, g l)
+
+  -- a Δ that is not all elements is refused 17: what comes before gets a yes
+  pub other-bytes : (key leaves H′ χ proof : List ℕ) → wellFormed g key leaves H′ χ proof ≡ true → (Δ opened : List ℕ) → length Δ ≡ shapeOf key .τ → elementsIn A Δ ≡ false
+      → verifyAnswer g key Δ H′ χ opened proof ≡ refused 17 0
+  unfolding verifyAnswer ΔExact
+  other-bytes key leaves H′ χ proof h Δ opened n b =
+      let s = shapeOf key in
+      let f = form-of g key leaves H′ χ proof h in
+      let five = true-all (ΔExact A s Δ ∷ hExact A s H′ ∷ χExact A s χ ∷ []) (eqb-same _ _ n, (f .k5H, (f .k5χ, tt))) in
+      ask-first-no (keyQuestions g key ++ (q5 A s (ΔExact A s Δ ∷ hExact A s H′ ∷ χExact A s χ ∷ []) ∷ q6 A s H′ ∷ []))
+      (q17 A s (elementsIn A Δ ∷ elementsIn A χ ∷ [])) (drop 8 (verifyPuts g key Δ H′ χ opened proof))
+      (yes-all (keyQuestions g key ++ (q5 A s (ΔExact A s Δ ∷ hExact A s H′ ∷ χExact A s χ ∷ []) ∷ q6 A s H′ ∷ []))
+      (f .k16, (f .k1, (f .k2, (f .k3, (f .k4, (five, (f .k6, tt))))))))
+      (ap (λ z. allTrue (z ∷ elementsIn A χ ∷ [])) b)
+
+  pub honest-well-formed : HonestWellFormed g
+  unfolding honestForm wellFormed proofOf
+  honest-well-formed key leaves x H′ χ h =
+      let s = shapeOf key in
+      let P = sectionsOf A s leaves key x H′ χ in
+      let t = all-yes (honestQuestions g key leaves x H′ χ) h in
+      let r = t .1 .1 .1 .1 .1 .1 in
+      let back = sections-back A laws s leaves key x H′ χ in
+      yes-all (wellFormedQuestions g key leaves H′ χ (bytesOf P))
+      (t .0, (t .1 .0, (t .1 .1 .0, (t .1 .1 .1 .0, (t .1 .1 .1 .1 .0, (t .1 .1 .1 .1 .1 .0, (r .0, (r .1 .0, (r .1 .1 .0, (r .1 .1 .1 .0, (exact A laws s leaves key x H′ χ (bounds-of s (t .1 .1 .0)), (ap (proofSpare A s) back ∙ spare A laws s leaves key x H′ χ, (ap (proofElements A s) back ∙ proof-elements A s leaves key x H′ χ, tt)))))))))))))
+
+  -- over elements; then a string of bytes is one of elements
+  honest-elements : (key leaves x H′ χ : List ℕ) → honestForm g key leaves x H′ χ ≡ true → ((i : ℕ) → i < shapeOf key .m → error A (shapeOf key) key i (symbol A x) ≡ 𝟘)
+      → (Δ : List F) → length Δ ≡ shapeOf key .τ → verifyAnswer g key (map byte Δ) H′ χ (opening A (shapeOf key) leaves (map byte Δ)) (proofOf A key leaves x H′ χ) ≡ accepted
+  unfolding proofOf
+  honest-elements key leaves x H′ χ h solved Δ n =
+      let s = shapeOf key in
+      let P = sectionsOf A s leaves key x H′ χ in
+      let form = form-of g key leaves H′ χ (bytesOf P) (honest-well-formed key leaves x H′ χ h) in
+      accepted-of _
+      (splits g key leaves H′ χ (bytesOf P) form Δ n ∙ passes-all (λ e y. checksAt A key leaves H′ χ s (sectionsIn A s (bytesOf P)) e (byte y)) Δ 𝟘
+      ∙ all-of (length Δ) _ (λ e l. ap (λ p. checksAt A key leaves H′ χ s p e (byte (getD Δ e 𝟘))) (sections-back A laws s leaves key x H′ χ)
+      ∙ checks-passing A s key leaves H′ χ P e (leaves-length A s leaves (form .k7)) (omega (arith, l, n)) (getD Δ e 𝟘)
+      ∙ passing-all A laws s leaves key x H′ χ e (omega (arith, l, n)) solved (getD Δ e 𝟘)))
+
+  bytes-back : (Δ : List ℕ) → ((e : ℕ) → e < length Δ → getD Δ e 0 < size) → map byte (map elem Δ) ≡ Δ
+  bytes-back [] h = refl
+  bytes-back (x ∷ Δ) h = ap₂ _∷_ (K .byte-elem x (h 0 (omega arith))) (bytes-back Δ (λ e l. h (suc e) (omega arith)))
+
+  pub honest-accepted : HonestAccepted g
+  honest-accepted key leaves x H′ χ Δ h solved n b =
+      subst (λ D. verifyAnswer g key D H′ χ (opening A (shapeOf key) leaves D) (proofOf A key leaves x H′ χ) ≡ accepted) (bytes-back Δ b)
+      (honest-elements key leaves x H′ χ h solved (map elem Δ) (length-map Δ elem ∙ n))

@@ -6,6 +6,7 @@
 --   pack L f == the string with the coordinates f
 --   spareZero s L == what s holds past its L coordinates is 0;  masks == mask coordinates of a repetition
 --   sym A s c == coordinate c of s as an element;  elemAt A s i == byte i of s as an element
+--   elementsIn A s == each byte of s writes an element of the field: it is below the field's size
 -- Equations are written with sym and elemAt only. `Lawful` is what the theorems use of an alphabet;
 -- for bits it is proved.
 -- Assumes nothing.
@@ -13,10 +14,12 @@ use mathlib.Core.Path.{_≡_}
 use mathlib.Core.Bool.{Bool, true}
 use mathlib.Core.List.{List}
 use Prim.Native.Nat.{ℕ, _≤_, _<_}
+use lib.Dec.{ltb}
 use lib.ListN.{length, getD}
 use Rattle.algebra.specs.Ring.{Ring}
 use Rattle.algebra.specs.Field.{Field}
 use Rattle.algebra.specs.Coded.{Coded}
+use Rattle.protocol.specs.Lists.{allBelow}
 
 pub record Alphabet : Type 1 where
   pub K : Coded
@@ -32,7 +35,7 @@ pub record Alphabet : Type 1 where
 module _ (A : Alphabet) where
   open Alphabet A using (K, symbols, embed, symbolOf, width, at, pack, spareZero, masks)
   open Coded K using (base, elem)
-  open Field base using (R)
+  open Field base using (R, size)
   open Ring R using (F, 𝟘, 𝟙, add as _⊕_, mul as _⊗_)
 
   infixl 65 _⊕_
@@ -42,6 +45,9 @@ module _ (A : Alphabet) where
 
   unfoldable pub elemAt : List ℕ → ℕ → F
   elemAt s i = elem (getD s i 0)
+
+  unfoldable pub elementsIn : List ℕ → Bool
+  elementsIn s = allBelow (length s) (λ i. ltb (getD s i 0) size)
 
   -- an element that a symbol stands for
   abbrev pub IsSymbol : F → Type 0

@@ -69,3 +69,6 @@ pub data Published (s : Shape) : Answer → Type 0 where
   proof-spare-bit : Published s (refused 13 0)
   inconsistent : (e : ℕ) → e < s .τ → Published s (refused 14 e)
   product-differs : (e : ℕ) → e < s .τ → Published s (refused 15 e)
+  degree-unserved : Published s (refused 16 0)
+  challenge-element : Published s (refused 17 0)
+  proof-element : Published s (refused 18 0)

@@ -10,7 +10,7 @@ use Prim.Native.Nat.{ℕ, zero, suc, _+_, _*_, _/_, _%_}
 use lib.Dec.{leb, ltb}
 use lib.ListN.{length, drop}
 use Rattle.protocol.specs.Frames.{num4, framed, sectionNo}
-use Rattle.protocol.specs.Alphabet.{Alphabet}
+use Rattle.protocol.specs.Setting.{Setting}
 use Rattle.protocol.specs.Answers.{Answer, accepted, refused}
 use Rattle.protocol.specs.Calls.{verifyAnswer}
 
@@ -25,10 +25,10 @@ pub data Checked : Type 0 where
   answered : Answer → Checked
   unread : Checked
 
-unfoldable pub checkOf : Alphabet → List ℕ → Checked
-checkOf A input =
+unfoldable pub checkOf : Setting → List ℕ → Checked
+checkOf g input =
     let no : ℕ → List ℕ = λ i. sectionNo (lengthsIn 6 input) i input in
-    elim (readable 6 65536 input) [ true ↦ answered (verifyAnswer A (no 0) (no 1) (no 2) (no 3) (no 4) (no 5)) | false ↦ unread ]
+    elim (readable 6 65536 input) [ true ↦ answered (verifyAnswer g (no 0) (no 1) (no 2) (no 3) (no 4) (no 5)) | false ↦ unread ]
 
 -- the last digits of x, at most `fuel` of them
 unfoldable pub decimalDigits : ℕ → ℕ → List ℕ
@@ -52,5 +52,5 @@ numbersText unread = decimal 0 ++ (32 ∷ decimal 0)
 unfoldable pub lineOf : Checked → List ℕ
 lineOf c = verdictText c ++ (32 ∷ numbersText c ++ (10 ∷ []))
 
-unfoldable pub checkLine : Alphabet → List ℕ → List ℕ
-checkLine A input = lineOf (checkOf A input)
+unfoldable pub checkLine : Setting → List ℕ → List ℕ
+checkLine g input = lineOf (checkOf g input)

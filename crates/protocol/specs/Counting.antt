@@ -1,6 +1,7 @@
 -- The words of the forgery count.
 --   opening s leaves Δ == the leaves opened at Δ
---   acceptedCount == how many Δ of τ bytes the verifier's call accepts, the leaves opened anew for each
+--   acceptedCount == how many Δ of τ elements the verifier's call accepts, the leaves opened anew for each. A byte that
+--     is no element is refused 17 (Demands: OtherBytesRefused)
 --   checksAt == both checks hold in repetition e at δ
 --   factor == how many elements of K, put for Δ_e, make both hold in e
 -- Assumes nothing.
@@ -12,6 +13,7 @@ use Rattle.algebra.specs.Coded.{Coded}
 use Rattle.algebra.specs.Count.{count}
 use Rattle.algebra.specs.Strings.{strings}
 use Rattle.protocol.specs.Alphabet.{Alphabet}
+use Rattle.protocol.specs.Setting.{Setting, alphabetOf}
 use Rattle.protocol.specs.Shape.{Shape, shapeOf, perTree, wOf}
 use Rattle.protocol.specs.Sections.{Sections, sectionsIn}
 use Rattle.protocol.specs.Leaves.{openTree, openLeaves}
@@ -28,11 +30,13 @@ module _ (A : Alphabet) where
   opening s leaves Δ = openLeaves (perTree A) (wOf A s) (s .τ) leaves Δ
 
   module _ (key leaves H′ χ : List ℕ) where
-    unfoldable pub acceptedCount : List ℕ → ℕ
-    acceptedCount proof = count (λ Δ. isAccepted (verifyAnswer A key (map byte Δ) H′ χ (opening (shapeOf key) leaves (map byte Δ)) proof)) (strings base (shapeOf key .τ))
-
     unfoldable pub checksAt : Shape → Sections → ℕ → ℕ → Bool
     checksAt s p e δ = consistentAt A s H′ p e δ (openTree (perTree A) (wOf A s) leaves e δ) && productAt A s key χ p e δ (openTree (perTree A) (wOf A s) leaves e δ)
 
     unfoldable pub factor : List ℕ → ℕ → ℕ
     factor proof e = count (λ x. checksAt (shapeOf key) (sectionsIn A (shapeOf key) proof) e (byte x)) elements
+
+unfoldable pub acceptedCount : Setting → List ℕ → List ℕ → List ℕ → List ℕ → List ℕ → ℕ
+acceptedCount g key leaves H′ χ proof =
+    let A = alphabetOf g in
+    count (λ Δ. isAccepted (verifyAnswer g key (map (A .K .byte) Δ) H′ χ (opening A (shapeOf key) leaves (map (A .K .byte) Δ)) proof)) (strings (A .K .base) (shapeOf key .τ))

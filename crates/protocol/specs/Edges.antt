@@ -13,14 +13,14 @@ use Prim.Native.Nat.{ℕ}
 use lib.ListN.{replicate, take}
 use Rattle.protocol.specs.Frames.{num2, num4, count4}
 use Rattle.protocol.specs.Reader.{between, missing, sectionAt}
-use Rattle.protocol.specs.Binary.{bits256}
+use Rattle.protocol.specs.Binary.{bits256, bits16}
 use Rattle.protocol.specs.Shape.{Shape, limits, perTree, perOpened, maskAt, kOf, lOf, wOf}
 use Rattle.protocol.specs.Key.{keyExact, keySpare}
 use Rattle.protocol.specs.Sections.{sectionsIn}
 use Rattle.protocol.specs.Answers.{Answer, accepted, refused, word}
 use Rattle.protocol.specs.Questions.{hSpare, leavesSpare, witnessForm, solves, proofSpare}
 use Rattle.protocol.specs.Calls.{testAnswer, proveAnswer, verifyAnswer}
-use Rattle.protocol.specs.SmallExample.{bits16, changed, sizes, key, witness, leaves, H′, χ, Δ, proof, opened}
+use Rattle.protocol.specs.SmallExample.{four, changed, sizes, key, witness, leaves, H′, χ, Δ, proof, opened}
 
 abbrev pub allowed : ℕ → ℕ → ℕ → ℕ → Bool
 allowed n m τ t = limits (record { n = n; m = m; τ = τ; t = t })
@@ -90,32 +90,32 @@ pub record Numbers : Type 0 where
 -- A key without a whole header; a size whose high byte is set; a count whose third byte is set;
 -- a byte too many or too few.
 pub record Lengths : Type 0 where
-  pub header-short : testAnswer bits16 (take 7 key) witness ≡ refused 1 0
-  pub header-alone : testAnswer bits16 (take 8 key) witness ≡ refused 3 0
-  pub m-high : testAnswer bits16 (changed key 3 0x02) witness ≡ refused 2 0
-  pub τ-high : testAnswer bits16 (changed key 5 0x01) witness ≡ refused 2 0
-  pub t-high : testAnswer bits16 (changed key 7 0x02) witness ≡ refused 2 0
-  pub Δ-long : verifyAnswer bits16 key (Δ ++ (0x00 ∷ [])) H′ χ opened proof ≡ refused 5 0
-  pub Δ-short : verifyAnswer bits16 key (take 1 Δ) H′ χ opened proof ≡ refused 5 0
-  pub H-short : verifyAnswer bits16 key Δ (take 5 H′) χ opened proof ≡ refused 5 0
-  pub χ-short : verifyAnswer bits16 key Δ H′ (take 3 χ) opened proof ≡ refused 5 0
-  pub count-third : verifyAnswer bits16 key Δ H′ χ opened (changed proof 2 0x01) ≡ refused 12 0
+  pub header-short : testAnswer four (take 7 key) witness ≡ refused 1 0
+  pub header-alone : testAnswer four (take 8 key) witness ≡ refused 3 0
+  pub m-high : testAnswer four (changed key 3 0x02) witness ≡ refused 2 0
+  pub τ-high : testAnswer four (changed key 5 0x01) witness ≡ refused 2 0
+  pub t-high : testAnswer four (changed key 7 0x02) witness ≡ refused 2 0
+  pub Δ-long : verifyAnswer four key (Δ ++ (0x00 ∷ [])) H′ χ opened proof ≡ refused 5 0
+  pub Δ-short : verifyAnswer four key (take 1 Δ) H′ χ opened proof ≡ refused 5 0
+  pub H-short : verifyAnswer four key Δ (take 5 H′) χ opened proof ≡ refused 5 0
+  pub χ-short : verifyAnswer four key Δ H′ (take 3 χ) opened proof ≡ refused 5 0
+  pub count-third : verifyAnswer four key Δ H′ χ opened (changed proof 2 0x01) ≡ refused 12 0
 
 -- Two questions get a no, and the first in 01's order refuses.
 pub record Order : Type 0 where
-  pub two-three : verifyAnswer bits16 (changed key 1 0x02) Δ H′ χ opened proof ≡ refused 2 0
-  pub three-four : verifyAnswer bits16 (changed (changed key 8 0x01) 47 0x02) Δ H′ χ opened proof ≡ refused 3 0
-  pub five-six : verifyAnswer bits16 key Δ (changed H′ 5 0x02) (χ ++ (0x00 ∷ [])) opened proof ≡ refused 5 0
-  pub seven-eight : verifyAnswer bits16 key Δ H′ χ (changed leaves 95 0x08) proof ≡ refused 7 0
-  pub twelve-thirteen : verifyAnswer bits16 key Δ H′ χ opened (changed (changed proof 0 0x01) 12 0x02) ≡ refused 12 0
-  pub nine-ten : proveAnswer bits16 key leaves (changed witness 1 0x02) H′ χ [] ≡ refused 9 0
-  pub ten-eleven : proveAnswer bits16 key leaves (changed witness 0 0x01) H′ χ [] ≡ refused 10 0
+  pub two-three : verifyAnswer four (changed key 1 0x02) Δ H′ χ opened proof ≡ refused 2 0
+  pub three-four : verifyAnswer four (changed (changed key 8 0x01) 47 0x02) Δ H′ χ opened proof ≡ refused 3 0
+  pub five-six : verifyAnswer four key Δ (changed H′ 5 0x02) (χ ++ (0x00 ∷ [])) opened proof ≡ refused 5 0
+  pub seven-eight : verifyAnswer four key Δ H′ χ (changed leaves 95 0x08) proof ≡ refused 7 0
+  pub twelve-thirteen : verifyAnswer four key Δ H′ χ opened (changed (changed proof 0 0x01) 12 0x02) ≡ refused 12 0
+  pub nine-ten : proveAnswer four key leaves (changed witness 1 0x02) H′ χ [] ≡ refused 9 0
+  pub ten-eleven : proveAnswer four key leaves (changed witness 0 0x01) H′ χ [] ≡ refused 10 0
 
 -- Refusal 11 names the lowest-numbered equation that fails: of two that fail the first, and the second where only that
 -- one fails.
 pub record FirstEquation : Type 0 where
-  pub both-fail : proveAnswer bits16 key leaves (changed witness 0 0x04) H′ χ (replicate 38 0x00) ≡ refused 11 0
-  pub second-fails : proveAnswer bits16 key leaves (changed witness 0 0x01) H′ χ (replicate 38 0x00) ≡ refused 11 1
+  pub both-fail : proveAnswer four key leaves (changed witness 0 0x04) H′ χ (replicate 38 0x00) ≡ refused 11 0
+  pub second-fails : proveAnswer four key leaves (changed witness 0 0x01) H′ χ (replicate 38 0x00) ≡ refused 11 1
 
 -- 01's numbers, over GF(256), at the sizes of its toy: k, L, w, the leaves of a tree and of an opened one.
 -- Of the largest key k, L, w, and where the masks of the repetitions 1 and 47 begin; and k and the mask of repetition 1

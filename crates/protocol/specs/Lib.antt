@@ -4,6 +4,7 @@ pub mod Frames
 pub mod Reader
 pub mod Alphabet
 pub mod Binary
+pub mod Setting
 pub mod Shape
 pub mod MaskPlaces
 pub mod Key

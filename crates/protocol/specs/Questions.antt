@@ -1,10 +1,11 @@
--- The fifteen questions of 01, each with its number. The place is 0, but of 11 the first equation that fails (request
--- 2; 01 leaves it free), and of 14 and 15 the first repetition.
+-- The fifteen questions of 01, each with its number, and 17 and 18 of request 3 (16 stands in Setting). The place is
+-- 0, but of 11 the first equation that fails (request 2; 01 leaves it free), and of 14 and 15 the first repetition.
 --   hExact, χExact, ΔExact == a challenge has its exact length
 --   leavesExact per l == l is `per` leaves for each repetition
 --   hSpare, leavesSpare, proofSpare == spare bits are 0;  witnessForm x == question 9
 --   equationHolds key x i == equation i of the key holds at x;  solves key x == every equation does
 --   fails key x i == i is an equation of the key, and it fails at x
+--   proofElements p == the bytes of Ṽ, QS0 and QS1 are elements of the field
 --   treeOf opened e == the opened tree of repetition e
 --   consistentIn, productIn == the checks in repetition e, on what the verifier is lent
 -- Assumes nothing.
@@ -21,7 +22,7 @@ use Rattle.algebra.specs.Coded.{Coded}
 use Rattle.algebra.specs.Roots.{isZero}
 use Rattle.protocol.specs.Lists.{allBelow, allTrue, firstNot, blockAt}
 use Rattle.protocol.specs.Frames.{framed, framedLength}
-use Rattle.protocol.specs.Alphabet.{Alphabet, sym}
+use Rattle.protocol.specs.Alphabet.{Alphabet, sym, elementsIn}
 use Rattle.protocol.specs.Shape.{Shape, limits, perTree, perOpened, kOf, lOf, wOf}
 use Rattle.protocol.specs.Key.{rowsSpare, keyExact, keySpare}
 use Rattle.protocol.specs.Sections.{Sections, lengths, sectionsIn}
@@ -67,6 +68,9 @@ module _ (A : Alphabet) (s : Shape) where
 
   unfoldable pub proofSpare : Sections → Bool
   proofSpare p = allTrue (rowsSpare A (lOf A s) (s .τ - 1) (p .C) ∷ spareZero (p .d) (s .n) ∷ spareZero (p .ũ) (s .t) ∷ [])
+
+  unfoldable pub proofElements : Sections → Bool
+  proofElements p = allTrue (elementsIn A (p .Ṽ) ∷ elementsIn A (p .QS0) ∷ elementsIn A (p .QS1) ∷ [])
 
   unfoldable pub treeOf : List ℕ → ℕ → List ℕ
   treeOf opened e = blockAt opened (perOpened A * wOf A s) e
@@ -123,3 +127,10 @@ module _ (A : Alphabet) (s : Shape) where
 
   abbrev pub q15 : List ℕ → List ℕ → List ℕ → List ℕ → List ℕ → Question
   q15 key Δ χ opened proof = question (allBelow (s .τ) (productIn key Δ χ opened proof)) 15 (firstNot (s .τ) (productIn key Δ χ opened proof))
+
+  -- of the bytes of Δ and χ, as far as the call takes them
+  abbrev pub q17 : List Bool → Question
+  q17 elements = question (allTrue elements) 17 0
+
+  abbrev pub q18 : List ℕ → Question
+  q18 proof = question (proofElements (sectionsIn A s proof)) 18 0

@@ -16,7 +16,7 @@ use Prim.Native.Nat.{ℕ}
 use lib.ListN.{replicate, take}
 use Rattle.protocol.specs.Answers.{Answer, accepted, refused}
 use Rattle.protocol.specs.Calls.{testAnswer, commitAnswer, hashAnswer, batchAnswer, proveAnswer, verifyAnswer}
-use Rattle.protocol.specs.SmallExample.{bits16, changed, key, witness, leaves, H′, χ, Δ, proof, opened}
+use Rattle.protocol.specs.SmallExample.{four, changed, key, witness, leaves, H′, χ, Δ, proof, opened}
 
 abbrev pub key₁ : List ℕ
 key₁ = []
@@ -76,22 +76,22 @@ abbrev pub refusedBy : List ℕ → List Answer
 refusedBy is = map (λ i. refused i 0) is
 
 abbrev pub test : List ℕ → List ℕ → Answer
-test k x = testAnswer bits16 k x
+test k x = testAnswer four k x
 
 abbrev pub commit : List ℕ → List ℕ → List ℕ → ℕ → Answer
-commit k l x n = commitAnswer bits16 k l x (out n)
+commit k l x n = commitAnswer four k l x (out n)
 
 abbrev pub hash : List ℕ → List ℕ → List ℕ → ℕ → Answer
-hash k l h n = hashAnswer bits16 k l h (out n)
+hash k l h n = hashAnswer four k l h (out n)
 
 abbrev pub batch : List ℕ → List ℕ → List ℕ → List ℕ → ℕ → Answer
-batch k l x c n = batchAnswer bits16 k l x c (out n)
+batch k l x c n = batchAnswer four k l x c (out n)
 
 abbrev pub prove : List ℕ → List ℕ → List ℕ → List ℕ → List ℕ → ℕ → Answer
-prove k l x h c n = proveAnswer bits16 k l x h c (out n)
+prove k l x h c n = proveAnswer four k l x h c (out n)
 
 abbrev pub verify : List ℕ → List ℕ → List ℕ → List ℕ → List ℕ → Answer
-verify k h c o p = verifyAnswer bits16 k Δ h c o p
+verify k h c o p = verifyAnswer four k Δ h c o p
 
 pub record Refusals : Type 0 where
   pub test-refused : test key₁ witness ∷ test key₂ witness ∷ test key₃ witness ∷ test key₄ witness

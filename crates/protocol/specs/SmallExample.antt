@@ -5,7 +5,7 @@
 -- An edit of the definitions re-proves this crate, so what is slow to compute stands above it, in the crate `examples`.
 -- The data and the expected results are sitting 0 of the vectors masks-degree4.rsp (tests/reference), made from the
 -- papers by other hands.
---   bits16 == bits over GF(16);  changed str i x == str with byte i xor x
+--   four == the setting of degree 4;  changed str i x == str with byte i xor x
 --   sizes == the sizes that the key's header has
 --   key, witness, leaves, H′, χ, Δ == what is lent;  proof, opened == the proof and the opened leaves that are expected
 --   row s key i ρ == row ρ of A_i as a key of sizes s has it;  linear s key i == b_i;  constants s key == y
@@ -18,10 +18,10 @@ use Prim.Native.Nat.{ℕ}
 use lib.Bits.{bitXor}
 use lib.ListN.{getD, set}
 use Rattle.algebra.specs.Coded.{Coded}
-use Rattle.field.specs.Gf16.{gf16}
 use Rattle.protocol.specs.Lists.{table}
 use Rattle.protocol.specs.Alphabet.{Alphabet}
-use Rattle.protocol.specs.Binary.{binary}
+use Rattle.protocol.specs.Binary.{bits16}
+use Rattle.protocol.specs.Setting.{Setting, setting}
 use Rattle.protocol.specs.Shape.{Shape, shapeOf}
 use Rattle.protocol.specs.Key.{aSym, bSym, ySym}
 use Rattle.protocol.specs.Forms.{χAt}
@@ -31,8 +31,8 @@ use Rattle.protocol.specs.Calls.{verifyAnswer}
 use Rattle.protocol.specs.Counting.{opening}
 use Rattle.protocol.specs.Statements.{candidateBytes}
 
-abbrev pub bits16 : Alphabet
-bits16 = binary gf16
+abbrev pub four : Setting
+four = setting 4
 
 abbrev pub changed : List ℕ → ℕ → ℕ → List ℕ
 changed str i x = set str i (bitXor (getD str i 0) x)
@@ -131,12 +131,12 @@ abbrev pub SmallProof : Type 0
 SmallProof = proofOf bits16 key leaves witness H′ χ ≡ proof
 
 abbrev pub reply : List ℕ → ℕ
-reply p = word (verifyAnswer bits16 key Δ H′ χ opened p)
+reply p = word (verifyAnswer four key Δ H′ χ opened p)
 
 -- The verifier's answers at Δ: to the proof, and to proofs with bytes changed.
 pub record SmallReplies : Type 0 where
   pub opening-is : opening bits16 sizes leaves Δ ≡ opened
-  pub accepts : verifyAnswer bits16 key Δ H′ χ opened proof ≡ accepted
+  pub accepts : verifyAnswer four key Δ H′ χ opened proof ≡ accepted
   -- row 0 of Ṽ in both repetitions: the first is named
   pub first-named : reply (changed (changed proof 22 1) 24 1) ≡ 917504
   -- QS0 in repetition 0, Ṽ in repetition 1: 14 is asked of every repetition before 15 is of any

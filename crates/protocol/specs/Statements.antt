@@ -1,5 +1,5 @@
--- What is proved of the definitions, for any alphabet that is lawful.
--- `Demands` gives the client's sentences at GF(256).
+-- What is proved of the definitions: of the equations for any alphabet that is lawful, and of the calls in every setting.
+-- `Demands` gives the client's sentences.
 -- Assumes nothing.
 use mathlib.Core.Path.{_≡_}
 use mathlib.Core.Logic.{_≢_, _⊎_, _↔_}
@@ -15,6 +15,7 @@ use Rattle.algebra.specs.Roots.{Trivial}
 use Rattle.algebra.specs.Columns.{zeroColumns}
 use Rattle.protocol.specs.Frames.{framed}
 use Rattle.protocol.specs.Alphabet.{Alphabet, sym}
+use Rattle.protocol.specs.Setting.{Setting, alphabetOf}
 use Rattle.protocol.specs.Shape.{Shape, shapeOf, limits, perTree, perOpened, wOf}
 use Rattle.protocol.specs.Sections.{Sections, lengths, sectionsIn}
 use Rattle.protocol.specs.Leaves.{leafAt, openTree, openedLeaf}
@@ -57,15 +58,6 @@ module _ (A : Alphabet) where
 
   infixl 65 _⊕_
   infixl 70 _⊗_
-  -- Every answer of every call is in the published list.
-  pub record AllPublished : Type 0 where
-    pub test-published : (key x : List ℕ) → Published (shapeOf key) (testAnswer A key x)
-    pub commit-published : (key leaves x out : List ℕ) → Published (shapeOf key) (commitAnswer A key leaves x out)
-    pub hash-published : (key leaves H′ out : List ℕ) → Published (shapeOf key) (hashAnswer A key leaves H′ out)
-    pub batch-published : (key leaves x χ out : List ℕ) → Published (shapeOf key) (batchAnswer A key leaves x χ out)
-    pub prove-published : (key leaves x H′ χ out : List ℕ) → Published (shapeOf key) (proveAnswer A key leaves x H′ χ out)
-    pub verify-published : (key Δ H′ χ opened proof : List ℕ) → Published (shapeOf key) (verifyAnswer A key Δ H′ χ opened proof)
-
   -- some equation fails
   abbrev pub SomeFails : List ℕ → List ℕ → Type 0
   SomeFails key x = (i : ℕ) × fails A (shapeOf key) key x i
@@ -78,12 +70,6 @@ module _ (A : Alphabet) where
   -- the number 11, with the first that does.
   abbrev pub RefusedIff : List ℕ → List ℕ → Answer → Type 0
   RefusedIff key x a = ((a ≢ accepted) ↔ SomeFails key x) × (a ≢ accepted → (i : ℕ) × FirstFails key x i × (a ≡ refused 11 i))
-
-  pub record RefusesExactly : Type 0 where
-    pub test-refuses : (key x : List ℕ) → testForm A key x ≡ true → RefusedIff key x (testAnswer A key x)
-    pub commit-refuses : (key leaves x out : List ℕ) → commitForm A key leaves x out ≡ true → RefusedIff key x (commitAnswer A key leaves x out)
-    pub batch-refuses : (key leaves x χ out : List ℕ) → batchForm A key leaves x χ out ≡ true → RefusedIff key x (batchAnswer A key leaves x χ out)
-    pub prove-refuses : (key leaves x H′ χ out : List ℕ) → proveForm A key leaves x H′ χ out ≡ true → RefusedIff key x (proveAnswer A key leaves x H′ χ out)
 
   -- The two descriptions of opened leaves agree, and what is opened has the right form.
   abbrev pub OpenedByPlace : Type 0
@@ -110,31 +96,6 @@ module _ (A : Alphabet) where
   ProverExpansion = (s : Shape) (leaves key x : List ℕ) (e i : ℕ) (X : F) → (f : ℕ → F) → f ≡ (λ c. v A s leaves e c ⊕ X ⊗ sym A x c)
       → quad A s key i f f ⊕ X ⊗ lin A s key i f ⊕ yOf A s key i ⊗ (X ⊗ X) ≡ a₀ A s leaves key e i ⊕ a₁ A s leaves key x e i ⊗ X ⊕ error A s key i (sym A x) ⊗ (X ⊗ X)
 
-  -- An honest proof is accepted at every challenge.
-  abbrev pub HonestAccepted : Type 0
-  HonestAccepted = (key leaves x H′ χ Δ : List ℕ) → honestForm A key leaves x H′ χ ≡ true → ((i : ℕ) → i < shapeOf key .m → error A (shapeOf key) key i (sym A x) ≡ 𝟘)
-      → length Δ ≡ shapeOf key .τ → ((e : ℕ) → e < length Δ → getD Δ e 0 < size)
-      → verifyAnswer A key Δ H′ χ (opening A (shapeOf key) leaves Δ) (proofOf A key leaves x H′ χ) ≡ accepted
-
-  -- The verifier accepts exactly when both checks hold in every repetition.
-  abbrev pub AcceptsExactly : Type 0
-  AcceptsExactly = (key Δ H′ χ opened proof : List ℕ) → verifyForm A key Δ H′ χ opened proof ≡ true
-      → (verifyAnswer A key Δ H′ χ opened proof ≡ accepted)
-      ↔ ((e : ℕ) → e < shapeOf key .τ → (consistentIn A (shapeOf key) Δ H′ opened proof e ≡ true) × (productIn A (shapeOf key) key Δ χ opened proof e ≡ true))
-
-  -- A refusal 11 names the first equation that fails, and a refusal 14 or 15 the first repetition where the check
-  -- fails.
-  pub record FirstNamed : Type 0 where
-    pub test-eleven : (key x : List ℕ) (i : ℕ) → testAnswer A key x ≡ refused 11 i → FirstFails key x i
-    pub commit-eleven : (key leaves x out : List ℕ) (i : ℕ) → commitAnswer A key leaves x out ≡ refused 11 i → FirstFails key x i
-    pub batch-eleven : (key leaves x χ out : List ℕ) (i : ℕ) → batchAnswer A key leaves x χ out ≡ refused 11 i → FirstFails key x i
-    pub prove-eleven : (key leaves x H′ χ out : List ℕ) (i : ℕ) → proveAnswer A key leaves x H′ χ out ≡ refused 11 i → FirstFails key x i
-    pub fourteen : (key Δ H′ χ opened proof : List ℕ) (e : ℕ) → verifyAnswer A key Δ H′ χ opened proof ≡ refused 14 e
-        → FirstFailing (shapeOf key .τ) (consistentIn A (shapeOf key) Δ H′ opened proof) e
-    pub fifteen : (key Δ H′ χ opened proof : List ℕ) (e : ℕ) → verifyAnswer A key Δ H′ χ opened proof ≡ refused 15 e
-        → FirstFailing (shapeOf key .τ) (productIn A (shapeOf key) key Δ χ opened proof) e
-        × ((i : ℕ) → i < shapeOf key .τ → consistentIn A (shapeOf key) Δ H′ opened proof i ≡ true)
-
   -- The steps' bytes, one after the other, are the whole proof's;
   -- and a proof reads back as its six sections, with nothing after them.
   abbrev pub StepsAreWhole : Type 0
@@ -143,10 +104,6 @@ module _ (A : Alphabet) where
   abbrev pub ProofReadsBack : Type 0
   ProofReadsBack = (key leaves x H′ χ : List ℕ) → limits (shapeOf key) ≡ true
       → (framed (lengths A (shapeOf key)) (proofOf A key leaves x H′ χ) ≡ true) × (sectionsIn A (shapeOf key) (proofOf A key leaves x H′ χ) ≡ sectionsOf A (shapeOf key) leaves key x H′ χ)
-
-  -- What an honest prover is lent and writes is well-formed.
-  abbrev pub HonestWellFormed : Type 0
-  HonestWellFormed = (key leaves x H′ χ : List ℕ) → honestForm A key leaves x H′ χ ≡ true → wellFormed A key leaves H′ χ (proofOf A key leaves x H′ χ) ≡ true
 
   module _ (key leaves proof : List ℕ) where
     abbrev pub candidateOf : ℕ → ℕ → F
@@ -168,6 +125,60 @@ module _ (A : Alphabet) where
       pub failing : (e i : ℕ) → i < shapeOf key .m → errorOf e i ≢ 𝟘 → zeroColumns base (shapeOf key .m) (errorOf e) ≡ size ^ (shapeOf key .m - 1)
       pub solving : (e : ℕ) → ((i : ℕ) → i < shapeOf key .m → errorOf e i ≡ 𝟘) → zeroColumns base (shapeOf key .m) (errorOf e) ≡ size ^ (shapeOf key .m)
 
+-- Of the calls, in every setting.
+module _ (g : Setting) where
+  abbrev pub A : Alphabet
+  A = alphabetOf g
+
+  open Alphabet A using (K)
+  open Coded K using (base)
+  open Field base using (R, size)
+  open Ring R using (F, 𝟘)
+
+  -- Every answer of every call is in the published list.
+  pub record AllPublished : Type 0 where
+    pub test-published : (key x : List ℕ) → Published (shapeOf key) (testAnswer g key x)
+    pub commit-published : (key leaves x out : List ℕ) → Published (shapeOf key) (commitAnswer g key leaves x out)
+    pub hash-published : (key leaves H′ out : List ℕ) → Published (shapeOf key) (hashAnswer g key leaves H′ out)
+    pub batch-published : (key leaves x χ out : List ℕ) → Published (shapeOf key) (batchAnswer g key leaves x χ out)
+    pub prove-published : (key leaves x H′ χ out : List ℕ) → Published (shapeOf key) (proveAnswer g key leaves x H′ χ out)
+    pub verify-published : (key Δ H′ χ opened proof : List ℕ) → Published (shapeOf key) (verifyAnswer g key Δ H′ χ opened proof)
+
+  pub record RefusesExactly : Type 0 where
+    pub test-refuses : (key x : List ℕ) → testForm g key x ≡ true → RefusedIff A key x (testAnswer g key x)
+    pub commit-refuses : (key leaves x out : List ℕ) → commitForm g key leaves x out ≡ true → RefusedIff A key x (commitAnswer g key leaves x out)
+    pub batch-refuses : (key leaves x χ out : List ℕ) → batchForm g key leaves x χ out ≡ true → RefusedIff A key x (batchAnswer g key leaves x χ out)
+    pub prove-refuses : (key leaves x H′ χ out : List ℕ) → proveForm g key leaves x H′ χ out ≡ true → RefusedIff A key x (proveAnswer g key leaves x H′ χ out)
+
+  -- An honest proof is accepted at every challenge.
+  abbrev pub HonestAccepted : Type 0
+  HonestAccepted = (key leaves x H′ χ Δ : List ℕ) → honestForm g key leaves x H′ χ ≡ true → ((i : ℕ) → i < shapeOf key .m → error A (shapeOf key) key i (sym A x) ≡ 𝟘)
+      → length Δ ≡ shapeOf key .τ → ((e : ℕ) → e < length Δ → getD Δ e 0 < size)
+      → verifyAnswer g key Δ H′ χ (opening A (shapeOf key) leaves Δ) (proofOf A key leaves x H′ χ) ≡ accepted
+
+  -- The verifier accepts exactly when both checks hold in every repetition.
+  abbrev pub AcceptsExactly : Type 0
+  AcceptsExactly = (key Δ H′ χ opened proof : List ℕ) → verifyForm g key Δ H′ χ opened proof ≡ true
+      → (verifyAnswer g key Δ H′ χ opened proof ≡ accepted)
+      ↔ ((e : ℕ) → e < shapeOf key .τ → (consistentIn A (shapeOf key) Δ H′ opened proof e ≡ true) × (productIn A (shapeOf key) key Δ χ opened proof e ≡ true))
+
+  -- A refusal 11 names the first equation that fails, and a refusal 14 or 15 the first repetition where the check
+  -- fails.
+  pub record FirstNamed : Type 0 where
+    pub test-eleven : (key x : List ℕ) (i : ℕ) → testAnswer g key x ≡ refused 11 i → FirstFails A key x i
+    pub commit-eleven : (key leaves x out : List ℕ) (i : ℕ) → commitAnswer g key leaves x out ≡ refused 11 i → FirstFails A key x i
+    pub batch-eleven : (key leaves x χ out : List ℕ) (i : ℕ) → batchAnswer g key leaves x χ out ≡ refused 11 i → FirstFails A key x i
+    pub prove-eleven : (key leaves x H′ χ out : List ℕ) (i : ℕ) → proveAnswer g key leaves x H′ χ out ≡ refused 11 i → FirstFails A key x i
+    pub fourteen : (key Δ H′ χ opened proof : List ℕ) (e : ℕ) → verifyAnswer g key Δ H′ χ opened proof ≡ refused 14 e
+        → FirstFailing (shapeOf key .τ) (consistentIn A (shapeOf key) Δ H′ opened proof) e
+    pub fifteen : (key Δ H′ χ opened proof : List ℕ) (e : ℕ) → verifyAnswer g key Δ H′ χ opened proof ≡ refused 15 e
+        → FirstFailing (shapeOf key .τ) (productIn A (shapeOf key) key Δ χ opened proof) e
+        × ((i : ℕ) → i < shapeOf key .τ → consistentIn A (shapeOf key) Δ H′ opened proof i ≡ true)
+
+  -- What an honest prover is lent and writes is well-formed.
+  abbrev pub HonestWellFormed : Type 0
+  HonestWellFormed = (key leaves x H′ χ : List ℕ) → honestForm g key leaves x H′ χ ≡ true → wellFormed g key leaves H′ χ (proofOf A key leaves x H′ χ) ≡ true
+
   module _ (key leaves H′ χ proof : List ℕ) where
     abbrev pub factorOf : ℕ → ℕ
     factorOf e = factor A key leaves H′ χ proof e
@@ -177,5 +188,5 @@ module _ (A : Alphabet) where
       pub four-cases : (e : ℕ) → e < shapeOf key .τ → (factorOf e ≡ 0) ⊎ ((factorOf e ≡ 1) ⊎ ((factorOf e ≡ 2) ⊎ (factorOf e ≡ size)))
       pub full-exactly : (e : ℕ) → e < shapeOf key .τ → (factorOf e ≡ size) ↔ Trivial base (conditions A (shapeOf key) key leaves H′ χ (sectionsIn A (shapeOf key) proof) e)
       pub full-error : (e : ℕ) → e < shapeOf key .τ → factorOf e ≡ size → batchedError A (shapeOf key) key χ leaves (sectionsIn A (shapeOf key) proof) e ≡ 𝟘
-      pub count-is-product : acceptedCount A key leaves H′ χ proof ≡ product (shapeOf key .τ) factorOf
-      pub large-count : 2 ^ (shapeOf key .τ) < acceptedCount A key leaves H′ χ proof → (e : ℕ) × (e < shapeOf key .τ) × (factorOf e ≡ size)
+      pub count-is-product : acceptedCount g key leaves H′ χ proof ≡ product (shapeOf key .τ) factorOf
+      pub large-count : 2 ^ (shapeOf key .τ) < acceptedCount g key leaves H′ χ proof → (e : ℕ) × (e < shapeOf key .τ) × (factorOf e ≡ size)

@@ -9,12 +9,13 @@
 use mathlib.Core.Path.{_≡_}
 use mathlib.Core.List.{List, [], _∷_, _++_}
 use Prim.Native.Nat.{ℕ}
+use Rattle.protocol.specs.Binary.{bits16}
 use Rattle.protocol.specs.Shape.{Shape, shapeOf}
 use Rattle.protocol.specs.Prover.{cSection}
 use Rattle.protocol.specs.Answers.{Answer, accepted, refused}
 use Rattle.protocol.specs.Calls.{verifyAnswer}
 use Rattle.protocol.specs.Counting.{opening}
-use Rattle.protocol.specs.SmallExample.{bits16}
+use Rattle.protocol.specs.SmallExample.{four}
 
 abbrev pub sizes : Shape
 sizes = record { n = 5; m = 1; τ = 3; t = 2 }
@@ -58,7 +59,7 @@ proofWith C =
     ∷ 0x03 ∷ 0x00 ∷ 0x00 ∷ 0x00 ∷ 0x06 ∷ 0x0D ∷ 0x0F ∷ [])
 
 abbrev pub reply : List ℕ → Answer
-reply p = verifyAnswer bits16 key Δ H′ χ (opening bits16 sizes leaves Δ) p
+reply p = verifyAnswer four key Δ H′ χ (opening bits16 sizes leaves Δ) p
 
 pub record ThreeRepetitions : Type 0 where
   pub header-is : shapeOf key ≡ sizes

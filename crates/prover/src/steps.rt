@@ -77,6 +77,7 @@ fn add_forms(
     let n = s.n;
     let m = s.m;
     let tau = s.tau;
+    let degree = s.degree;
     forms::batch::batch_lanes(
         qs0,
         qs1,
@@ -86,7 +87,12 @@ fn add_forms(
         witness,
         batching,
         vectors,
-        Dimensions { n, m, tau },
+        Dimensions {
+            n,
+            m,
+            tau,
+            degree,
+        },
     );
 }
 

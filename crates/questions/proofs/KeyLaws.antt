@@ -7,15 +7,17 @@ use native.Mathlib.Omega.{arith}
 use lib.ListN.{length, take, drop, length-drop}
 use lib.Seq.{take-all}
 use Rattle.protocol.specs.Frames.{framedLength}
-use Rattle.protocol.specs.Binary.{bits256}
+use Rattle.protocol.specs.Alphabet.{Alphabet}
+use Rattle.protocol.specs.Setting.{Setting, alphabetOf}
 use Rattle.protocol.specs.Shape.{Shape, shapeOf}
 use Rattle.protocol.specs.Key.{keyLengths, keyExact}
 use Rattle.protocol.specs.Answers.{accepted, ask}
+use Rattle.protocol.specs.Calls.{keyQuestions}
 use Rattle.protocol.proofs.TestLaws.{leb-le}
 use Rattle.protocol.proofs.AnswerLaws.{ask-accepts, all-yes}
-use Rattle.questions.specs.Asking.{keyQuestions, SizedKey, KeyForm}
+use Rattle.questions.specs.Asking.{SizedKey, KeyForm}
 use Rattle.questions.specs.Facts.{KeyFacts}
-use Rattle.format.specs.Sizes.{shapeFor, SizesOf}
+use Rattle.format.specs.Sizes.{settingFor, alphabetFor, shapeFor, SizesOf}
 use Rattle.format.specs.declared.sizes.Sizes.{Sizes}
 use Rattle.sections.proofs.SectionLaws.{framed-length}
 
@@ -23,26 +25,26 @@ use Rattle.sections.proofs.SectionLaws.{framed-length}
 pub rest-is : (key : List ℕ) (at : ℕ) → take (length key - at) (drop at key) ≡ drop at key
 rest-is key at = take-all (length key - at) (drop at key) (omega (arith, length-drop at key))
 
-pub sections-length : (s : Shape) (key : List ℕ) → SizedKey bits256 s key → length (drop 8 key) ≡ framedLength (keyLengths bits256 s)
+pub sections-length : (A : Alphabet) (s : Shape) (key : List ℕ) → SizedKey A s key → length (drop 8 key) ≡ framedLength (keyLengths A s)
 unfolding keyExact
-sections-length s key f = framed-length (keyLengths bits256 s) (drop 8 key) (f .exact)
+sections-length A s key f = framed-length (keyLengths A s) (drop 8 key) (f .exact)
 
-pub facts-sized : (s : Shape) (key : List ℕ) → KeyFacts bits256 s key → SizedKey bits256 s key
-facts-sized s key f = record { header = f .header; sizes = f .in-range; exact = f .key-exact }
+pub facts-sized : (A : Alphabet) (s : Shape) (key : List ℕ) → KeyFacts A s key → SizedKey A s key
+facts-sized A s key f = record { header = f .header; sizes = f .in-range; exact = f .key-exact }
 
 -- sizes that are those in the header
-pub sized-key : (s : Shape) (key : List ℕ) → s ≡ shapeOf key → KeyForm bits256 key → SizedKey bits256 s key
-sized-key s key e f = subst (λ (z : Shape). SizedKey bits256 z key) (sym e) f
+pub sized-key : (A : Alphabet) (s : Shape) (key : List ℕ) → s ≡ shapeOf key → KeyForm A key → SizedKey A s key
+sized-key A s key e f = subst (λ (z : Shape). SizedKey A z key) (sym e) f
 
 -- from the acceptance of the questions on the key
-pub key-facts : (key : List ℕ) → ask (keyQuestions bits256 key) ≡ accepted → KeyFacts bits256 (shapeOf key) key
-key-facts key h =
-    let y = all-yes (keyQuestions bits256 key) (ask-accepts (keyQuestions bits256 key) .0 h) in
-    record { header = leb-le 8 (length key) (y .0); in-range = y .1 .0; key-exact = y .1 .1 .0; key-spare = y .1 .1 .1 .0 }
+pub key-facts : (g : Setting) (key : List ℕ) → ask (keyQuestions g key) ≡ accepted → KeyFacts (alphabetOf g) (shapeOf key) key
+key-facts g key h =
+    let y = all-yes (keyQuestions g key) (ask-accepts (keyQuestions g key) .0 h) in
+    record { header = leb-le 8 (length key) (y .1 .0); in-range = y .1 .1 .0; key-exact = y .1 .1 .1 .0; key-spare = y .1 .1 .1 .1 .0 }
 
 -- what holds by the sizes in the header holds by those that were read from it
 pub by-sizes : (P : Shape → Type 0) (s : Sizes) (key : List ℕ) → SizesOf key s → 8 ≤ length key → P (shapeOf key) → P (shapeFor s)
-by-sizes P s key of h f = subst P (sym (of .0 h)) f
+by-sizes P s key of h f = subst P (sym (of h)) f
 
-pub key-sized : (s : Sizes) (key : List ℕ) → SizesOf key s → ask (keyQuestions bits256 key) ≡ accepted → KeyFacts bits256 (shapeFor s) key
-key-sized s key of h = by-sizes (λ z. KeyFacts bits256 z key) s key of (key-facts key h .header) (key-facts key h)
+pub key-sized : (s : Sizes) (key : List ℕ) → SizesOf key s → ask (keyQuestions (settingFor s) key) ≡ accepted → KeyFacts (alphabetFor s) (shapeFor s) key
+key-sized s key of h = by-sizes (λ z. KeyFacts (alphabetFor s) z key) s key of (key-facts (settingFor s) key h .header) (key-facts (settingFor s) key h)

@@ -5,9 +5,9 @@ use mathlib.Core.Bool.{true}
 use mathlib.Core.List.{List, [], _∷_}
 use Prim.Native.Nat.{ℕ, _<_}
 use lib.ListN.{length}
-use Rattle.field.specs.Gf256.{gf256}
+use Rattle.field.specs.Degrees.{fieldOf}
 use Rattle.protocol.specs.Strings.{spareZero}
-use Rattle.protocol.specs.Binary.{bits256}
+use Rattle.protocol.specs.Setting.{Setting, alphabetOf}
 use Rattle.protocol.specs.Shape.{shapeOf}
 use Rattle.protocol.specs.Key.{sectionA, sectionB, sectionY}
 use Rattle.protocol.specs.Answers.{Answer, accepted, refused, ask}
@@ -18,11 +18,11 @@ use Rattle.equations.specs.Equations.{keyError}
 use Rattle.equations.proofs.EquationsMeaning.{none-solves, first-named, first-refutes}
 use Rattle.questions.specs.Solved.{ErrorsAs}
 
-module _ (key x : List ℕ) (spare : spareZero x (shapeOf key .n) ≡ true) (errors : List ℕ) (long : length errors ≡ shapeOf key .m)
-    (are : (i : ℕ) → i < length errors → byteAt errors i ≡ keyError (shapeOf key .n) (sectionA bits256 (shapeOf key) key) (sectionB bits256 (shapeOf key) key) (sectionY bits256 (shapeOf key) key) x i) where
+module _ (g : Setting) (key x : List ℕ) (spare : spareZero x (shapeOf key .n) ≡ true) (errors : List ℕ) (long : length errors ≡ shapeOf key .m)
+    (are : (i : ℕ) → i < length errors → byteAt errors i ≡ keyError (shapeOf key .n) (sectionA (alphabetOf g) (shapeOf key) key) (sectionB (alphabetOf g) (shapeOf key) key) (sectionY (alphabetOf g) (shapeOf key) key) x i) where
   -- the answer of the errors at a witness is the answer to question 11
-  pub solved-as : (a : Answer) → ErrorsAs errors a → a ≡ ask (q11 bits256 (shapeOf key) key x ∷ [])
-  solved-as accepted f = sym (ask-yes (q11 bits256 (shapeOf key) key x) [] (none-solves gf256 (shapeOf key) key x spare errors long are f) ∙ ask-none)
+  pub solved-as : (a : Answer) → ErrorsAs errors a → a ≡ ask (q11 (alphabetOf g) (shapeOf key) key x ∷ [])
+  solved-as accepted f = sym (ask-yes (q11 (alphabetOf g) (shapeOf key) key x) [] (none-solves (fieldOf (g .degree)) (shapeOf key) key x spare errors long are f) ∙ ask-none)
   solved-as (refused i p) f =
-      ap₂ refused (f .0) (sym (first-named gf256 (shapeOf key) key x spare errors long are p (f .1)))
-      ∙ sym (ask-no (q11 bits256 (shapeOf key) key x) [] (first-refutes gf256 (shapeOf key) key x spare errors long are p (f .1)))
+      ap₂ refused (f .0) (sym (first-named (fieldOf (g .degree)) (shapeOf key) key x spare errors long are p (f .1)))
+      ∙ sym (ask-no (q11 (alphabetOf g) (shapeOf key) key x) [] (first-refutes (fieldOf (g .degree)) (shapeOf key) key x spare errors long are p (f .1)))

@@ -4,7 +4,7 @@
 --   ProofForm s proof == the proof is its sections, each of its length (question 12)
 --   PlacesOf s proof places == so it is, and the reader has stood at these places
 --   SectionIs s proof i r == r is section i of the proof, and has its length
---   ProofAsked s proof walk == the answer to questions 12 and 13; and where that is accepted, where the reader stood
+--   ProofAsked s proof walk == the answer to questions 12, 13 and 18; and where that is accepted, where the reader stood
 --   TestFacts, CommitFacts, HashFacts, BatchFacts, ProveFacts == of all inputs that a call goes on with, and of its
 --     output's length
 -- Assumes nothing.
@@ -14,7 +14,7 @@ use mathlib.Core.List.{List}
 use Prim.Native.Nat.{ℕ, _+_, _*_, _-_, _≤_}
 use lib.ListN.{length, getD}
 use Rattle.protocol.specs.Strings.{bytesFor, spareZero}
-use Rattle.protocol.specs.Alphabet.{Alphabet}
+use Rattle.protocol.specs.Alphabet.{Alphabet, elementsIn}
 use Rattle.protocol.specs.Shape.{Shape, limits, perTree, wOf}
 use Rattle.protocol.specs.Key.{keyExact, keySpare}
 use Rattle.protocol.specs.Frames.{framed, sectionNo}
@@ -76,6 +76,7 @@ pub record HashFacts (A : Alphabet) (s : Shape) (leaves H′ out : List ℕ) : T
 pub record BatchFacts (A : Alphabet) (s : Shape) (key leaves x χ out : List ℕ) : Type 0 where
   pub of-key : KeyFacts A s key
   pub of-batching : length χ ≡ s .τ * s .m
+  pub of-elements : elementsIn A χ ≡ true
   pub of-leaves : LeavesForm A s leaves
   pub of-witness : WitnessForm A s x
   pub of-out : length out ≡ 8 + s .τ + s .τ
@@ -84,6 +85,7 @@ pub record ProveFacts (A : Alphabet) (s : Shape) (key leaves x H′ χ out : Lis
   pub of-key : KeyFacts A s key
   pub of-hash : HashForm A s H′
   pub of-batching : length χ ≡ s .τ * s .m
+  pub of-elements : elementsIn A χ ≡ true
   pub of-leaves : LeavesForm A s leaves
   pub of-witness : WitnessForm A s x
   pub of-out : length out ≡ 24 + (s .τ - 1) * wOf A s + bytesFor (s .n) + bytesFor (s .t) + s .τ * s .t + s .τ + s .τ

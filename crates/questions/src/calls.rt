@@ -1,20 +1,22 @@
-// The questions on form of each call, in 01's order: all of its questions but 11 to 15.
+// The questions on form of each call, in order: all of its questions but 11 to 15 and 18.
 ghost use mathlib.Core.Path.{_≡_};
 ghost use mathlib.Core.Bool.{true};
 ghost use Rattle.protocol.specs.Shape.{limits};
 ghost use Rattle.protocol.specs.Answers.{ask};
 ghost use Rattle.protocol.specs.Calls.{testQuestions};
-ghost use Rattle.format.specs.Sizes.{alphabetFor, shapeFor, SizesOf};
+ghost use Rattle.format.specs.Sizes.{settingFor, alphabetFor, shapeFor, SizesOf};
 ghost use Rattle.format.specs.Verdict.{answerOf};
 ghost use Rattle.questions.specs.Asking.{commitInputs, hashInputs, batchInputs, proveInputs, verifyInputs, CommitAsked, HashAsked, BatchAsked, ProveAsked};
 use super::inputs::batching_exact;
+use super::inputs::batching_form;
 use super::inputs::challenge_exact;
+use super::inputs::challenge_form;
+use super::inputs::full_form;
 use super::inputs::hash_matrix_exact;
 use super::inputs::hash_matrix_form;
-use super::inputs::leaves_form;
+use super::inputs::opened_form;
 use super::inputs::witness_form;
 use super::key::key_form;
-use field::Gf256;
 use format::Reason;
 use format::Verdict;
 use format::also;
@@ -28,7 +30,7 @@ fn commit_inputs(leaves: &[u8], witness: &[u8], out_len: usize, s: Sizes) -> Ver
     requires { ⌜ limits (shapeFor s) ≡ true ⌝ }
     ensures { λ r. ⌜ answerOf r ≡ ask (commitInputs (alphabetFor s) (shapeFor s) (now (leaves .entry)) (now (witness .entry)) «out_len») ⌝ }
 {
-    let asked = leaves_form(Verdict::Accepted, leaves, s, Gf256::SIZE);
+    let asked = full_form(Verdict::Accepted, leaves, s);
     let asked = witness_form(asked, witness, s);
     also(asked, out_len == commit_bytes(s), Reason::OutputLength)
 }
@@ -39,7 +41,7 @@ fn hash_inputs(leaves: &[u8], hash_matrix: &[u8], out_len: usize, s: Sizes) -> V
 {
     let exact = hash_matrix_exact(hash_matrix, s);
     let asked = hash_matrix_form(exact, hash_matrix, s);
-    let asked = leaves_form(asked, leaves, s, Gf256::SIZE);
+    let asked = full_form(asked, leaves, s);
     also(asked, out_len == hash_bytes(s), Reason::OutputLength)
 }
 
@@ -49,7 +51,8 @@ fn batch_inputs(leaves: &[u8], witness: &[u8], batching: &[u8], out_len: usize, 
 {
     let exact = batching_exact(batching, s);
     let asked = also(Verdict::Accepted, exact, Reason::ChallengeLength);
-    let asked = leaves_form(asked, leaves, s, Gf256::SIZE);
+    let asked = batching_form(asked, batching, s);
+    let asked = full_form(asked, leaves, s);
     let asked = witness_form(asked, witness, s);
     also(asked, out_len == batch_bytes(s), Reason::OutputLength)
 }
@@ -68,12 +71,13 @@ fn prove_inputs(
 {
     let exact = hash_matrix_exact(hash_matrix, s) & batching_exact(batching, s);
     let asked = hash_matrix_form(exact, hash_matrix, s);
-    let asked = leaves_form(asked, leaves, s, Gf256::SIZE);
+    let asked = batching_form(asked, batching, s);
+    let asked = full_form(asked, leaves, s);
     let asked = witness_form(asked, witness, s);
     also(asked, out_len == proof_bytes(s), Reason::OutputLength)
 }
 
-// The verifier: questions 5 to 8. Those on the key come before them, and those on the proof after.
+// The verifier: questions 5 to 8, with 17 after 6. Those on the key come before them, and those on the proof after.
 pub fn verify_inputs(
     delta: &[u8],
     hash_matrix: &[u8],
@@ -88,13 +92,14 @@ pub fn verify_inputs(
         & hash_matrix_exact(hash_matrix, s)
         & batching_exact(batching, s);
     let asked = hash_matrix_form(exact, hash_matrix, s);
-    leaves_form(asked, opened, s, Gf256::SIZE - 1)
+    let asked = challenge_form(asked, delta, batching, s);
+    opened_form(asked, opened, s)
 }
 
-// The call that tests a key and a witness: questions 1 to 4, 9.
+// The call that tests a key and a witness: questions 16, 1 to 4, 9.
 pub fn test_form(key: &[u8], witness: &[u8], s: Sizes) -> Verdict
     requires { ⌜ SizesOf (now key) s ⌝ }
-    ensures { λ r. ⌜ answerOf r ≡ ask (testQuestions (alphabetFor s) (now (key .entry)) (now (witness .entry))) ⌝ }
+    ensures { λ r. ⌜ answerOf r ≡ ask (testQuestions (settingFor s) (now (key .entry)) (now (witness .entry))) ⌝ }
 {
     let asked = key_form(key, s);
     let Verdict::Accepted = asked else {
@@ -103,10 +108,10 @@ pub fn test_form(key: &[u8], witness: &[u8], s: Sizes) -> Verdict
     witness_form(asked, witness, s)
 }
 
-// The first step: questions 1 to 4, 7 to 10. Of the output only its length is asked.
+// The first step: questions 16, 1 to 4, 7 to 10. Of the output only its length is asked.
 pub fn commit_form(key: &[u8], leaves: &[u8], witness: &[u8], out_len: usize, s: Sizes) -> Verdict
     requires { ⌜ SizesOf (now key) s ⌝ }
-    ensures { λ r. ⌜ CommitAsked (alphabetFor s) (now (key .entry)) (now (leaves .entry)) (now (witness .entry)) «out_len» (answerOf r) ⌝ }
+    ensures { λ r. ⌜ CommitAsked (settingFor s) (now (key .entry)) (now (leaves .entry)) (now (witness .entry)) «out_len» (answerOf r) ⌝ }
 {
     let asked = key_form(key, s);
     let Verdict::Accepted = asked else {
@@ -115,10 +120,10 @@ pub fn commit_form(key: &[u8], leaves: &[u8], witness: &[u8], out_len: usize, s:
     commit_inputs(leaves, witness, out_len, s)
 }
 
-// The second step: questions 1 to 8, 10.
+// The second step: questions 16, 1 to 8, 10.
 pub fn hash_form(key: &[u8], leaves: &[u8], hash_matrix: &[u8], out_len: usize, s: Sizes) -> Verdict
     requires { ⌜ SizesOf (now key) s ⌝ }
-    ensures { λ r. ⌜ HashAsked (alphabetFor s) (now (key .entry)) (now (leaves .entry)) (now («hash_matrix» .entry)) «out_len» (answerOf r) ⌝ }
+    ensures { λ r. ⌜ HashAsked (settingFor s) (now (key .entry)) (now (leaves .entry)) (now («hash_matrix» .entry)) «out_len» (answerOf r) ⌝ }
 {
     let asked = key_form(key, s);
     let Verdict::Accepted = asked else {
@@ -127,7 +132,7 @@ pub fn hash_form(key: &[u8], leaves: &[u8], hash_matrix: &[u8], out_len: usize, 
     hash_inputs(leaves, hash_matrix, out_len, s)
 }
 
-// The third step: questions 1 to 5, 7 to 10.
+// The third step: questions 16, 1 to 5, 17, 7 to 10.
 pub fn batch_form(
     key: &[u8],
     leaves: &[u8],
@@ -137,7 +142,7 @@ pub fn batch_form(
     s: Sizes,
 ) -> Verdict
     requires { ⌜ SizesOf (now key) s ⌝ }
-    ensures { λ r. ⌜ BatchAsked (alphabetFor s) (now (key .entry)) (now (leaves .entry)) (now (witness .entry)) (now (batching .entry)) «out_len» (answerOf r) ⌝ }
+    ensures { λ r. ⌜ BatchAsked (settingFor s) (now (key .entry)) (now (leaves .entry)) (now (witness .entry)) (now (batching .entry)) «out_len» (answerOf r) ⌝ }
 {
     let asked = key_form(key, s);
     let Verdict::Accepted = asked else {
@@ -146,7 +151,7 @@ pub fn batch_form(
     batch_inputs(leaves, witness, batching, out_len, s)
 }
 
-// The whole call: questions 1 to 10.
+// The whole call: questions 16, 1 to 6, 17, 7 to 10.
 pub fn prove_form(
     key: &[u8],
     leaves: &[u8],
@@ -157,7 +162,7 @@ pub fn prove_form(
     s: Sizes,
 ) -> Verdict
     requires { ⌜ SizesOf (now key) s ⌝ }
-    ensures { λ r. ⌜ ProveAsked (alphabetFor s) (now (key .entry)) (now (leaves .entry)) (now (witness .entry)) (now («hash_matrix» .entry)) (now (batching .entry)) «out_len» (answerOf r) ⌝ }
+    ensures { λ r. ⌜ ProveAsked (settingFor s) (now (key .entry)) (now (leaves .entry)) (now (witness .entry)) (now («hash_matrix» .entry)) (now (batching .entry)) «out_len» (answerOf r) ⌝ }
 {
     let asked = key_form(key, s);
     let Verdict::Accepted = asked else {

@@ -1,4 +1,4 @@
-// The key: questions 1 to 4 of 01, and its sections.
+// The degree and the key: question 16, questions 1 to 4 of 01; and the sections of the key.
 ghost use mathlib.Core.Path.{_≡_};
 ghost use mathlib.Core.Bool.{true};
 ghost use Prim.Native.Nat.{_+_, _*_, _<_};
@@ -8,15 +8,17 @@ ghost use Rattle.protocol.specs.Frames.{sectionNo, framedLength};
 ghost use Rattle.protocol.specs.Shape.{limits};
 ghost use Rattle.protocol.specs.Key.{keyLengths, keySpare, sectionA, sectionB, sectionY};
 ghost use Rattle.protocol.specs.Answers.{ask};
-ghost use Rattle.format.specs.Sizes.{alphabetFor, shapeFor, SizesOf};
+ghost use Rattle.format.specs.Sizes.{settingFor, alphabetFor, shapeFor, SizesOf};
 ghost use Rattle.format.specs.Verdict.{answerOf};
-ghost use Rattle.questions.specs.Asking.{keyQuestions, SizedKey};
+ghost use Rattle.protocol.specs.Calls.{keyQuestions};
+ghost use Rattle.questions.specs.Asking.{headerQuestions, SizedKey};
 use format::Reason;
 use format::Verdict;
 use format::also;
 use format::refuse;
 use format::sizes::HEADER;
 use format::sizes::Sizes;
+use format::sizes::degree_served;
 use format::sizes::in_limits;
 use format::sizes::key_lengths;
 use sections::framed_length;
@@ -80,9 +82,9 @@ pub fn key_spare(key: &[u8], s: Sizes) -> bool
 }
 
 // Questions 1 to 4.
-pub fn key_form(key: &[u8], s: Sizes) -> Verdict
+fn header_form(key: &[u8], s: Sizes) -> Verdict
     requires { ⌜ SizesOf (now key) s ⌝ }
-    ensures { λ r. ⌜ answerOf r ≡ ask (keyQuestions (alphabetFor s) (now (key .entry))) ⌝ }
+    ensures { λ r. ⌜ answerOf r ≡ ask (headerQuestions (alphabetFor s) (now (key .entry))) ⌝ }
 {
     if key.len() < HEADER {
         return refuse(Reason::ShortHeader, 0);
@@ -96,4 +98,15 @@ pub fn key_form(key: &[u8], s: Sizes) -> Verdict
         return exact;
     };
     also(exact, key_spare(key, s), Reason::KeySpareBit)
+}
+
+// Question 16, and then 1 to 4.
+pub fn key_form(key: &[u8], s: Sizes) -> Verdict
+    requires { ⌜ SizesOf (now key) s ⌝ }
+    ensures { λ r. ⌜ answerOf r ≡ ask (keyQuestions (settingFor s) (now (key .entry))) ⌝ }
+{
+    if !degree_served(s) {
+        return refuse(Reason::DegreeUnserved, 0);
+    }
+    header_form(key, s)
 }

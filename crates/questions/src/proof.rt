@@ -1,10 +1,10 @@
-// The proof: questions 12 and 13 of 01, and its sections.
+// The proof: questions 12 and 13 of 01 and 18 of request 3, and its sections.
 ghost use mathlib.Core.Path.{_≡_};
 ghost use mathlib.Core.Bool.{true};
 ghost use Prim.Native.Nat.{_<_};
 ghost use Rattle.protocol.specs.Shape.{Shape, limits};
 ghost use Rattle.protocol.specs.Sections.{sectionsIn};
-ghost use Rattle.protocol.specs.Questions.{proofSpare};
+ghost use Rattle.protocol.specs.Questions.{proofSpare, proofElements};
 ghost use Rattle.format.specs.Sizes.{alphabetFor, shapeFor};
 ghost use Rattle.sections.specs.Moved.{PlacesIn};
 ghost use Rattle.questions.specs.Facts.{ProofForm, PlacesOf, SectionIs, ProofAsked};
@@ -14,6 +14,7 @@ use format::also;
 use format::sizes::Sizes;
 use format::sizes::leaf_bits;
 use format::sizes::proof_lengths;
+use sections::elements::elements;
 use sections::reader::Places;
 use sections::reader::Walk;
 use sections::reader::read_sections;
@@ -56,7 +57,18 @@ pub fn proof_spare(proof: &[u8], places: Places, s: Sizes) -> bool
         & row_spare(proof_section(proof, places, U), t)
 }
 
-// Questions 12 and 13: the whole of 12 comes before 13. Where both get a yes, it tells where each section stands.
+// Question 18: is each byte of Ṽ, QS0 and QS1 an element of the field?
+pub fn proof_elements(proof: &[u8], places: Places, s: Sizes) -> bool
+    requires { ⌜ PlacesOf (alphabetFor s) (shapeFor s) (now proof) places ⌝ }
+    ensures { λ r. ⌜ r ≡ proofElements (alphabetFor s) (shapeFor s) (sectionsIn (alphabetFor s) (shapeFor s) (now (proof .entry))) ⌝ }
+{
+    let degree = s.degree;
+    elements(proof_section(proof, places, V), degree)
+        & elements(proof_section(proof, places, QS0), degree)
+        & elements(proof_section(proof, places, QS1), degree)
+}
+
+// Questions 12, 13 and 18: the whole of 12 comes before 13. Where all get a yes, it tells where each section stands.
 pub fn proof_form(proof: &[u8], s: Sizes) -> Walk
     requires { ⌜ limits (shapeFor s) ≡ true ⌝ }
     ensures { λ r. ⌜ ProofAsked (alphabetFor s) (shapeFor s) (now (proof .entry)) r ⌝ }
@@ -68,9 +80,9 @@ pub fn proof_form(proof: &[u8], s: Sizes) -> Walk
     let Verdict::Accepted = exact else {
         return walk;
     };
-    let spare = proof_spare(proof, places, s);
+    let spare = also(exact, proof_spare(proof, places, s), Reason::ProofSpareBit);
     Walk {
-        answer: also(exact, spare, Reason::ProofSpareBit),
+        answer: also(spare, proof_elements(proof, places, s), Reason::ProofElement),
         places,
     }
 }

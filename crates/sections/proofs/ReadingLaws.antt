@@ -11,7 +11,7 @@ use lib.ListN.{length, getD, drop}
 use lib.Seq.{drop-drop}
 use Rattle.protocol.specs.Lists.{table, part}
 use Rattle.protocol.specs.Frames.{framed, sectionNo}
-use Rattle.protocol.specs.Binary.{bits256}
+use Rattle.protocol.specs.Alphabet.{Alphabet}
 use Rattle.protocol.specs.Shape.{Shape}
 use Rattle.protocol.specs.Sections.{lengths, sectionsIn}
 use Rattle.protocol.proofs.TestLaws.{eqb-same, eqb-eq}
@@ -57,7 +57,7 @@ framed-read (l ∷ ls) s at b h =
     (at + 4, e, sym f, n, first-is l ls s at ∙ ap (part s (at + 4)) (sym n), subst (λ (f : ℕ → List ℕ). Reads s e ls (table (length ls) f)) (λ j i. sym (next-is l ls s at e i d) j) rest)
 
 -- of a proof: its six sections
-pub proof-read : (s : Shape) (proof : List ℕ) → framed (lengths bits256 s) proof ≡ true
-    → let p = sectionsIn bits256 s proof in Reads proof 0 (lengths bits256 s) (p .C ∷ p .d ∷ p .ũ ∷ p .Ṽ ∷ p .QS0 ∷ p .QS1 ∷ [])
+pub proof-read : (A : Alphabet) (s : Shape) (proof : List ℕ) → framed (lengths A s) proof ≡ true
+    → let p = sectionsIn A s proof in Reads proof 0 (lengths A s) (p .C ∷ p .d ∷ p .ũ ∷ p .Ṽ ∷ p .QS0 ∷ p .QS1 ∷ [])
 unfolding lengths table
-proof-read s proof h = framed-read (lengths bits256 s) proof 0 (omega arith) h
+proof-read A s proof h = framed-read (lengths A s) proof 0 (omega arith) h

@@ -9,16 +9,21 @@ use native.Mathlib.Nat.{zero-div, zero-mul, min-le-left}
 use native.Mathlib.Numerals.{add-one}
 use native.Mathlib.Omega.{arith}
 use lib.Bits.{bitOr, or-zero-l, or-add-and, and-le-l, and-le-r}
-use lib.Dec.{eqb}
+use lib.Dec.{eqb, ltb}
 use lib.ListN.{length, getD, drop, length-take}
 use lib.Pow.{shr-shr, shr-lt}
 use lib.Seq.{take-all}
 use Rattle.algebra.proofs.CountLaws.{and-left, and-right}
+use Rattle.algebra.specs.Field.{Field}
+use Rattle.algebra.specs.Coded.{Coded}
+use Rattle.field.specs.Gf16.{gf16}
 use Rattle.protocol.specs.Lists.{allBelow, part, blockAt}
 use Rattle.protocol.specs.Strings.{bytesFor, bit, fromBits, spareZero}
-use Rattle.protocol.specs.Binary.{bits256}
+use Rattle.protocol.specs.Setting.{Setting, alphabetOf}
 use Rattle.protocol.specs.Key.{rowsSpare}
-use Rattle.protocol.proofs.TestLaws.{eqb-same, eqb-eq, and-true, both-true, bool-iff, all-of}
+use Rattle.sections.specs.Spare.{bitsSpare}
+use Rattle.protocol.proofs.TestLaws.{eqb-same, eqb-eq, ltb-yes, and-true, both-true, bool-iff, all-of}
+use Rattle.protocol.proofs.ElementLaws.{ltb-lt}
 use Rattle.protocol.proofs.ListLaws.{row-end, length-block, block-getD}
 use Rattle.protocol.proofs.StringLaws.{bits-of, bits-congr, spare-at}
 
@@ -90,12 +95,12 @@ none-spare : (L : ℕ) (row : List ℕ) → L % 8 ≡ 0 → length row ≤ bytes
 unfolding spareZero allBelow bytesFor
 none-spare L row h l = let e : length row * 8 - L ≡ 0 = omega arith in rw e
 
-pub whole-bytes : (L rows : ℕ) (s : List ℕ) → L % 8 ≡ 0 → rowsSpare bits256 L rows s ≡ true
-unfolding rowsSpare
+pub whole-bytes : (L rows : ℕ) (s : List ℕ) → L % 8 ≡ 0 → bitsSpare L rows s ≡ true
+unfolding bitsSpare
 whole-bytes L rows s h = all-of rows _ (λ i l. none-spare L (blockAt s (bytesFor L) i) h (block-most s (bytesFor L) i))
 
-pub one-row : (L : ℕ) (s : List ℕ) → length s ≡ bytesFor L → rowsSpare bits256 L 1 s ≡ spareZero s L
-unfolding rowsSpare allBelow blockAt part
+pub one-row : (L : ℕ) (s : List ℕ) → length s ≡ bytesFor L → bitsSpare L 1 s ≡ spareZero s L
+unfolding bitsSpare allBelow blockAt part
 one-row L s h = rw (zero-mul, take-all (bytesFor L) s (omega arith)) (all-more 0 (λ i. spareZero s L))
 
 last-lt : (L : ℕ) → 1 ≤ L % 8 → L / 8 < bytesFor L
@@ -119,11 +124,35 @@ module _ (s : List ℕ) (L rows : ℕ) (len : length s ≡ rows * bytesFor L) (p
       let b : getD (blockAt s w i) (L / 8) 0 ≡ getD s (i * w + w - 1) 0 = block-getD s w i (L / 8) q ∙ ap (λ k. getD s k 0) e in
       spare-high (blockAt s w i) L (length-block s w i (row-fits i h .1)) part (rw b (byte (i * w + w - 1))) ∙ ap (λ x. eqb (x / 2 ^ (L % 8)) 0) b
 
-  pub rows-more : (i found : ℕ) → i < rows → eqb found 0 ≡ rowsSpare bits256 L i s
-      → eqb (bitOr found (getD s (i * bytesFor L + bytesFor L - 1) 0 / 2 ^ (L % 8))) 0 ≡ rowsSpare bits256 L (i + 1) s
-  unfolding rowsSpare
+  pub rows-more : (i found : ℕ) → i < rows → eqb found 0 ≡ bitsSpare L i s
+      → eqb (bitOr found (getD s (i * bytesFor L + bytesFor L - 1) 0 / 2 ^ (L % 8))) 0 ≡ bitsSpare L (i + 1) s
+  unfolding bitsSpare
   rows-more i found h e = or-zero found _ ∙ ap₂ _&&_ e (sym (row-high i h)) ∙ rw add-one (sym (all-more i (λ i. spareZero (blockAt s (bytesFor L) i) L)))
 
-pub no-rows : (L : ℕ) (s : List ℕ) → eqb 0 0 ≡ rowsSpare bits256 L 0 s
-unfolding rowsSpare allBelow
+pub no-rows : (L : ℕ) (s : List ℕ) → eqb 0 0 ≡ bitsSpare L 0 s
+unfolding bitsSpare allBelow
 no-rows L s = refl
+
+-- rows of bits, in every setting
+pub rows-are : (g : Setting) (L rows : ℕ) (s : List ℕ) {b : Bool} → b ≡ bitsSpare L rows s → b ≡ rowsSpare (alphabetOf g) L rows s
+unfolding bitsSpare rowsSpare
+rows-are g L rows s h = h
+
+-- ---- bytes that are elements of the smaller field
+
+-- the first i bytes are
+unfoldable pub narrowTo : ℕ → List ℕ → Bool
+narrowTo i s = allBelow i (λ k. ltb (getD s k 0) (gf16 .base .size))
+
+pub narrow-none : (s : List ℕ) → eqb 0 0 ≡ narrowTo 0 s
+unfolding narrowTo allBelow
+narrow-none s = refl
+
+below-sixteen : (x : ℕ) → eqb (x / 16) 0 ≡ ltb x 16
+below-sixteen x = bool-iff _ _ (λ h. let e : x / 16 ≡ 0 = eqb-eq (x / 16) 0 h in ltb-yes x 16 (omega arith)) (λ h. let l : x < 16 = ltb-lt x 16 h in eqb-same (x / 16) 0 (omega arith))
+
+pub narrow-more : (i : ℕ) (s : List ℕ) (found : ℕ) → eqb found 0 ≡ narrowTo i s → eqb (bitOr found (getD s i 0 / 16)) 0 ≡ narrowTo (i + 1) s
+unfolding narrowTo
+narrow-more i s found h =
+    or-zero found (getD s i 0 / 16) ∙ ap₂ _&&_ h (below-sixteen (getD s i 0)) ∙ sym (all-more i (λ k. ltb (getD s k 0) (gf16 .base .size)))
+    ∙ ap (λ n. allBelow n (λ k. ltb (getD s k 0) (gf16 .base .size))) (sym (add-one i))

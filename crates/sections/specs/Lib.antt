@@ -2,3 +2,4 @@ pub mod Span
 pub mod Reading
 pub mod Moved
 pub mod Taking
+pub mod Spare

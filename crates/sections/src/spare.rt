@@ -4,8 +4,7 @@ ghost use Prim.Native.Nat.{_+_, _*_, _<_, _≤_, _%_, _^_};
 ghost use lib.Dec.{eqb};
 ghost use lib.ListN.{length};
 ghost use Rattle.protocol.specs.Strings.{bytesFor, spareZero};
-ghost use Rattle.protocol.specs.Binary.{bits256};
-ghost use Rattle.protocol.specs.Key.{rowsSpare};
+ghost use Rattle.sections.specs.Spare.{bitsSpare};
 use format::sizes::bytes_for;
 use strings::BITS;
 
@@ -13,7 +12,7 @@ use strings::BITS;
 // and nothing leaves early.
 fn spare_bits(s: &[u8], bits: usize, rows: usize) -> u8
     requires { ⌜ (length (now s) ≡ rows * bytesFor bits) × (1 ≤ bits % 8) × (bits + 7 < 2 ^ 64) ⌝ }
-    ensures { λ r. ⌜ eqb r 0 ≡ rowsSpare bits256 bits rows (now (s .entry)) ⌝ }
+    ensures { λ r. ⌜ eqb r 0 ≡ bitsSpare bits rows (now (s .entry)) ⌝ }
 {
     let width = bytes_for(bits);
     let used = bits % BITS;
@@ -29,7 +28,7 @@ fn spare_bits(s: &[u8], bits: usize, rows: usize) -> u8
 // Are the spare bits of each row 0? The rows are of so many bits each, and fill s.
 pub fn rows_spare(s: &[u8], bits: usize, rows: usize) -> bool
     requires { ⌜ (length (now s) ≡ rows * bytesFor bits) × (bits + 7 < 2 ^ 64) ⌝ }
-    ensures { λ r. ⌜ r ≡ rowsSpare bits256 bits rows (now (s .entry)) ⌝ }
+    ensures { λ r. ⌜ r ≡ bitsSpare bits rows (now (s .entry)) ⌝ }
 {
     if bits % BITS == 0 {
         return true;

@@ -1,33 +1,41 @@
-// The sizes of a key's data, for callers who allocate.
+// The sizes of a key's data, for callers who allocate: 0 where a size or the degree is not served.
 ghost use mathlib.Core.Path.{_≡_};
+ghost use mathlib.Core.Bool.{_&&_};
 ghost use Prim.Native.Nat.{_+_, _*_};
 ghost use Rattle.protocol.specs.Strings.{bytesFor};
 ghost use Rattle.protocol.specs.Frames.{framedLength};
-ghost use Rattle.protocol.specs.Binary.{bits256};
-ghost use Rattle.protocol.specs.Shape.{kOf, wOf};
+ghost use Rattle.protocol.specs.Setting.{setting, served};
+ghost use Rattle.protocol.specs.Shape.{limits, perTree, perOpened, kOf, wOf};
 ghost use Rattle.protocol.specs.Key.{keyLengths};
 ghost use Rattle.protocol.specs.Sections.{lengths, commitLengths, hashLengths, batchLengths};
+ghost use Rattle.format.specs.Sizes.{settingFor, shapeFor};
 ghost use Rattle.solfadrus.specs.Sized.{shape, sized};
-use field::Gf256;
 use format::Sizes;
 use format::sizes::BINARY;
+use format::sizes::degree_served;
+use format::sizes::in_limits;
+use format::sizes::tree_leaves;
 
-// All leaves of a tree but one.
-const OPENED: usize = Gf256::SIZE - 1;
+// Are the sizes in range, and is the degree served?
+fn in_range(s: Sizes) -> bool
+    ensures { λ r. ⌜ r ≡ (served (settingFor s) && limits (shapeFor s)) ⌝ }
+{
+    degree_served(s) & in_limits(s)
+}
 
 #[no_mangle]
-pub extern "C" fn mq_key_size(n: usize, m: usize, tau: usize, t: usize) -> usize
-    ensures { λ r. ⌜ r ≡ sized (shape n m tau t) (λ z. 8 + framedLength (keyLengths bits256 z)) ⌝ }
+pub extern "C" fn mq_key_size(n: usize, m: usize, tau: usize, t: usize, degree: u32) -> usize
+    ensures { λ r. ⌜ r ≡ sized (setting degree) (shape n m tau t) (λ A z. 8 + framedLength (keyLengths A z)) ⌝ }
 {
     let s = Sizes {
         n,
         m,
         tau,
         t,
-        degree: Gf256::DEGREE,
+        degree: degree as usize,
         alphabet: BINARY,
     };
-    if format::sizes::in_limits(s) {
+    if in_range(s) {
         questions::key::key_bytes(s)
     } else {
         0
@@ -35,18 +43,18 @@ pub extern "C" fn mq_key_size(n: usize, m: usize, tau: usize, t: usize) -> usize
 }
 
 #[no_mangle]
-pub extern "C" fn mq_witness_size(n: usize, m: usize, tau: usize, t: usize) -> usize
-    ensures { λ r. ⌜ r ≡ sized (shape n m tau t) (λ z. bytesFor (z .n)) ⌝ }
+pub extern "C" fn mq_witness_size(n: usize, m: usize, tau: usize, t: usize, degree: u32) -> usize
+    ensures { λ r. ⌜ r ≡ sized (setting degree) (shape n m tau t) (λ A z. bytesFor (z .n)) ⌝ }
 {
     let s = Sizes {
         n,
         m,
         tau,
         t,
-        degree: Gf256::DEGREE,
+        degree: degree as usize,
         alphabet: BINARY,
     };
-    if format::sizes::in_limits(s) {
+    if in_range(s) {
         format::sizes::witness_bytes(s)
     } else {
         0
@@ -54,56 +62,56 @@ pub extern "C" fn mq_witness_size(n: usize, m: usize, tau: usize, t: usize) -> u
 }
 
 #[no_mangle]
-pub extern "C" fn mq_leaves_size(n: usize, m: usize, tau: usize, t: usize) -> usize
-    ensures { λ r. ⌜ r ≡ sized (shape n m tau t) (λ z. z .τ * 256 * wOf bits256 z) ⌝ }
+pub extern "C" fn mq_leaves_size(n: usize, m: usize, tau: usize, t: usize, degree: u32) -> usize
+    ensures { λ r. ⌜ r ≡ sized (setting degree) (shape n m tau t) (λ A z. z .τ * perTree A * wOf A z) ⌝ }
 {
     let s = Sizes {
         n,
         m,
         tau,
         t,
-        degree: Gf256::DEGREE,
+        degree: degree as usize,
         alphabet: BINARY,
     };
-    if format::sizes::in_limits(s) {
-        format::sizes::leaves_bytes(s, Gf256::SIZE)
+    if in_range(s) {
+        format::sizes::leaves_bytes(s, tree_leaves(s))
     } else {
         0
     }
 }
 
 #[no_mangle]
-pub extern "C" fn mq_opened_size(n: usize, m: usize, tau: usize, t: usize) -> usize
-    ensures { λ r. ⌜ r ≡ sized (shape n m tau t) (λ z. z .τ * 255 * wOf bits256 z) ⌝ }
+pub extern "C" fn mq_opened_size(n: usize, m: usize, tau: usize, t: usize, degree: u32) -> usize
+    ensures { λ r. ⌜ r ≡ sized (setting degree) (shape n m tau t) (λ A z. z .τ * perOpened A * wOf A z) ⌝ }
 {
     let s = Sizes {
         n,
         m,
         tau,
         t,
-        degree: Gf256::DEGREE,
+        degree: degree as usize,
         alphabet: BINARY,
     };
-    if format::sizes::in_limits(s) {
-        format::sizes::leaves_bytes(s, OPENED)
+    if in_range(s) {
+        format::sizes::leaves_bytes(s, tree_leaves(s) - 1)
     } else {
         0
     }
 }
 
 #[no_mangle]
-pub extern "C" fn mq_hash_matrix_size(n: usize, m: usize, tau: usize, t: usize) -> usize
-    ensures { λ r. ⌜ r ≡ sized (shape n m tau t) (λ z. z .t * bytesFor (kOf bits256 z)) ⌝ }
+pub extern "C" fn mq_hash_matrix_size(n: usize, m: usize, tau: usize, t: usize, degree: u32) -> usize
+    ensures { λ r. ⌜ r ≡ sized (setting degree) (shape n m tau t) (λ A z. z .t * bytesFor (kOf A z)) ⌝ }
 {
     let s = Sizes {
         n,
         m,
         tau,
         t,
-        degree: Gf256::DEGREE,
+        degree: degree as usize,
         alphabet: BINARY,
     };
-    if format::sizes::in_limits(s) {
+    if in_range(s) {
         format::sizes::hash_matrix_bytes(s)
     } else {
         0
@@ -111,18 +119,18 @@ pub extern "C" fn mq_hash_matrix_size(n: usize, m: usize, tau: usize, t: usize) 
 }
 
 #[no_mangle]
-pub extern "C" fn mq_batching_size(n: usize, m: usize, tau: usize, t: usize) -> usize
-    ensures { λ r. ⌜ r ≡ sized (shape n m tau t) (λ z. z .τ * z .m) ⌝ }
+pub extern "C" fn mq_batching_size(n: usize, m: usize, tau: usize, t: usize, degree: u32) -> usize
+    ensures { λ r. ⌜ r ≡ sized (setting degree) (shape n m tau t) (λ A z. z .τ * z .m) ⌝ }
 {
     let s = Sizes {
         n,
         m,
         tau,
         t,
-        degree: Gf256::DEGREE,
+        degree: degree as usize,
         alphabet: BINARY,
     };
-    if format::sizes::in_limits(s) {
+    if in_range(s) {
         format::sizes::batching_bytes(s)
     } else {
         0
@@ -130,18 +138,18 @@ pub extern "C" fn mq_batching_size(n: usize, m: usize, tau: usize, t: usize) -> 
 }
 
 #[no_mangle]
-pub extern "C" fn mq_delta_size(n: usize, m: usize, tau: usize, t: usize) -> usize
-    ensures { λ r. ⌜ r ≡ sized (shape n m tau t) (λ z. z .τ) ⌝ }
+pub extern "C" fn mq_delta_size(n: usize, m: usize, tau: usize, t: usize, degree: u32) -> usize
+    ensures { λ r. ⌜ r ≡ sized (setting degree) (shape n m tau t) (λ A z. z .τ) ⌝ }
 {
     let s = Sizes {
         n,
         m,
         tau,
         t,
-        degree: Gf256::DEGREE,
+        degree: degree as usize,
         alphabet: BINARY,
     };
-    if format::sizes::in_limits(s) {
+    if in_range(s) {
         s.tau
     } else {
         0
@@ -149,18 +157,18 @@ pub extern "C" fn mq_delta_size(n: usize, m: usize, tau: usize, t: usize) -> usi
 }
 
 #[no_mangle]
-pub extern "C" fn mq_commit_size(n: usize, m: usize, tau: usize, t: usize) -> usize
-    ensures { λ r. ⌜ r ≡ sized (shape n m tau t) (λ z. framedLength (commitLengths bits256 z)) ⌝ }
+pub extern "C" fn mq_commit_size(n: usize, m: usize, tau: usize, t: usize, degree: u32) -> usize
+    ensures { λ r. ⌜ r ≡ sized (setting degree) (shape n m tau t) (λ A z. framedLength (commitLengths A z)) ⌝ }
 {
     let s = Sizes {
         n,
         m,
         tau,
         t,
-        degree: Gf256::DEGREE,
+        degree: degree as usize,
         alphabet: BINARY,
     };
-    if format::sizes::in_limits(s) {
+    if in_range(s) {
         sections::outputs::commit_bytes(s)
     } else {
         0
@@ -168,18 +176,18 @@ pub extern "C" fn mq_commit_size(n: usize, m: usize, tau: usize, t: usize) -> us
 }
 
 #[no_mangle]
-pub extern "C" fn mq_hash_size(n: usize, m: usize, tau: usize, t: usize) -> usize
-    ensures { λ r. ⌜ r ≡ sized (shape n m tau t) (λ z. framedLength (hashLengths bits256 z)) ⌝ }
+pub extern "C" fn mq_hash_size(n: usize, m: usize, tau: usize, t: usize, degree: u32) -> usize
+    ensures { λ r. ⌜ r ≡ sized (setting degree) (shape n m tau t) (λ A z. framedLength (hashLengths A z)) ⌝ }
 {
     let s = Sizes {
         n,
         m,
         tau,
         t,
-        degree: Gf256::DEGREE,
+        degree: degree as usize,
         alphabet: BINARY,
     };
-    if format::sizes::in_limits(s) {
+    if in_range(s) {
         sections::outputs::hash_bytes(s)
     } else {
         0
@@ -187,18 +195,18 @@ pub extern "C" fn mq_hash_size(n: usize, m: usize, tau: usize, t: usize) -> usiz
 }
 
 #[no_mangle]
-pub extern "C" fn mq_batch_size(n: usize, m: usize, tau: usize, t: usize) -> usize
-    ensures { λ r. ⌜ r ≡ sized (shape n m tau t) (λ z. framedLength (batchLengths bits256 z)) ⌝ }
+pub extern "C" fn mq_batch_size(n: usize, m: usize, tau: usize, t: usize, degree: u32) -> usize
+    ensures { λ r. ⌜ r ≡ sized (setting degree) (shape n m tau t) (λ A z. framedLength (batchLengths A z)) ⌝ }
 {
     let s = Sizes {
         n,
         m,
         tau,
         t,
-        degree: Gf256::DEGREE,
+        degree: degree as usize,
         alphabet: BINARY,
     };
-    if format::sizes::in_limits(s) {
+    if in_range(s) {
         sections::outputs::batch_bytes(s)
     } else {
         0
@@ -206,18 +214,18 @@ pub extern "C" fn mq_batch_size(n: usize, m: usize, tau: usize, t: usize) -> usi
 }
 
 #[no_mangle]
-pub extern "C" fn mq_proof_size(n: usize, m: usize, tau: usize, t: usize) -> usize
-    ensures { λ r. ⌜ r ≡ sized (shape n m tau t) (λ z. framedLength (lengths bits256 z)) ⌝ }
+pub extern "C" fn mq_proof_size(n: usize, m: usize, tau: usize, t: usize, degree: u32) -> usize
+    ensures { λ r. ⌜ r ≡ sized (setting degree) (shape n m tau t) (λ A z. framedLength (lengths A z)) ⌝ }
 {
     let s = Sizes {
         n,
         m,
         tau,
         t,
-        degree: Gf256::DEGREE,
+        degree: degree as usize,
         alphabet: BINARY,
     };
-    if format::sizes::in_limits(s) {
+    if in_range(s) {
         sections::outputs::proof_bytes(s)
     } else {
         0

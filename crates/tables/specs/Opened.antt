@@ -10,6 +10,8 @@
 --   OpenedInputs table opened Δ C τ w r == these have the lengths of τ such trees, and Δ has leaves' numbers
 --   OpenedTableIs table opened Δ C τ w count == a table has the lanes W_e, for each repetition e below τ; a tree has
 --     count leaves
+--   Opened A s Δ opened proof table == the lanes of the table, with which a space may begin, are W_e of every repetition
+--     of a proof of shape s over the alphabet A
 -- Assumes nothing.
 use mathlib.Core.Path.{_≡_}
 use mathlib.Core.Bool.{cond}
@@ -20,7 +22,10 @@ use lib.Dec.{eqb}
 use lib.ListN.{length}
 use Rattle.protocol.specs.Lists.{blockAt}
 use Rattle.protocol.specs.Strings.{bit}
+use Rattle.protocol.specs.Alphabet.{Alphabet}
+use Rattle.protocol.specs.Shape.{Shape, perTree, wOf}
 use Rattle.protocol.specs.Leaves.{openedLeaf}
+use Rattle.protocol.specs.Sections.{sectionsIn}
 use Rattle.strings.specs.Sums.{byteAt, xorSum}
 use Rattle.format.specs.Limits.{mostLeaf}
 use Rattle.lanes.specs.Lanes.{lanes}
@@ -51,3 +56,7 @@ OpenedInputs table opened Δ C τ w r =
 abbrev pub OpenedTableIs : List ℕ → List ℕ → List ℕ → List ℕ → ℕ → ℕ → ℕ → Type 0
 OpenedTableIs table opened Δ C τ w count =
     (e c : ℕ) → e < τ → c < 8 * w → byteAt table (c * lanes + e) ≡ wByte (blockAt opened ((count - 1) * w) e) C count w e (byteAt Δ e) c
+
+pub record Opened (A : Alphabet) (s : Shape) (Δ opened proof table : List ℕ) : Type 0 where
+  pub table-length : 8 * wOf A s * lanes ≤ length table
+  pub table-is : OpenedTableIs table opened Δ (sectionsIn A s proof .C) (s .τ) (wOf A s) (perTree A)

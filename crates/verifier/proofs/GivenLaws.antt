@@ -17,7 +17,7 @@ use Rattle.protocol.proofs.AnswerLaws.{ask-accepts, all-yes}
 use Rattle.lanes.specs.Lanes.{lanes}
 use Rattle.tables.specs.Opened.{OpenedTableIs}
 use Rattle.format.proofs.FitLaws.{batching-of}
-use Rattle.verifier.specs.Proved.{Opened}
+use Rattle.tables.specs.Opened.{Opened}
 use Rattle.format.specs.Verdict.{andThen}
 use Rattle.format.proofs.AskLaws.{then-ask}
 use Rattle.questions.specs.Asking.{keyQuestions, verifyInputs, proofQuestions}

@@ -1,4 +1,1 @@
-pub mod Proved
-pub mod Product
-pub mod Repetitions
 pub mod Given

@@ -1,8 +1,5 @@
 // The verifier: its questions on form, and then 14 and 15, 14 over all repetitions before 15 over any. All that it is
 // lent is public.
-mod consistency;
-mod product;
-
 ghost use mathlib.Core.Path.{_≡_};
 ghost use Rattle.protocol.specs.Binary.{bits256};
 ghost use Rattle.protocol.specs.Answers.{ask};
@@ -11,8 +8,7 @@ ghost use Rattle.format.specs.Sizes.{alphabetFor, shapeFor};
 ghost use Rattle.format.specs.Verdict.{answerOf};
 ghost use Rattle.sections.specs.Moved.{PlacesIn};
 ghost use Rattle.verifier.specs.Given.{VerifyFacts, checkQuestions};
-ghost use Rattle.verifier.specs.Proved.{SpaceRoom};
-use consistency::check_consistency;
+ghost use Rattle.verifier_product.specs.Product.{SpaceRoom};
 use format::Reason;
 use format::Verdict;
 use format::sizes::Sizes;
@@ -22,7 +18,6 @@ use format::sizes::sizes_of;
 use format::verdicts::answer;
 use forms_batching::panels::CELLS;
 use lanes::LANES;
-use product::check_product;
 use questions::calls::verify_inputs;
 use questions::key::key_form;
 use questions::proof::C;
@@ -30,6 +25,8 @@ use questions::proof::proof_form;
 use questions::proof::proof_section;
 use sections::reader::Places;
 use strings::BITS;
+use verifier_consistency::check_consistency;
+use verifier_product::check_product;
 
 // The space of a call: it is first the table of the W_e, and then the cells of the forms. These are longer than the
 // longest table.
@@ -102,18 +99,19 @@ fn both_checks(
     )
 }
 
-// The verifier (01): questions 1 to 8, 12 to 15. It writes nothing.
+// The verifier (01): questions 16, 1 to 6, 17, 7, 8, 12, 13, 18, 14, 15. It writes nothing.
 pub fn verify(
     key: &[u8],
+    degree: u32,
     delta: &[u8],
     matrix: &[u8],
     batching: &[u8],
     opened: &[u8],
     proof: &[u8],
 ) -> Verdict
-    ensures { λ r. ⌜ answerOf r ≡ verifyAnswer bits256 (now (key .entry)) (now (delta .entry)) (now (matrix .entry)) (now (batching .entry)) (now (opened .entry)) (now (proof .entry)) ⌝ }
+    ensures { λ r. ⌜ answerOf r ≡ verifyAnswer (setting degree) (now (key .entry)) (now (delta .entry)) (now (matrix .entry)) (now (batching .entry)) (now (opened .entry)) (now (proof .entry)) ⌝ }
 {
-    let s = sizes_of(key);
+    let s = sizes_of(key, degree);
     let of_key = key_form(key, s);
     let Verdict::Accepted = of_key else {
         return of_key;

@@ -2,8 +2,10 @@
 //!
 //! "Each call puts those that concern its inputs, in this order. A no ends the call with that
 //! number."
+//!
+//! 02 (request 3) adds 16, "first of all questions", 17, "after 6", and 18, "after 13".
 
-use crate::field::GF256;
+use crate::field::Field;
 use crate::key::{has_header, header, sections as key_sections, Key, Shape};
 use crate::leaves::opened_of;
 use crate::prover::{first_step, second_step, third_step, whole};
@@ -25,7 +27,8 @@ pub fn word(answer: Answer) -> u32 {
     }
 }
 
-/// "A no ends the call with that number."; "the place is 0 for numbers 1 to 10, 12 and 13."
+/// "A no ends the call with that number."; "the place is 0 for numbers 1 to 10, 12 and 13.", and from
+/// 02: "The place is 0 for these and every later number."
 fn question(number: u32, yes: bool) -> Result<(), Answer> {
     question_with_place(number, yes, 0)
 }
@@ -42,13 +45,22 @@ fn question_with_place(number: u32, yes: bool, place: usize) -> Result<(), Answe
     }
 }
 
+/// From 02 (request 3): "Refused: 16, degree neither 8 nor 4, first of all questions".
+fn question_16(degree: u32) -> Result<Field, Answer> {
+    let found = Field::of_degree(degree);
+    question(16, found.is_some())?;
+    Ok(found.unwrap())
+}
+
+/// 16, and then
 /// "1. Has the key at least the 8 bytes of its header? 1
 /// 2. Are n, m, τ, t in range? 2
 /// 3. Are all counts and the key's length exact? 3
 /// 4. Are the key's spare bits 0? 4"
-fn questions_1_to_4(bytes: &[u8]) -> Result<Key<'_>, Answer> {
+fn questions_16_and_1_to_4(bytes: &[u8], degree: u32) -> Result<Key<'_>, Answer> {
+    let field = question_16(degree)?;
     question(1, has_header(bytes))?;
-    let shape = header(GF256, bytes);
+    let shape = header(field, bytes);
     question(2, shape.in_range())?;
     let found = key_sections(shape, bytes);
     question(3, found.is_some())?;
@@ -60,6 +72,15 @@ fn questions_1_to_4(bytes: &[u8]) -> Result<Key<'_>, Answer> {
 /// "6. Are the spare bits of H′ 0? 6"
 fn question_6(shape: &Shape, h: &[u8]) -> Result<(), Answer> {
     question(6, spare_bits_are_0(h, shape.k()))
+}
+
+/// From 02 (request 3): "17, a byte of Δ or χ above 15 at degree 4, after 6". Where no H′ is taken 6 is
+/// not put, and 17 comes after 5. The bytes are those of Δ, of χ or of both, as the call takes them.
+fn question_17(shape: &Shape, challenges: &[&[u8]]) -> Result<(), Answer> {
+    question(
+        17,
+        challenges.iter().all(|bytes| shape.field.has_all(bytes)),
+    )
 }
 
 /// "7. Have the leaves their exact length? 7
@@ -110,10 +131,16 @@ fn questions_12_and_13<'a>(shape: &Shape, bytes: &'a [u8]) -> Result<Proof<'a>, 
     Ok(proof)
 }
 
+/// From 02 (request 3): "18, a byte of Ṽ, QS0 or QS1 above 15 at degree 4, after 13."
+fn question_18(shape: &Shape, proof: &Proof) -> Result<(), Answer> {
+    let sections = [proof.v_tilde, proof.qs0, proof.qs1];
+    question(18, sections.iter().all(|bytes| shape.field.has_all(bytes)))
+}
+
 /// "14. Does consistency hold in every repetition? 14, with the first e where not
 /// 15. Does the product check hold in every repetition? 15, with the first e where not"
 ///
-/// 14 of all repetitions before 15 of any. Open to tests, since here the field is the key's.
+/// 14 of all repetitions before 15 of any.
 pub fn questions_14_and_15(
     key: &Key,
     delta: &[u8],
@@ -147,31 +174,38 @@ fn write(result: Result<Vec<u8>, Answer>, out: &mut [u8]) -> Answer {
     }
 }
 
-/// "A separate call tests a key and witness: questions 1 to 4, 9, 11."
-pub fn test(key: &[u8], witness: &[u8]) -> Answer {
-    match tested(key, witness) {
+/// "A separate call tests a key and witness: questions 1 to 4, 9, 11." And 16 before them (02): the degree
+/// is "passed beside the key in every call that takes one, the test call too".
+pub fn test(key: &[u8], degree: u32, witness: &[u8]) -> Answer {
+    match tested(key, degree, witness) {
         Ok(()) => Answer::Accepted,
         Err(refusal) => refusal,
     }
 }
 
 /// The questions of `test`, in order.
-fn tested(key: &[u8], witness: &[u8]) -> Result<(), Answer> {
-    let key = questions_1_to_4(key)?;
+fn tested(key: &[u8], degree: u32, witness: &[u8]) -> Result<(), Answer> {
+    let key = questions_16_and_1_to_4(key, degree)?;
     question_9(&key.shape, witness)?;
     question_11(&key, witness)
 }
 
 /// The first step: "Three step calls write the first two ... sections. All take the key and full
-/// leaves; the first also the witness". Questions 1 to 4, 7 to 11.
-pub fn commit(key: &[u8], leaves: &[u8], witness: &[u8], out: &mut [u8]) -> Answer {
-    let result = committed(key, leaves, witness, out);
+/// leaves; the first also the witness". Questions 16, 1 to 4, 7 to 11.
+pub fn commit(key: &[u8], degree: u32, leaves: &[u8], witness: &[u8], out: &mut [u8]) -> Answer {
+    let result = committed(key, degree, leaves, witness, out);
     write(result, out)
 }
 
 /// The questions of `commit`, in order, and then the bytes to be written.
-fn committed(key: &[u8], leaves: &[u8], witness: &[u8], out: &[u8]) -> Result<Vec<u8>, Answer> {
-    let key = questions_1_to_4(key)?;
+fn committed(
+    key: &[u8],
+    degree: u32,
+    leaves: &[u8],
+    witness: &[u8],
+    out: &[u8],
+) -> Result<Vec<u8>, Answer> {
+    let key = questions_16_and_1_to_4(key, degree)?;
     let shape = &key.shape;
     questions_7_and_8(shape, leaves, shape.leaves_length())?;
     question_9(shape, witness)?;
@@ -181,15 +215,15 @@ fn committed(key: &[u8], leaves: &[u8], witness: &[u8], out: &[u8]) -> Result<Ve
 }
 
 /// The second step: "the middle two ... sections"; it takes "the key and full leaves; ... the
-/// second H′". Questions 1 to 8, 10.
-pub fn hash(key: &[u8], leaves: &[u8], h: &[u8], out: &mut [u8]) -> Answer {
-    let result = hashed(key, leaves, h, out);
+/// second H′". Questions 16, 1 to 8, 10: it takes neither Δ nor χ, and so does not put 17.
+pub fn hash(key: &[u8], degree: u32, leaves: &[u8], h: &[u8], out: &mut [u8]) -> Answer {
+    let result = hashed(key, degree, leaves, h, out);
     write(result, out)
 }
 
 /// The questions of `hash`, in order, and then the bytes to be written.
-fn hashed(key: &[u8], leaves: &[u8], h: &[u8], out: &[u8]) -> Result<Vec<u8>, Answer> {
-    let key = questions_1_to_4(key)?;
+fn hashed(key: &[u8], degree: u32, leaves: &[u8], h: &[u8], out: &[u8]) -> Result<Vec<u8>, Answer> {
+    let key = questions_16_and_1_to_4(key, degree)?;
     let shape = &key.shape;
     question(5, h.len() == shape.h_length())?;
     question_6(shape, h)?;
@@ -199,23 +233,32 @@ fn hashed(key: &[u8], leaves: &[u8], h: &[u8], out: &[u8]) -> Result<Vec<u8>, An
 }
 
 /// The third step: "the last two sections"; it takes "the key and full leaves; ... the third the
-/// witness and χ." Questions 1 to 5, 7 to 11.
-pub fn batch(key: &[u8], leaves: &[u8], witness: &[u8], chi: &[u8], out: &mut [u8]) -> Answer {
-    let result = batched(key, leaves, witness, chi, out);
+/// witness and χ." Questions 16, 1 to 5, 17, 7 to 11.
+pub fn batch(
+    key: &[u8],
+    degree: u32,
+    leaves: &[u8],
+    witness: &[u8],
+    chi: &[u8],
+    out: &mut [u8],
+) -> Answer {
+    let result = batched(key, degree, leaves, witness, chi, out);
     write(result, out)
 }
 
 /// The questions of `batch`, in order, and then the bytes to be written.
 fn batched(
     key: &[u8],
+    degree: u32,
     leaves: &[u8],
     witness: &[u8],
     chi: &[u8],
     out: &[u8],
 ) -> Result<Vec<u8>, Answer> {
-    let key = questions_1_to_4(key)?;
+    let key = questions_16_and_1_to_4(key, degree)?;
     let shape = &key.shape;
     question(5, chi.len() == shape.chi_length())?;
+    question_17(shape, &[chi])?;
     questions_7_and_8(shape, leaves, shape.leaves_length())?;
     question_9(shape, witness)?;
     question_10(out, &shape.proof_sections()[4..6])?;
@@ -223,35 +266,38 @@ fn batched(
     Ok(third_step(&key, leaves, witness, chi))
 }
 
-/// "A whole call takes all of these and writes all six, the same bytes." Questions 1 to 11.
+/// "A whole call takes all of these and writes all six, the same bytes." Questions 16, 1 to 6, 17, 7 to 11.
 pub fn prove(
     key: &[u8],
+    degree: u32,
     leaves: &[u8],
     witness: &[u8],
     h: &[u8],
     chi: &[u8],
     out: &mut [u8],
 ) -> Answer {
-    let result = proved(key, leaves, witness, h, chi, out);
+    let result = proved(key, degree, leaves, witness, h, chi, out);
     write(result, out)
 }
 
 /// The questions of `prove`, in order, and then the bytes to be written.
 fn proved(
     key: &[u8],
+    degree: u32,
     leaves: &[u8],
     witness: &[u8],
     h: &[u8],
     chi: &[u8],
     out: &[u8],
 ) -> Result<Vec<u8>, Answer> {
-    let key = questions_1_to_4(key)?;
+    let key = questions_16_and_1_to_4(key, degree)?;
     let shape = &key.shape;
     question(
         5,
         h.len() == shape.h_length() && chi.len() == shape.chi_length(),
     )?;
     question_6(shape, h)?;
+    question_17(shape, &[chi])?;
     questions_7_and_8(shape, leaves, shape.leaves_length())?;
     question_9(shape, witness)?;
     question_10(out, &shape.proof_sections())?;
@@ -260,16 +306,17 @@ fn proved(
 }
 
 /// "The verifier accepts only what is right, whoever wrote the proof." "The verifier never
-/// writes." Questions 1 to 8, 12 to 15.
+/// writes." Questions 16, 1 to 6, 17, 7, 8, 12, 13, 18, 14, 15.
 pub fn verify(
     key: &[u8],
+    degree: u32,
     delta: &[u8],
     h: &[u8],
     chi: &[u8],
     opened: &[u8],
     proof: &[u8],
 ) -> Answer {
-    match verified(key, delta, h, chi, opened, proof) {
+    match verified(key, degree, delta, h, chi, opened, proof) {
         Ok(()) => Answer::Accepted,
         Err(refusal) => refusal,
     }
@@ -278,13 +325,14 @@ pub fn verify(
 /// The questions of `verify`, in order.
 fn verified(
     key: &[u8],
+    degree: u32,
     delta: &[u8],
     h: &[u8],
     chi: &[u8],
     opened: &[u8],
     proof: &[u8],
 ) -> Result<(), Answer> {
-    let key = questions_1_to_4(key)?;
+    let key = questions_16_and_1_to_4(key, degree)?;
     let shape = &key.shape;
     question(
         5,
@@ -293,7 +341,9 @@ fn verified(
             && chi.len() == shape.chi_length(),
     )?;
     question_6(shape, h)?;
+    question_17(shape, &[delta, chi])?;
     questions_7_and_8(shape, opened, shape.opened_length())?;
     let proof = questions_12_and_13(shape, proof)?;
+    question_18(shape, &proof)?;
     questions_14_and_15(&key, delta, h, chi, opened, &proof)
 }

@@ -1,6 +1,6 @@
 //! Random cases for tests. Nothing here is in 01 but the layout of what is made.
 
-use crate::field::{Field, GF256};
+use crate::field::Field;
 use crate::key::{sections, Key, Shape};
 use crate::leaves::open_leaves;
 use crate::strings::{bytes_for, pack, unpack, write_section};
@@ -80,9 +80,14 @@ impl Case {
         open_leaves(&self.shape, &self.leaves, &self.delta)
     }
 
+    /// The degree of this case, "passed beside the key" (02, request 3).
+    pub fn degree(&self) -> u32 {
+        self.shape.degree()
+    }
+
     /// The length of the whole proof: "24 bytes more than these together."
     pub fn proof_length(&self) -> usize {
-        24 + self.shape.proof_sections().iter().sum::<usize>()
+        self.shape.proof_length()
     }
 }
 
@@ -99,21 +104,26 @@ pub fn key_bytes(shape: &Shape, a: &[u8], b: &[u8], y: &[u8]) -> Vec<u8> {
     key
 }
 
-/// A random case over GF(256): A, b and x at random, y so that x solves; leaves, H′, χ, Δ at
+/// A random case at a degree, 8 or 4: A, b and x at random, y so that x solves; leaves, H′, χ, Δ at
 /// random, spare bits 0.
-pub fn case(seed: u64, n: usize, m: usize, tau: usize, t: usize) -> Case {
-    case_over(GF256, seed, n, m, tau, t)
+pub fn case(seed: u64, n: usize, m: usize, tau: usize, t: usize, degree: u32) -> Case {
+    case_of(seed, Shape::new(n, m, tau, t, degree))
 }
 
-/// The same over any field.
+/// The same over a field.
 pub fn case_over(field: Field, seed: u64, n: usize, m: usize, tau: usize, t: usize) -> Case {
-    let shape = Shape {
+    case(seed, n, m, tau, t, field.degree as u32)
+}
+
+/// The same of a shape.
+pub fn case_of(seed: u64, shape: Shape) -> Case {
+    let Shape {
         field,
         n,
         m,
         tau,
         t,
-    };
+    } = shape;
     let mut random = Random::new(seed);
     let a = random.strings(m * n, n);
     let b = random.strings(m, n);

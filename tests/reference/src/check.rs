@@ -6,6 +6,9 @@ use crate::strings::read_section;
 /// "More than 65,536 bytes of input in all ... give `unread 0 0`."
 pub const LIMIT: usize = 65_536;
 
+/// From 02 (request 3): "the check program stays at 8."
+pub const DEGREE: u32 = 8;
+
 /// "A check program reads key, Δ, H′, χ, opened leaves, proof from standard input, each after its
 /// four-byte count, and prints one line: verdict (accepted, refused or unread), number, place,
 /// decimal, a space between."
@@ -15,7 +18,7 @@ pub fn line(input: &[u8]) -> String {
     match six_sections(input) {
         None => "unread 0 0".to_string(),
         Some([key, delta, h, chi, opened, proof]) => {
-            match verify(key, delta, h, chi, opened, proof) {
+            match verify(key, DEGREE, delta, h, chi, opened, proof) {
                 Answer::Accepted => "accepted 0 0".to_string(),
                 Answer::Refused { number, place } => format!("refused {number} {place}"),
             }

@@ -4,7 +4,7 @@
 ///
 /// An element is a byte below `size`. The modulus is written as a number whose bit s is the
 /// coefficient of X^s. The equations of the other files take the field as a parameter ("Facts
-/// common to fields are shown with the field as a parameter"); the calls use `GF256`.
+/// common to fields are shown with the field as a parameter"); the calls take its degree.
 #[derive(Clone, Copy, Debug, PartialEq, Eq)]
 pub struct Field {
     pub size: usize,
@@ -19,7 +19,7 @@ pub const GF256: Field = Field {
     degree: 8,
 };
 
-/// GF(16) with the modulus X^4+X+1. Not in 01; only vectors use it.
+/// From 02 (request 3): "Degree 4 uses GF(16), modulus X^4+X+1".
 pub const GF16: Field = Field {
     size: 16,
     modulus: 0b1_0011,
@@ -45,7 +45,23 @@ pub fn bit_times(bit: u8, element: u8) -> u8 {
 }
 
 impl Field {
-    /// The product in K, "with the modulus X^8+X^4+X^3+X+1 of FIPS 197" when the field is `GF256`.
+    /// The field of a degree, "8 or 4" (02, request 3); nothing for any other number.
+    pub fn of_degree(degree: u32) -> Option<Field> {
+        match degree {
+            8 => Some(GF256),
+            4 => Some(GF16),
+            _ => None,
+        }
+    }
+
+    /// Whether every byte is an element: at degree 4 none is "above 15" (02, request 3), at degree 8
+    /// "a byte is an element".
+    pub fn has_all(&self, bytes: &[u8]) -> bool {
+        bytes.iter().all(|byte| (*byte as usize) < self.size)
+    }
+
+    /// The product in K, "with the modulus X^8+X^4+X^3+X+1 of FIPS 197" when the field is `GF256`,
+    /// and X^4+X+1 when it is `GF16`.
     ///
     /// a·b = Σ b[s]·(a·X^s), where a·X^(s+1) is a·X^s doubled and, once the degree is reached,
     /// reduced by the modulus.

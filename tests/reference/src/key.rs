@@ -14,6 +14,23 @@ pub struct Shape {
 }
 
 impl Shape {
+    /// The shape of these sizes at a degree, which must be 8 or 4.
+    pub fn new(n: usize, m: usize, tau: usize, t: usize, degree: u32) -> Shape {
+        let field = Field::of_degree(degree).expect("degree 8 or 4");
+        Shape {
+            field,
+            n,
+            m,
+            tau,
+            t,
+        }
+    }
+
+    /// The degree "passed beside the key in every call that takes one" (02, request 3).
+    pub fn degree(&self) -> u32 {
+        self.field.degree as u32
+    }
+
     /// From 01: "n variables 1..160, m equations 1..160, τ repetitions 1..48, t hash rows 1..160"; and from 02: "n and
     /// m go to 320 and t to 288".
     pub fn in_range(&self) -> bool {
@@ -52,12 +69,19 @@ impl Shape {
         ]
     }
 
-    /// "for each repetition e, from 0 rising, 256 strings ℓ(e,j) of w bytes".
+    /// The length of the key: the header of 8 bytes, and the sections A, b, y, "each after its byte
+    /// count (four bytes, lowest first)."
+    pub fn key_length(&self) -> usize {
+        8 + with_counts(&self.key_sections())
+    }
+
+    /// "for each repetition e, from 0 rising, 256 strings ℓ(e,j) of w bytes"; "16 leaves" at degree 4
+    /// (02, request 3).
     pub fn leaves_length(&self) -> usize {
         self.tau * self.field.size * self.w()
     }
 
-    /// "Opened leaves: 255 for each repetition".
+    /// "Opened leaves: 255 for each repetition"; "15 opened" at degree 4 (02, request 3).
     pub fn opened_length(&self) -> usize {
         self.tau * (self.field.size - 1) * self.w()
     }
@@ -95,11 +119,36 @@ impl Shape {
         ]
     }
 
+    /// What the first step writes: C and d.
+    pub fn commit_length(&self) -> usize {
+        with_counts(&self.proof_sections()[0..2])
+    }
+
+    /// What the second step writes: ũ and Ṽ.
+    pub fn hash_length(&self) -> usize {
+        with_counts(&self.proof_sections()[2..4])
+    }
+
+    /// What the third step writes: QS0 and QS1.
+    pub fn batch_length(&self) -> usize {
+        with_counts(&self.proof_sections()[4..6])
+    }
+
+    /// The whole proof: "24 bytes more than these together."
+    pub fn proof_length(&self) -> usize {
+        with_counts(&self.proof_sections())
+    }
+
     /// The column of χ of repetition e: "τ columns of m bytes, by repetition and in each by
     /// equation, rising."
     pub fn column<'a>(&self, chi: &'a [u8], e: usize) -> &'a [u8] {
         &chi[e * self.m..(e + 1) * self.m]
     }
+}
+
+/// The length of sections, "each after its four-byte count".
+fn with_counts(lengths: &[usize]) -> usize {
+    lengths.iter().map(|length| 4 + length).sum()
 }
 
 /// "Has the key at least the 8 bytes of its header?"

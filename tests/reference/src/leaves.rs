@@ -5,13 +5,13 @@ use crate::key::Shape;
 use crate::strings::coordinate;
 
 /// ℓ(e,j) among full leaves: "for each repetition e, from 0 rising, 256 strings ℓ(e,j) of w bytes,
-/// j rising."
+/// j rising."; "16 leaves" at degree 4 (02, request 3).
 pub fn leaf<'a>(shape: &Shape, leaves: &'a [u8], e: usize, j: usize) -> &'a [u8] {
     let start = (e * shape.field.size + j) * shape.w();
     &leaves[start..start + shape.w()]
 }
 
-/// The opened leaves of repetition e: "255 for each repetition".
+/// The opened leaves of repetition e: "255 for each repetition"; "15 opened" at degree 4 (02, request 3).
 pub fn opened_of<'a>(shape: &Shape, opened: &'a [u8], e: usize) -> &'a [u8] {
     let length = (shape.field.size - 1) * shape.w();
     &opened[e * length..(e + 1) * length]

@@ -22,6 +22,7 @@ pub mod leaves;
 pub mod prover;
 pub mod sittings;
 pub mod strings;
+pub mod toys;
 pub mod verifier;
 
 pub use calls::{batch, commit, hash, prove, test, verify, word, Answer};

@@ -5,7 +5,7 @@
 //! of QS0 or of QS1, none of these is 0, nor d nor ũ, and every change is refused. Of the two changes of C the first is
 //! one that consistency does not see, but the product check does.
 
-use crate::calls::{questions_14_and_15, word};
+use crate::calls::{verify, word};
 use crate::cases::{case_over, Case, Random};
 use crate::factors::factors;
 use crate::field::{Field, GF16, GF256};
@@ -205,27 +205,17 @@ fn proof_of(sitting: &Case) -> Vec<u8> {
     )
 }
 
-/// The verifier's word: questions 12 to 15, the others being about what is well-formed here.
+/// The verifier's word.
 fn reply(sitting: &Case, proof: &[u8]) -> u32 {
-    let key = sitting.read_key();
-    let Some(proof) = sections(&key.shape, proof) else {
-        return 12 * 65_536;
-    };
-    if !proof.spare_bits_are_0(&key.shape) {
-        return 13 * 65_536;
-    }
-    let opened = sitting.opened();
-    match questions_14_and_15(
-        &key,
+    word(verify(
+        &sitting.key,
+        sitting.degree(),
         &sitting.delta,
         &sitting.h,
         &sitting.chi,
-        &opened,
-        &proof,
-    ) {
-        Ok(()) => 0,
-        Err(refusal) => word(refusal),
-    }
+        &sitting.opened(),
+        proof,
+    ))
 }
 
 /// Where a change lies in the whole proof.

@@ -5,11 +5,15 @@ use reference::strings::write_section;
 use reference::*;
 
 fn whole_proof(case: &Case) {
-    assert_eq!(test(&case.key, &case.witness), Answer::Accepted);
+    assert_eq!(
+        test(&case.key, case.degree(), &case.witness),
+        Answer::Accepted
+    );
     let mut proof = vec![0; case.proof_length()];
     assert_eq!(
         prove(
             &case.key,
+            case.degree(),
             &case.leaves,
             &case.witness,
             &case.h,
@@ -21,6 +25,7 @@ fn whole_proof(case: &Case) {
     assert_eq!(
         verify(
             &case.key,
+            case.degree(),
             &case.delta,
             &case.h,
             &case.chi,
@@ -33,13 +38,21 @@ fn whole_proof(case: &Case) {
 
 #[test]
 fn taken_at_the_highest() {
-    whole_proof(&case(1, 320, 2, 2, 3));
-    whole_proof(&case(2, 3, 320, 2, 3));
-    whole_proof(&case(3, 3, 2, 48, 3));
-    whole_proof(&case(4, 3, 2, 2, 288));
-    whole_proof(&case(5, 1, 1, 1, 1));
-    whole_proof(&case(6, 160, 160, 48, 160));
-    whole_proof(&case(7, 320, 320, 2, 288));
+    for degree in [8, 4] {
+        whole_proof(&case(1, 320, 2, 2, 3, degree));
+        whole_proof(&case(2, 3, 320, 2, 3, degree));
+        whole_proof(&case(3, 3, 2, 48, 3, degree));
+        whole_proof(&case(4, 3, 2, 2, 288, degree));
+        whole_proof(&case(5, 1, 1, 1, 1, degree));
+    }
+    whole_proof(&case(6, 160, 160, 48, 160, 8));
+    whole_proof(&case(7, 320, 320, 2, 288, 8));
+}
+
+/// "sixteen leaves per tree: 150 variables, 43 repetitions (document 003)" (02, request 3).
+#[test]
+fn the_fast_set() {
+    whole_proof(&case(8, 150, 150, 43, 144, 4));
 }
 
 /// "every key served before gets the same replies", and those past the limits of 01 go on to the other questions: a
@@ -48,16 +61,18 @@ fn taken_at_the_highest() {
 fn headers_alone() {
     for (place, highest) in [(0, 320), (1, 320), (2, 48), (3, 288)] {
         for number in [0, 1, 47, 160, 161, 255, 256, 257, highest, highest + 1] {
-            let taken = (1..=highest).contains(&number);
-            let answer = test(&with_number(place, number)[..8], &[0]);
-            assert_eq!(word(answer), if taken { 3 } else { 2 } * 65_536);
+            for degree in [8, 4] {
+                let taken = (1..=highest).contains(&number);
+                let answer = test(&with_number(place, number)[..8], degree, &[0]);
+                assert_eq!(word(answer), if taken { 3 } else { 2 } * 65_536);
+            }
         }
     }
 }
 
 /// The key of a case, one number of its header replaced: "n, m, τ, t, two bytes each".
 fn with_number(place: usize, number: usize) -> Vec<u8> {
-    let mut key = case(9, 5, 3, 2, 4).key;
+    let mut key = case(9, 5, 3, 2, 4, 8).key;
     key[2 * place] = (number % 256) as u8;
     key[2 * place + 1] = (number / 256) as u8;
     key
@@ -65,24 +80,30 @@ fn with_number(place: usize, number: usize) -> Vec<u8> {
 
 #[test]
 fn refused_2_outside() {
+    refused_2_outside_at(8);
+    refused_2_outside_at(4);
+}
+
+fn refused_2_outside_at(degree: u32) {
     let refused_2 = Answer::Refused {
         number: 2,
         place: 0,
     };
     for (place, highest) in [(0, 320), (1, 320), (2, 48), (3, 288)] {
         for outside in [0, highest + 1, 512, 512 + 5, 65_535] {
-            assert_eq!(test(&with_number(place, outside), &[0]), refused_2);
+            assert_eq!(test(&with_number(place, outside), degree, &[0]), refused_2);
             // Also where the whole key has the length of such a shape, and so only 2 is left.
             if outside == highest + 1 {
                 let mut numbers = [5, 3, 2, 4];
                 numbers[place] = outside;
-                let larger = case(9, numbers[0], numbers[1], numbers[2], numbers[3]);
-                assert_eq!(test(&larger.key, &larger.witness), refused_2);
+                let larger = case(9, numbers[0], numbers[1], numbers[2], numbers[3], degree);
+                assert_eq!(test(&larger.key, degree, &larger.witness), refused_2);
                 let mut out = vec![0xEE; larger.proof_length()];
                 let before = out.clone();
                 assert_eq!(
                     prove(
                         &larger.key,
+                        degree,
                         &larger.leaves,
                         &larger.witness,
                         &larger.h,
@@ -95,6 +116,7 @@ fn refused_2_outside() {
                 assert_eq!(
                     verify(
                         &larger.key,
+                        degree,
                         &larger.delta,
                         &larger.h,
                         &larger.chi,
@@ -110,7 +132,12 @@ fn refused_2_outside() {
 
 #[test]
 fn refused_3_with_counts_up_to_the_highest() {
-    let case = case(9, 5, 3, 2, 4);
+    refused_3_at(8);
+    refused_3_at(4);
+}
+
+fn refused_3_at(degree: u32) {
+    let case = case(9, 5, 3, 2, 4, degree);
     let refused_3 = Answer::Refused {
         number: 3,
         place: 0,
@@ -123,22 +150,26 @@ fn refused_3_with_counts_up_to_the_highest() {
             let right = key[place..place + 4].to_vec();
             key[place..place + 4].copy_from_slice(&count.to_le_bytes());
             if key[place..place + 4] != right {
-                assert_eq!(test(&key, &case.witness), refused_3);
+                assert_eq!(test(&key, case.degree(), &case.witness), refused_3);
             }
         }
     }
     // Every cut past the header, and a byte more.
     for length in 8..case.key.len() {
-        assert_eq!(test(&case.key[..length], &case.witness), refused_3);
+        assert_eq!(
+            test(&case.key[..length], case.degree(), &case.witness),
+            refused_3
+        );
     }
     let mut longer = case.key.clone();
     longer.push(0);
-    assert_eq!(test(&longer, &case.witness), refused_3);
+    assert_eq!(test(&longer, case.degree(), &case.witness), refused_3);
     // The same in the proof: 12.
     let mut proof = vec![0; case.proof_length()];
     assert_eq!(
         prove(
             &case.key,
+            case.degree(),
             &case.leaves,
             &case.witness,
             &case.h,
@@ -148,7 +179,17 @@ fn refused_3_with_counts_up_to_the_highest() {
         Answer::Accepted
     );
     let opened = case.opened();
-    let at = |proof: &[u8]| verify(&case.key, &case.delta, &case.h, &case.chi, &opened, proof);
+    let at = |proof: &[u8]| {
+        verify(
+            &case.key,
+            case.degree(),
+            &case.delta,
+            &case.h,
+            &case.chi,
+            &opened,
+            proof,
+        )
+    };
     let refused_12 = Answer::Refused {
         number: 12,
         place: 0,
@@ -176,11 +217,17 @@ fn refused_3_with_counts_up_to_the_highest() {
 /// or longer, and also the next one longer or shorter by a byte, so that the whole length is right.
 #[test]
 fn refused_3_and_12_with_counts_that_fit_the_bytes() {
-    let case = case(10, 5, 3, 2, 4);
+    refused_3_and_12_at(8);
+    refused_3_and_12_at(4);
+}
+
+fn refused_3_and_12_at(degree: u32) {
+    let case = case(10, 5, 3, 2, 4, degree);
     let mut proof = vec![0; case.proof_length()];
     assert_eq!(
         prove(
             &case.key,
+            case.degree(),
             &case.leaves,
             &case.witness,
             &case.h,
@@ -196,14 +243,22 @@ fn refused_3_and_12_with_counts_that_fit_the_bytes() {
         for length in lengths {
             write_section(&mut key, &vec![0; length]);
         }
-        assert_eq!(word(test(&key, &case.witness)), 3 * 65_536);
+        assert_eq!(word(test(&key, case.degree(), &case.witness)), 3 * 65_536);
     }
     for lengths in other_lengths(&case.shape.proof_sections()) {
         let mut other = Vec::new();
         for length in lengths {
             write_section(&mut other, &vec![0; length]);
         }
-        let answer = verify(&case.key, &case.delta, &case.h, &case.chi, &opened, &other);
+        let answer = verify(
+            &case.key,
+            case.degree(),
+            &case.delta,
+            &case.h,
+            &case.chi,
+            &opened,
+            &other,
+        );
         assert_eq!(word(answer), 12 * 65_536);
     }
 }
@@ -231,7 +286,7 @@ fn other_lengths(right: &[usize]) -> Vec<Vec<usize>> {
 /// xᵀA_i·x is also xᵀA_iᵀ·x; this does.
 #[test]
 fn rows_and_columns_of_a() {
-    let case = case(11, 10, 3, 1, 1);
+    let case = case(11, 10, 3, 1, 1, 8);
     let key = case.read_key();
     let unit = |place: usize| -> Vec<u8> { (0..10).map(|c| (c == place) as u8).collect() };
     for i in 0..3 {

@@ -13,6 +13,7 @@ fn proof_of(case: &Case) -> Vec<u8> {
     let mut out = vec![0xEE; case.proof_length()];
     let answer = prove(
         &case.key,
+        case.degree(),
         &case.leaves,
         &case.witness,
         &case.h,
@@ -25,7 +26,15 @@ fn proof_of(case: &Case) -> Vec<u8> {
 
 fn verify_at(case: &Case, delta: &[u8], proof: &[u8]) -> Answer {
     let opened = open_leaves(&case.shape, &case.leaves, delta);
-    verify(&case.key, delta, &case.h, &case.chi, &opened, proof)
+    verify(
+        &case.key,
+        case.degree(),
+        delta,
+        &case.h,
+        &case.chi,
+        &opened,
+        proof,
+    )
 }
 
 #[test]
@@ -36,8 +45,8 @@ fn accepted_at_every_delta() {
         (3, 8, 8, 3, 8),
         (4, 9, 2, 2, 7),
     ] {
-        let case = case(seed, n, m, tau, t);
-        assert_eq!(test(&case.key, &case.witness), Answer::Accepted);
+        let case = case(seed, n, m, tau, t, 8);
+        assert_eq!(test(&case.key, 8, &case.witness), Answer::Accepted);
         let proof = proof_of(&case);
         for delta_0 in 0..=255u8 {
             let mut delta = case.delta.clone();
@@ -49,14 +58,59 @@ fn accepted_at_every_delta() {
     }
 }
 
+/// The same at degree 4, at all 16 or 256 Δ.
+#[test]
+fn accepted_at_every_delta_at_degree_4() {
+    for (seed, n, m, tau, t) in [
+        (1, 1, 1, 1, 1),
+        (2, 5, 3, 2, 4),
+        (3, 8, 8, 2, 8),
+        (4, 9, 2, 1, 7),
+    ] {
+        let case = case(seed, n, m, tau, t, 4);
+        assert_eq!(test(&case.key, 4, &case.witness), Answer::Accepted);
+        let proof = proof_of(&case);
+        for number in 0..16usize.pow(tau as u32) {
+            let delta: Vec<u8> = (0..tau).map(|e| (number >> (4 * e)) as u8 & 15).collect();
+            assert_eq!(verify_at(&case, &delta, &proof), Answer::Accepted);
+        }
+    }
+}
+
+/// "Degree 4 uses GF(16), modulus X^4+X+1": X·X³ = X+1, and what follows.
+#[test]
+fn products_over_gf16() {
+    for (a, b, product) in [
+        (2, 8, 3),
+        (2, 9, 1),
+        (8, 8, 12),
+        (4, 4, 3),
+        (7, 6, 1),
+        (15, 15, 10),
+        (0, 15, 0),
+        (1, 15, 15),
+    ] {
+        assert_eq!(GF16.mul(a, b), product);
+        assert_eq!(GF16.mul(b, a), product);
+    }
+    let powers: Vec<u8> = (0..4).map(|s| GF16.alpha_to(s)).collect();
+    assert_eq!(powers, [1, 2, 4, 8]);
+    assert_eq!(GF16.alpha_to(15), 1);
+}
+
 #[test]
 fn many_random_shapes() {
+    many_random_shapes_at(8);
+    many_random_shapes_at(4);
+}
+
+fn many_random_shapes_at(degree: u32) {
     for seed in 0..40u64 {
         let n = 1 + (seed * 7 % 20) as usize;
         let m = 1 + (seed * 5 % 13) as usize;
         let tau = 1 + (seed % 5) as usize;
         let t = 1 + (seed * 3 % 19) as usize;
-        let case = case(seed, n, m, tau, t);
+        let case = case(seed, n, m, tau, t, degree);
         let proof = proof_of(&case);
         assert_eq!(verify_at(&case, &case.delta, &proof), Answer::Accepted);
         // The candidate of an honest proof is the witness in every repetition.
@@ -72,6 +126,11 @@ fn many_random_shapes() {
 
 #[test]
 fn three_steps_are_the_whole() {
+    three_steps_at(8);
+    three_steps_at(4);
+}
+
+fn three_steps_at(degree: u32) {
     for seed in 100..120u64 {
         let case = case(
             seed,
@@ -79,22 +138,23 @@ fn three_steps_are_the_whole() {
             1 + (seed % 6) as usize,
             1 + (seed % 4) as usize,
             1 + (seed % 11) as usize,
+            degree,
         );
-        let lengths = case.shape.proof_sections();
-        let mut first = vec![0xEE; 8 + lengths[0] + lengths[1]];
-        let mut second = vec![0xEE; 8 + lengths[2] + lengths[3]];
-        let mut third = vec![0xEE; 8 + lengths[4] + lengths[5]];
+        let mut first = vec![0xEE; case.shape.commit_length()];
+        let mut second = vec![0xEE; case.shape.hash_length()];
+        let mut third = vec![0xEE; case.shape.batch_length()];
         assert_eq!(
-            commit(&case.key, &case.leaves, &case.witness, &mut first),
+            commit(&case.key, degree, &case.leaves, &case.witness, &mut first),
             Answer::Accepted
         );
         assert_eq!(
-            hash(&case.key, &case.leaves, &case.h, &mut second),
+            hash(&case.key, degree, &case.leaves, &case.h, &mut second),
             Answer::Accepted
         );
         assert_eq!(
             batch(
                 &case.key,
+                degree,
                 &case.leaves,
                 &case.witness,
                 &case.chi,
@@ -108,7 +168,7 @@ fn three_steps_are_the_whole() {
 
 #[test]
 fn x_squared_coefficient_is_0_for_a_solution() {
-    let case = case(7, 12, 9, 1, 3);
+    let case = case(7, 12, 9, 1, 3, 8);
     let key = case.read_key();
     let x = unpack(&case.witness, 12);
     let v_0 = leaves::v(&case.shape, &case.leaves, 0);
@@ -121,7 +181,7 @@ fn x_squared_coefficient_is_0_for_a_solution() {
 /// (v+Xx)ᵀA_i·(v+Xx) + X·(b_i·(v+Xx)) + y_i·X², for any v and any x.
 #[test]
 fn the_expansion_is_right_at_every_point() {
-    let case = case(8, 6, 4, 1, 1);
+    let case = case(8, 6, 4, 1, 1, 8);
     let key = case.read_key();
     let v_0 = &leaves::v(&case.shape, &case.leaves, 0)[..6];
     for number in 0..64u8 {
@@ -237,11 +297,50 @@ fn lengths_with_own_masks() {
     assert_eq!([toy.k(), toy.l(), toy.w()], [10, 11, 2]);
 }
 
+/// "16 leaves, 15 opened, four mask coordinates", by request 4 four for each repetition: k = n+4τ.
+#[test]
+fn lengths_at_degree_4() {
+    let largest = Shape::new(320, 320, 48, 288, 4);
+    assert_eq!([largest.k(), largest.l(), largest.w()], [512, 800, 100]);
+    assert_eq!(largest.leaves_length(), 48 * 16 * 100);
+    assert_eq!(largest.opened_length(), 48 * 15 * 100);
+    assert_eq!(largest.h_length(), 288 * 64);
+    let fast = Shape::new(150, 150, 43, 144, 4);
+    assert_eq!([fast.k(), fast.l(), fast.w()], [322, 466, 59]);
+    assert_eq!(fast.key_length(), 20 + 150 * 151 * 19 + 19);
+    assert_eq!(fast.chi_length(), 43 * 150);
+    assert_eq!(fast.commit_length(), 8 + 42 * 59 + 19);
+    assert_eq!(fast.hash_length(), 8 + 18 + 43 * 144);
+    assert_eq!(fast.batch_length(), 8 + 86);
+    let steps = fast.commit_length() + fast.hash_length() + fast.batch_length();
+    assert_eq!(fast.proof_length(), steps);
+}
+
+/// Every length of a case is its shape's, at both degrees.
+#[test]
+fn lengths_of_cases() {
+    for degree in [8, 4] {
+        for seed in 0..12 {
+            let case = case(seed, 1 + seed as usize, 9, 3, 5, degree);
+            let shape = case.shape;
+            assert_eq!([shape.degree(), case.degree()], [degree; 2]);
+            assert_eq!(case.key.len(), shape.key_length());
+            assert_eq!(case.witness.len(), shape.witness_length());
+            assert_eq!(case.leaves.len(), shape.leaves_length());
+            assert_eq!(case.opened().len(), shape.opened_length());
+            assert_eq!(case.h.len(), shape.h_length());
+            assert_eq!(case.chi.len(), shape.chi_length());
+            assert_eq!(case.delta.len(), shape.delta_length());
+            assert_eq!(proof_of(&case).len(), shape.proof_length());
+        }
+    }
+}
+
 /// A correction in a mask that is not the repetition's own is seen by consistency alone: where H′ is 0 there, by
 /// nothing.
 #[test]
 fn corrections_in_the_masks() {
-    let mut case = case(43, 4, 2, 3, 2);
+    let mut case = case(43, 4, 2, 3, 2, 8);
     case.h.fill(0);
     case.delta = vec![0x35, 0xC2, 0x01];
     let proof = proof_of(&case);
@@ -292,7 +391,7 @@ fn factors_of(case: &Case, proof: &[u8]) -> Vec<usize> {
 #[test]
 fn the_count_is_the_factor_for_one_repetition() {
     for seed in 0..12u64 {
-        let case = case(seed, 3, 2, 1, 2);
+        let case = case(seed, 3, 2, 1, 2, 8);
         let honest = proof_of(&case);
         let starts = starts(&case.shape);
         for (at, with) in [
@@ -319,7 +418,7 @@ fn the_count_is_the_factor_for_one_repetition() {
 #[test]
 fn the_count_is_the_product_for_two_repetitions() {
     // A wrong witness, each QS1 moved: at most two Δ_e pass in each repetition.
-    let case = case(21, 2, 1, 2, 1);
+    let case = case(21, 2, 1, 2, 1, 8);
     let honest = proof_of(&case);
     let starts = starts(&case.shape);
     let forged = flip(&flip(&honest, starts[1], 1), starts[5], 0x35);
@@ -343,12 +442,70 @@ fn the_count_is_the_product_for_two_repetitions() {
     assert_eq!(count, factors[0] * factors[1]);
 }
 
+/// "at degree 4 each factor is 0, 1, 2 or 16" (02, request 3): every change of one byte, and the count by
+/// the call itself over all 16 Δ. All four occur.
+#[test]
+fn factors_at_degree_4() {
+    let mut seen = [0; 17];
+    for seed in 0..6u64 {
+        let case = case(seed, 3, 2, 1, 2, 4);
+        let honest = proof_of(&case);
+        let starts = starts(&case.shape);
+        for (section, highest) in [(1, 8), (2, 4), (3, 16), (4, 16), (5, 16)] {
+            for with in 0..highest {
+                let changed = flip(&honest, starts[section], with);
+                let accepted =
+                    |delta: &u8| verify_at(&case, &[*delta], &changed) == Answer::Accepted;
+                let count = (0..16).filter(accepted).count();
+                assert_eq!(factors_of(&case, &changed), [count]);
+                seen[count] += 1;
+            }
+        }
+    }
+    for (count, times) in seen.iter().enumerate() {
+        assert_eq!([0, 1, 2, 16].contains(&count), *times > 0, "{count}");
+    }
+}
+
+/// A doctored proof at degree 4: the key with one bit of y changed, so that the witness fails, bytes honest
+/// otherwise, QS1 changed by f. With g the χ of that equation, QS1's change leaves g·Δ² + f·Δ = 0:
+/// accepted at exactly the two challenges 0 and f/g.
+#[test]
+fn doctored_at_degree_4() {
+    let case = case(5, 4, 2, 1, 3, 4);
+    let honest = proof_of(&case);
+    let g = case.chi[1];
+    assert_ne!(g, 0);
+    let mut doctored = case.clone();
+    *doctored.key.last_mut().unwrap() ^= 0b10;
+    let refused = Answer::Refused {
+        number: 11,
+        place: 1,
+    };
+    assert_eq!(test(&doctored.key, 4, &case.witness), refused);
+    let qs1 = starts(&case.shape)[5];
+    for f in 1..16 {
+        let changed = flip(&honest, qs1, f);
+        let accepted: Vec<u8> = (0..16)
+            .filter(|delta| verify_at(&doctored, &[*delta], &changed) == Answer::Accepted)
+            .collect();
+        assert_eq!(accepted.len(), 2);
+        assert_eq!(accepted[0], 0);
+        assert_eq!(GF16.mul(g, accepted[1]), f);
+    }
+}
+
 /// With a candidate whose batched error is not 0, and consistency holding everywhere, no QS0 and
 /// QS1 let more than two elements pass.
 #[test]
 fn at_most_two_for_a_batched_error() {
+    at_most_two_at(8, 29);
+    at_most_two_at(4, 2);
+}
+
+fn at_most_two_at(degree: u32, step: u8) {
     for seed in 0..30u64 {
-        let case = case(seed, 4, 3, 2, 2);
+        let case = case(seed, 4, 3, 2, 2, degree);
         let starts = starts(&case.shape);
         let forged = flip(&proof_of(&case), starts[1], 1 + (seed % 15) as u8);
         let key = case.read_key();
@@ -357,7 +514,7 @@ fn at_most_two_for_a_batched_error() {
             let x = candidate(&case.shape, e, &case.leaves, &read);
             let error = batched_error(&key, &x, case.shape.column(&case.chi, e));
             for qs1 in 0..8 {
-                let moved = flip(&forged, starts[5] + e, qs1 * 29);
+                let moved = flip(&forged, starts[5] + e, qs1 * step);
                 let factor = factors_of(&case, &moved)[e];
                 if error != 0 {
                     assert!(factor <= 2);

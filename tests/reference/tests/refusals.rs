@@ -8,6 +8,7 @@ use reference::*;
 #[derive(Clone)]
 struct Lent {
     key: Vec<u8>,
+    degree: u32,
     witness: Vec<u8>,
     leaves: Vec<u8>,
     h: Vec<u8>,
@@ -18,14 +19,17 @@ struct Lent {
     out: [usize; 4],
 }
 
-fn sitting() -> (Case, Lent) {
-    // n, m, k, L and t leave spare bits; k = 29, L = 33.
-    let case = case(31, 5, 3, 3, 4);
-    let lengths = case.shape.proof_sections();
+const DEGREES: [u32; 2] = [8, 4];
+
+fn sitting(degree: u32) -> (Case, Lent) {
+    // n, m, k, L and t leave spare bits: k = 29, L = 33 at degree 8, k = 17, L = 21 at degree 4.
+    let case = case(31, 5, 3, 3, 4, degree);
+    let shape = case.shape;
     let mut proof = vec![0; case.proof_length()];
     assert_eq!(
         prove(
             &case.key,
+            degree,
             &case.leaves,
             &case.witness,
             &case.h,
@@ -36,6 +40,7 @@ fn sitting() -> (Case, Lent) {
     );
     let lent = Lent {
         key: case.key.clone(),
+        degree,
         witness: case.witness.clone(),
         leaves: case.leaves.clone(),
         h: case.h.clone(),
@@ -43,10 +48,10 @@ fn sitting() -> (Case, Lent) {
         delta: case.delta.clone(),
         opened: case.opened(),
         out: [
-            8 + lengths[0] + lengths[1],
-            8 + lengths[2] + lengths[3],
-            8 + lengths[4] + lengths[5],
-            proof.len(),
+            shape.commit_length(),
+            shape.hash_length(),
+            shape.batch_length(),
+            shape.proof_length(),
         ],
         proof,
     };
@@ -55,22 +60,25 @@ fn sitting() -> (Case, Lent) {
 
 const CALLS: [&str; 6] = ["test", "commit", "hash", "batch", "prove", "verify"];
 
-/// The questions "that concern its inputs", by call.
-fn questions(call: &str) -> Vec<u32> {
-    match call {
-        "test" => vec![1, 2, 3, 4, 9, 11],
-        "commit" => vec![1, 2, 3, 4, 7, 8, 9, 10, 11],
-        "hash" => vec![1, 2, 3, 4, 5, 6, 7, 8, 10],
-        "batch" => vec![1, 2, 3, 4, 5, 7, 8, 9, 10, 11],
-        "prove" => vec![1, 2, 3, 4, 5, 6, 7, 8, 9, 10, 11],
-        _ => vec![1, 2, 3, 4, 5, 6, 7, 8, 12, 13, 14, 15],
-    }
+/// The questions "that concern its inputs", by call, in the order in which they are put. 17 and 18 speak of
+/// degree 4 alone: at degree 8 "a byte is an element".
+fn questions(call: &str, degree: u32) -> Vec<u32> {
+    let mut numbers = match call {
+        "test" => vec![16, 1, 2, 3, 4, 9, 11],
+        "commit" => vec![16, 1, 2, 3, 4, 7, 8, 9, 10, 11],
+        "hash" => vec![16, 1, 2, 3, 4, 5, 6, 7, 8, 10],
+        "batch" => vec![16, 1, 2, 3, 4, 5, 17, 7, 8, 9, 10, 11],
+        "prove" => vec![16, 1, 2, 3, 4, 5, 6, 17, 7, 8, 9, 10, 11],
+        _ => vec![16, 1, 2, 3, 4, 5, 6, 17, 7, 8, 12, 13, 18, 14, 15],
+    };
+    numbers.retain(|number| degree == 4 || ![17, 18].contains(number));
+    numbers
 }
 
 /// Puts a call; looks that a refusal leaves the output as it was, and that an acceptance writes
 /// its sections of the honest proof.
 fn put(call: &str, lent: &Lent, honest: &[u8]) -> Answer {
-    let (key, leaves) = (&lent.key, &lent.leaves);
+    let (key, degree, leaves) = (&lent.key, lent.degree, &lent.leaves);
     let [first, second, third, whole] = lent.out;
     // The output of the call, and where its sections start in the proof.
     let (mut out, start) = match call {
@@ -81,13 +89,22 @@ fn put(call: &str, lent: &Lent, honest: &[u8]) -> Answer {
         _ => (Vec::new(), 0),
     };
     let answer = match call {
-        "test" => test(key, &lent.witness),
-        "commit" => commit(key, leaves, &lent.witness, &mut out),
-        "hash" => hash(key, leaves, &lent.h, &mut out),
-        "batch" => batch(key, leaves, &lent.witness, &lent.chi, &mut out),
-        "prove" => prove(key, leaves, &lent.witness, &lent.h, &lent.chi, &mut out),
+        "test" => test(key, degree, &lent.witness),
+        "commit" => commit(key, degree, leaves, &lent.witness, &mut out),
+        "hash" => hash(key, degree, leaves, &lent.h, &mut out),
+        "batch" => batch(key, degree, leaves, &lent.witness, &lent.chi, &mut out),
+        "prove" => prove(
+            key,
+            degree,
+            leaves,
+            &lent.witness,
+            &lent.h,
+            &lent.chi,
+            &mut out,
+        ),
         _ => verify(
             key,
+            degree,
             &lent.delta,
             &lent.h,
             &lent.chi,
@@ -116,14 +133,14 @@ fn spoil(number: u32, call: &str, lent: &mut Lent) {
             "prove" => lent.chi.truncate(1),
             _ => lent.delta.push(0),
         },
-        6 => lent.h[3] |= 0x80,
+        6 => lent.h[row(lent.degree) - 1] |= 0x80,
         7 => {
             lent.leaves.push(0);
             lent.opened.push(0);
         }
         8 => {
-            lent.leaves[4] |= 0x80;
-            lent.opened[4] |= 0x80;
+            lent.leaves[w(lent.degree) - 1] |= 0x80;
+            lent.opened[w(lent.degree) - 1] |= 0x80;
         }
         9 => lent.witness[0] |= 0x80,
         10 => lent.out = lent.out.map(|length| length + 1),
@@ -133,7 +150,13 @@ fn spoil(number: u32, call: &str, lent: &mut Lent) {
             lent.key[last] ^= 0b10;
         }
         12 => lent.proof.push(0),
-        13 => lent.proof[8] |= 0x80,
+        13 => lent.proof[4 + w(lent.degree) - 1] |= 0x80,
+        16 => lent.degree += 1,
+        17 => match call {
+            "verify" => lent.delta[2] |= 0x10,
+            _ => *lent.chi.last_mut().unwrap() |= 0x10,
+        },
+        18 => *lent.proof.last_mut().unwrap() |= 0x10,
         14 => {
             // Ṽ of repetition 2, hash row 3.
             let at = lent.out[0] + 4 + 1 + 4 + 2 * 4 + 3;
@@ -144,6 +167,22 @@ fn spoil(number: u32, call: &str, lent: &mut Lent) {
             let at = lent.out[0] + lent.out[1] + 4 + 1;
             lent.proof[at] ^= 1;
         }
+    }
+}
+
+/// The bytes of a leaf: L is 33 at degree 8, 21 at degree 4.
+fn w(degree: u32) -> usize {
+    match degree {
+        4 => 3,
+        _ => 5,
+    }
+}
+
+/// The bytes of a row of H′: k is 29 at degree 8, 17 at degree 4.
+fn row(degree: u32) -> usize {
+    match degree {
+        4 => 3,
+        _ => 4,
     }
 }
 
@@ -158,7 +197,13 @@ fn place_of(number: u32) -> u32 {
 
 #[test]
 fn honest_is_accepted_by_every_call() {
-    let (_, lent) = sitting();
+    for degree in DEGREES {
+        honest_is_accepted_by_every_call_at(degree);
+    }
+}
+
+fn honest_is_accepted_by_every_call_at(degree: u32) {
+    let (_, lent) = sitting(degree);
     for call in CALLS {
         assert_eq!(put(call, &lent, &lent.proof), Answer::Accepted);
     }
@@ -166,9 +211,15 @@ fn honest_is_accepted_by_every_call() {
 
 #[test]
 fn every_refusal_of_every_call() {
-    let (_, lent) = sitting();
+    for degree in DEGREES {
+        every_refusal_of_every_call_at(degree);
+    }
+}
+
+fn every_refusal_of_every_call_at(degree: u32) {
+    let (_, lent) = sitting(degree);
     for call in CALLS {
-        for number in questions(call) {
+        for number in questions(call, degree) {
             let mut spoiled = lent.clone();
             spoil(number, call, &mut spoiled);
             let answer = put(call, &spoiled, &lent.proof);
@@ -183,9 +234,15 @@ fn every_refusal_of_every_call() {
 /// "in this order": where two questions get a no, the call ends with the earlier.
 #[test]
 fn the_earlier_question_ends_the_call() {
-    let (_, lent) = sitting();
+    for degree in DEGREES {
+        the_earlier_question_ends_the_call_at(degree);
+    }
+}
+
+fn the_earlier_question_ends_the_call_at(degree: u32) {
+    let (_, lent) = sitting(degree);
     for call in CALLS {
-        let numbers = questions(call);
+        let numbers = questions(call, degree);
         for (index, earlier) in numbers.iter().enumerate() {
             for later in &numbers[index + 1..] {
                 let mut spoiled = lent.clone();
@@ -203,7 +260,13 @@ fn the_earlier_question_ends_the_call() {
 /// the calls that take both, and each alone is enough for a no.
 #[test]
 fn question_5_is_one_question() {
-    let (_, lent) = sitting();
+    for degree in DEGREES {
+        question_5_is_one_question_at(degree);
+    }
+}
+
+fn question_5_is_one_question_at(degree: u32) {
+    let (_, lent) = sitting(degree);
     let number_of = |call: &str, spoil: &dyn Fn(&mut Lent)| {
         let mut spoiled = lent.clone();
         spoil(&mut spoiled);
@@ -225,7 +288,7 @@ fn question_5_is_one_question() {
         // Wrong χ before the spare bits of H′.
         let both = |lent: &mut Lent| {
             change(&mut lent.chi);
-            lent.h[3] |= 0x80;
+            lent.h[row(lent.degree) - 1] |= 0x80;
         };
         assert_eq!(number_of("prove", &both), 5);
         assert_eq!(number_of("verify", &both), 5);
@@ -235,7 +298,13 @@ fn question_5_is_one_question() {
 /// Every spare bit of every string, each alone.
 #[test]
 fn every_spare_bit() {
-    let (case, lent) = sitting();
+    for degree in DEGREES {
+        every_spare_bit_at(degree);
+    }
+}
+
+fn every_spare_bit_at(degree: u32) {
+    let (case, lent) = sitting(degree);
     let shape = case.shape;
     // Each: the bytes of one string, the bits in it.
     let each_spare = |length: usize, bits: usize| -> Vec<(usize, u8)> {
@@ -258,7 +327,7 @@ fn every_spare_bit() {
         for (at, with) in each_spare(length, bits) {
             let mut key = lent.key.clone();
             key[start + at] |= with;
-            assert_eq!(word(test(&key, &lent.witness)), 4 * 65_536);
+            assert_eq!(word(test(&key, degree, &lent.witness)), 4 * 65_536);
         }
     }
     for (at, with) in each_spare(shape.h_length(), shape.k()) {
@@ -281,7 +350,7 @@ fn every_spare_bit() {
     for (at, with) in each_spare(shape.witness_length(), shape.n) {
         let mut witness = lent.witness.clone();
         witness[at] |= with;
-        assert_eq!(word(test(&lent.key, &witness)), 9 * 65_536);
+        assert_eq!(word(test(&lent.key, degree, &witness)), 9 * 65_536);
     }
     let lengths = shape.proof_sections();
     let [c, d, u] = [4, 8 + lengths[0], 12 + lengths[0] + lengths[1]];
@@ -297,7 +366,7 @@ fn every_spare_bit() {
         }
     }
     for witness in [&[][..], &[0, 0][..]] {
-        assert_eq!(word(test(&lent.key, witness)), 9 * 65_536);
+        assert_eq!(word(test(&lent.key, degree, witness)), 9 * 65_536);
     }
 }
 
@@ -305,7 +374,13 @@ fn every_spare_bit() {
 /// call that takes a witness": every set of equations that fail.
 #[test]
 fn the_lowest_failing_equation() {
-    let (_, lent) = sitting();
+    for degree in DEGREES {
+        the_lowest_failing_equation_at(degree);
+    }
+}
+
+fn the_lowest_failing_equation_at(degree: u32) {
+    let (_, lent) = sitting(degree);
     let last = lent.key.len() - 1;
     for errors in 1..8u8 {
         let mut spoiled = lent.clone();
@@ -322,7 +397,7 @@ fn the_lowest_failing_equation() {
 /// and with the last.
 #[test]
 fn the_lowest_failing_equation_of_many() {
-    let case = case(32, 3, 21, 1, 2);
+    let case = case(32, 3, 21, 1, 2, 8);
     let y = case.key.len() - 3;
     for first in 0..21 {
         for others in [first..first, first + 1..21, first.max(20)..21] {
@@ -332,7 +407,7 @@ fn the_lowest_failing_equation_of_many() {
                 key[y + other / 8] ^= 1 << (other % 8);
             }
             assert_eq!(
-                test(&key, &case.witness),
+                test(&key, 8, &case.witness),
                 Answer::Refused {
                     number: 11,
                     place: first as u32
@@ -346,7 +421,13 @@ fn the_lowest_failing_equation_of_many() {
 /// repetitions before 15 of any.
 #[test]
 fn first_repetition_and_order_of_14_and_15() {
-    let (_, lent) = sitting();
+    for degree in DEGREES {
+        first_repetition_and_order_of_14_and_15_at(degree);
+    }
+}
+
+fn first_repetition_and_order_of_14_and_15_at(degree: u32) {
+    let (_, lent) = sitting(degree);
     let v_tilde = |e: usize| lent.out[0] + 4 + 1 + 4 + e * 4;
     let qs0 = |e: usize| lent.out[0] + lent.out[1] + 4 + e;
     for consistency in 0..8usize {
@@ -366,4 +447,109 @@ fn first_repetition_and_order_of_14_and_15() {
             assert_eq!(word(put("verify", &spoiled, &lent.proof)), expected);
         }
     }
+}
+
+/// "16, degree neither 8 nor 4, first of all questions": for any number, before the key is looked at, and
+/// with nothing written.
+#[test]
+fn every_other_degree() {
+    let (_, lent) = sitting(4);
+    let low = (0..40).filter(|degree| ![8, 4].contains(degree));
+    let high = [
+        256 + 4,
+        256 + 8,
+        65_536 + 4,
+        1 << 31,
+        u32::MAX - 3,
+        u32::MAX,
+    ];
+    for degree in low.chain(high) {
+        for call in CALLS {
+            let mut spoiled = lent.clone();
+            spoiled.degree = degree;
+            assert_eq!(word(put(call, &spoiled, &lent.proof)), 16 * 65_536);
+            spoiled.key.clear();
+            assert_eq!(word(put(call, &spoiled, &lent.proof)), 16 * 65_536);
+        }
+    }
+}
+
+/// A key is the same at both degrees. What else is lent at the other one has wrong lengths: H′ first, where
+/// the call takes it, else the leaves.
+#[test]
+fn lent_at_the_other_degree() {
+    for (made, named) in [(8, 4), (4, 8)] {
+        let (_, mut lent) = sitting(made);
+        let proof = lent.proof.clone();
+        lent.degree = named;
+        assert_eq!(put("test", &lent, &proof), Answer::Accepted);
+        for (call, number) in [("hash", 5), ("prove", 5), ("verify", 5), ("commit", 7)] {
+            assert_eq!(word(put(call, &lent, &proof)), number * 65_536);
+        }
+        // Bytes of χ above 15 are 17 at degree 4, before the leaves are looked at.
+        let number = if named == 4 { 17 } else { 7 };
+        assert_eq!(word(put("batch", &lent, &proof)), number * 65_536);
+    }
+}
+
+/// "17, a byte of Δ or χ above 15 at degree 4, after 6": every byte of Δ and χ, each alone, and every bit
+/// past the fourth. 15 is taken.
+#[test]
+fn every_byte_of_question_17() {
+    let (case, lent) = sitting(4);
+    for bit in 4..8 {
+        for at in 0..case.shape.chi_length() {
+            let mut spoiled = lent.clone();
+            spoiled.chi[at] |= 1 << bit;
+            for call in ["batch", "prove", "verify"] {
+                assert_eq!(word(put(call, &spoiled, &lent.proof)), 17 * 65_536);
+            }
+        }
+        for at in 0..case.shape.delta_length() {
+            let mut spoiled = lent.clone();
+            spoiled.delta[at] |= 1 << bit;
+            assert_eq!(word(put("verify", &spoiled, &lent.proof)), 17 * 65_536);
+        }
+    }
+    let mut highest = lent.clone();
+    highest.delta.fill(15);
+    highest.opened = open_leaves(&case.shape, &case.leaves, &highest.delta);
+    assert_eq!(put("verify", &highest, &lent.proof), Answer::Accepted);
+}
+
+/// "18, a byte of Ṽ, QS0 or QS1 above 15 at degree 4, after 13": every byte of the three, each alone, and
+/// every bit past the fourth; bytes of C, d and ũ are not asked.
+#[test]
+fn every_byte_of_question_18() {
+    let (case, lent) = sitting(4);
+    let mut start = 0;
+    for (section, length) in case.shape.proof_sections().iter().enumerate() {
+        for at in start + 4..start + 4 + length {
+            for bit in 4..8 {
+                let mut spoiled = lent.clone();
+                spoiled.proof[at] ^= 1 << bit;
+                let answer = put("verify", &spoiled, &lent.proof);
+                let is_18 = word(answer) == 18 * 65_536;
+                assert_eq!(is_18, section >= 3, "{section} {at}");
+            }
+        }
+        start += 4 + length;
+    }
+}
+
+/// At degree 8 neither is put: bytes above 15 are elements like others.
+#[test]
+fn no_17_and_18_at_degree_8() {
+    let (case, lent) = sitting(8);
+    assert!(lent.chi.iter().any(|byte| *byte > 15));
+    assert!(lent.delta.iter().any(|byte| *byte > 15));
+    assert!(lent.proof[lent.out[0]..].iter().any(|byte| *byte > 15));
+    let delta = vec![0xFF; case.shape.tau];
+    let mut highest = lent.clone();
+    highest.opened = open_leaves(&case.shape, &case.leaves, &delta);
+    highest.delta = delta;
+    assert_eq!(put("verify", &highest, &lent.proof), Answer::Accepted);
+    highest.proof[lent.out[0] + 4 + 1 + 4] ^= 0xF0;
+    let refused = word(put("verify", &highest, &lent.proof));
+    assert_eq!(refused, 14 * 65_536);
 }

@@ -50,7 +50,7 @@ fn proof(u_tilde: u8, qs1: u8) -> Vec<u8> {
 
 fn verify_at(key: &[u8], delta: u8, proof: &[u8]) -> Answer {
     let opened = open_leaves(&shape(), &leaves(), &[delta]);
-    verify(key, &[delta], &H, &CHI, &opened, proof)
+    verify(key, 8, &[delta], &H, &CHI, &opened, proof)
 }
 
 fn refused(number: u32, place: u32) -> Answer {
@@ -89,9 +89,9 @@ fn sums_of_leaves() {
 #[test]
 fn the_proof() {
     let mut out = vec![0xEE; 29];
-    assert_eq!(test(&key(1), &X), Answer::Accepted);
+    assert_eq!(test(&key(1), 8, &X), Answer::Accepted);
     assert_eq!(
-        prove(&key(1), &leaves(), &X, &H, &CHI, &mut out),
+        prove(&key(1), 8, &leaves(), &X, &H, &CHI, &mut out),
         Answer::Accepted
     );
     assert_eq!(out, proof(0x01, 0x04));
@@ -113,10 +113,10 @@ fn the_verifier() {
 
 #[test]
 fn y_is_0() {
-    assert_eq!(test(&key(0), &X), refused(11, 0));
+    assert_eq!(test(&key(0), 8, &X), refused(11, 0));
     let mut out = vec![0xEE; 29];
     assert_eq!(
-        prove(&key(0), &leaves(), &X, &H, &CHI, &mut out),
+        prove(&key(0), 8, &leaves(), &X, &H, &CHI, &mut out),
         refused(11, 0)
     );
     assert_eq!(out, vec![0xEE; 29]);

@@ -1,7 +1,6 @@
 //! All sittings of the files of vectors: of the two older files, made by other hands, those with one repetition; and of
 //! the rendering's own two, with a mask for each repetition.
 
-use reference::calls::questions_14_and_15;
 use reference::check::line;
 use reference::factors::factors;
 use reference::field::{Field, GF16, GF256};
@@ -232,23 +231,17 @@ fn more_equations(field: Field, sitting: &Sitting) {
     }
 }
 
-/// A proof of the right form: questions 13 to 15.
+/// The verifier's word for a proof.
 fn reply(key: &Key, sitting: &Sitting, proof: &[u8]) -> u32 {
-    let proof = verifier::sections(&key.shape, proof).unwrap();
-    if !proof.spare_bits_are_0(&key.shape) {
-        return 13 * 65_536;
-    }
-    match questions_14_and_15(
-        key,
+    word(verify(
+        &sitting.key,
+        key.shape.degree(),
         &sitting.delta,
         &sitting.h,
         &sitting.chi,
         &sitting.opened,
-        &proof,
-    ) {
-        Ok(()) => 0,
-        Err(refusal) => word(refusal),
-    }
+        proof,
+    ))
 }
 
 fn factors_of(key: &Key, sitting: &Sitting, proof: &[u8]) -> Vec<usize> {
@@ -273,55 +266,40 @@ fn change(key: &Key, sitting: &Sitting, changed: &Changed) -> Vec<u8> {
     proof
 }
 
-/// What the calls say of a sitting over GF(256).
-fn calls(sitting: &Sitting) {
-    assert_eq!(test(&sitting.key, &sitting.witness), Answer::Accepted);
-    let mut out = vec![0xEE; sitting.proof.len()];
-    assert_eq!(
-        prove(
-            &sitting.key,
-            &sitting.leaves,
-            &sitting.witness,
-            &sitting.h,
-            &sitting.chi,
-            &mut out
-        ),
-        Answer::Accepted
-    );
+/// What the calls say of a sitting at the degree of the field: the whole and the three steps.
+fn calls(field: Field, sitting: &Sitting) {
+    let shape = header(field, &sitting.key);
+    let degree = shape.degree();
+    let (key, leaves, witness) = (&sitting.key, &sitting.leaves, &sitting.witness);
+    let (h, chi) = (&sitting.h, &sitting.chi);
+    assert_eq!(test(key, degree, witness), Answer::Accepted);
+    let mut out = vec![0xEE; shape.proof_length()];
+    let answer = prove(key, degree, leaves, witness, h, chi, &mut out);
+    assert_eq!(answer, Answer::Accepted);
     assert_eq!(out, sitting.proof);
 
-    let lengths = header(GF256, &sitting.key).proof_sections();
-    let mut first = vec![0xEE; 8 + lengths[0] + lengths[1]];
-    let mut second = vec![0xEE; 8 + lengths[2] + lengths[3]];
-    let mut third = vec![0xEE; 8 + lengths[4] + lengths[5]];
-    let (key, leaves, witness) = (&sitting.key, &sitting.leaves, &sitting.witness);
-    assert_eq!(commit(key, leaves, witness, &mut first), Answer::Accepted);
-    assert_eq!(hash(key, leaves, &sitting.h, &mut second), Answer::Accepted);
-    assert_eq!(
-        batch(key, leaves, witness, &sitting.chi, &mut third),
-        Answer::Accepted
-    );
+    let mut first = vec![0xEE; shape.commit_length()];
+    let mut second = vec![0xEE; shape.hash_length()];
+    let mut third = vec![0xEE; shape.batch_length()];
+    let answers = [
+        commit(key, degree, leaves, witness, &mut first),
+        hash(key, degree, leaves, h, &mut second),
+        batch(key, degree, leaves, witness, chi, &mut third),
+    ];
+    assert_eq!(answers, [Answer::Accepted; 3]);
     assert_eq!([first, second, third].concat(), sitting.proof);
+}
 
-    verified(sitting, &sitting.proof, sitting.reply);
-    let shape = header(GF256, &sitting.key);
-    let read_key = sections(shape, &sitting.key).unwrap();
+/// The check program's line for the proof and each change; "the check program stays at 8" (02, request 3).
+fn lines(sitting: &Sitting) {
+    checked(sitting, &sitting.proof, sitting.reply);
+    let key = sections(header(GF256, &sitting.key), &sitting.key).unwrap();
     for changed in &sitting.changed {
-        verified(sitting, &change(&read_key, sitting, changed), changed.reply);
+        checked(sitting, &change(&key, sitting, changed), changed.reply);
     }
 }
 
-/// The verifier's word, and the check program's line, for a proof.
-fn verified(sitting: &Sitting, proof: &[u8], reply: u32) {
-    let answer = verify(
-        &sitting.key,
-        &sitting.delta,
-        &sitting.h,
-        &sitting.chi,
-        &sitting.opened,
-        proof,
-    );
-    assert_eq!(word(answer), reply);
+fn checked(sitting: &Sitting, proof: &[u8], reply: u32) {
     let mut input = Vec::new();
     for section in [
         &sitting.key[..],
@@ -356,7 +334,8 @@ fn degree_8() {
     assert_eq!(counted(&sittings), [1, 5, 0]);
     for sitting in &sittings {
         equations(GF256, sitting);
-        calls(sitting);
+        calls(GF256, sitting);
+        lines(sitting);
     }
 }
 
@@ -366,6 +345,7 @@ fn degree_4() {
     assert_eq!(counted(&sittings), [1, 8, 0]);
     for sitting in &sittings {
         equations(GF16, sitting);
+        calls(GF16, sitting);
     }
 }
 
@@ -377,7 +357,8 @@ fn masks_of_degree_8() {
         assert!(!sitting.steps.is_empty());
         equations(GF256, sitting);
         more_equations(GF256, sitting);
-        calls(sitting);
+        calls(GF256, sitting);
+        lines(sitting);
     }
     assert_eq!(MASKS_8, reference::sittings::degree_8());
 }
@@ -388,6 +369,7 @@ fn masks_of_degree_4() {
     assert_eq!(counted(&sittings), [2, 24, 5]);
     for sitting in &sittings {
         equations(GF16, sitting);
+        calls(GF16, sitting);
         more_equations(GF16, sitting);
     }
     assert_eq!(MASKS_4, reference::sittings::degree_4());

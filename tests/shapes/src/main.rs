@@ -1,14 +1,21 @@
-//! Prints the fuzzer's shapes, one to a line: n, m, τ, t. It has a case for each, in this order. `shapes challenges`
-//! prints the challenges at which the leaf that is left out stands otherwise among its four.
+//! Prints the fuzzer's shapes, one to a line: n, m, τ, t, degree; those at degree 8, then those at degree 4. It has a
+//! case for each, in this order. `shapes challenges DEGREE` prints the challenges at which the leaf that is left out
+//! stands otherwise among its four; without a degree, those at 8.
 
 fn main() {
-    if std::env::args().nth(1).as_deref() == Some("challenges") {
-        for delta in shapes::challenges() {
+    let words: Vec<String> = std::env::args().skip(1).collect();
+    if words.first().map(String::as_str) == Some("challenges") {
+        let degree = if words.get(1).map(String::as_str) == Some("4") {
+            4
+        } else {
+            8
+        };
+        for delta in shapes::challenges(degree) {
             println!("{delta}");
         }
         return;
     }
-    for (n, m, tau, t) in shapes::light() {
-        println!("{n} {m} {tau} {t}");
+    for (n, m, tau, t, degree) in shapes::DEGREES.into_iter().flat_map(shapes::light) {
+        println!("{n} {m} {tau} {t} {degree}");
     }
 }

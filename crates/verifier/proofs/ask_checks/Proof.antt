@@ -20,9 +20,9 @@ use Rattle.format.specs.Verdict.{answerOf}
 use Rattle.format.proofs.AskLaws.{then-ask, go-on, stop-at}
 use Rattle.format.proofs.SizeLaws.{in-limits, w-most}
 use Rattle.sections.proofs.Writes.{take-length}
-use Rattle.verifier.specs.Proved.{Opened}
-use Rattle.verifier.proofs.ProvedLaws.{section-lengths}
-use Rattle.verifier.proofs.AnswerLaws.{asked-of-each}
+use Rattle.tables.specs.Opened.{Opened}
+use Rattle.questions.proofs.ProofLaws.{section-lengths}
+use Rattle.questions.proofs.AnswerLaws.{asked-of-each}
 use Rattle.verifier.proofs.GivenLaws.{opened-is, opened-begins, opened-long}
 use Rattle.verifier.proofs.ask_checks.Statement.{statement}
 use Rattle.verifier.proofs.ask_checks.Tie as tie
@@ -65,7 +65,7 @@ load-opened-requires c κs =
       take-length (8 * wOf bits256 shape * lanes) (now (s .args .space)) (s .pre .1 .0),
       opened-long shape (now (s .args .opened)) (facts .of-opened),
       facts .of-challenge,
-      c .before .proof-section .ensures (s .args .s) (facts .of-proof) .1 ∙ section-lengths shape .c-length,
+      c .before .proof-section .ensures (s .args .s) (facts .of-proof) .1 ∙ section-lengths bits256 shape .c-length,
       in-limits shape (facts .of-key .in-range) .τ-most,
       omega (arith, w-most shape (facts .of-key .in-range)),
       omega arith,

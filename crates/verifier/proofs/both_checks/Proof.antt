@@ -3,7 +3,7 @@
 -- Assumes nothing.
 use borrow.Author.Needs.{needs}
 use native.Mathlib.Omega.{arith}
-use Rattle.format.specs.Sizes.{shapeFor}
+use Rattle.format.specs.Sizes.{settingFor, shapeFor}
 use Rattle.format.proofs.FitLaws.{room}
 use Rattle.verifier.proofs.both_checks.Statement.{statement}
 use Rattle.verifier.proofs.both_checks.Tie as tie
@@ -14,7 +14,7 @@ slice-aggregate-ask-checks c = search needs
 ask-checks-requires : tie.Need-ask-checks-requires
 ask-checks-requires c κs =
     let s = c .before .before .before .before .before .before .before in
-    (s .pre, (omega (arith, room (shapeFor (s .args .s)) (s .pre .0 .of-key .in-range) .table-room), omega arith))
+    (s .pre, (omega (arith, room (settingFor (s .args .s)) (shapeFor (s .args .s)) (s .pre .0 .of-key .in-range) .table-room), omega arith))
 
 returns : tie.Need-returns
 returns c = search needs

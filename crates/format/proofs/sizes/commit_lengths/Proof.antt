@@ -3,7 +3,7 @@
 use native.Mathlib.Omega.{arith}
 use borrow.Author.Needs.{needs}
 use Rattle.protocol.specs.Sections.{commitLengths}
-use Rattle.format.specs.Sizes.{shapeFor}
+use Rattle.format.specs.Sizes.{settingFor, shapeFor}
 use Rattle.format.proofs.SizeLaws.{in-limits, corrections-most}
 use Rattle.format.proofs.sizes.commit_lengths.Statement.{statement}
 use Rattle.format.proofs.sizes.commit_lengths.Tie as tie
@@ -15,7 +15,7 @@ leaf-bytes-requires : tie.Need-leaf-bytes-requires
 leaf-bytes-requires c κs = search needs
 
 mul-t4 : tie.Need-mul-t4
-mul-t4 c = rw (c .leaf-bytes .ensures) (omega (arith, corrections-most (shapeFor (c .before .before .args .s)) (c .before .before .pre)))
+mul-t4 c = rw (c .leaf-bytes .ensures) (omega (arith, corrections-most (settingFor (c .before .before .args .s)) (shapeFor (c .before .before .args .s)) (c .before .before .pre)))
 
 witness-bytes-requires : tie.Need-witness-bytes-requires
 witness-bytes-requires c κs = search needs

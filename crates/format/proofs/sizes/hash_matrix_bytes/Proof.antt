@@ -2,7 +2,7 @@
 -- Assumes nothing.
 use native.Mathlib.Omega.{arith}
 use borrow.Author.Needs.{needs}
-use Rattle.format.specs.Sizes.{shapeFor}
+use Rattle.format.specs.Sizes.{settingFor, shapeFor}
 use Rattle.format.proofs.SizeLaws.{k-most, hash-matrix-most}
 use Rattle.format.proofs.sizes.hash_matrix_bytes.Statement.{statement}
 use Rattle.format.proofs.sizes.hash_matrix_bytes.Tie as tie
@@ -11,10 +11,10 @@ hashed-bits-requires : tie.Need-hashed-bits-requires
 hashed-bits-requires c κs = search needs
 
 bytes-for-requires : tie.Need-bytes-for-requires
-bytes-for-requires c κs = omega (arith, k-most (shapeFor (c .before .args .s)) (c .before .pre))
+bytes-for-requires c κs = omega (arith, k-most (settingFor (c .before .args .s)) (shapeFor (c .before .args .s)) (c .before .pre))
 
 mul-result : tie.Need-mul-result
-mul-result c = rw (c .before .bytes-for .ensures, c .before .before .hashed-bits .ensures) (omega (arith, hash-matrix-most (shapeFor (c .before .before .before .args .s)) (c .before .before .before .pre)))
+mul-result c = rw (c .before .bytes-for .ensures, c .before .before .hashed-bits .ensures) (omega (arith, hash-matrix-most (settingFor (c .before .before .before .args .s)) (shapeFor (c .before .before .before .args .s)) (c .before .before .before .pre)))
 
 returns : tie.Need-returns
 returns c = rw (c .before .bytes-for .ensures, c .before .before .hashed-bits .ensures)

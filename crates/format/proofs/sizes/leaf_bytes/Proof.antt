@@ -3,7 +3,7 @@
 use native.Mathlib.Omega.{arith}
 use borrow.Author.Needs.{needs}
 use Rattle.protocol.specs.Shape.{wOf}
-use Rattle.format.specs.Sizes.{shapeFor}
+use Rattle.format.specs.Sizes.{settingFor, shapeFor}
 use Rattle.format.proofs.SizeLaws.{l-most}
 use Rattle.format.proofs.sizes.leaf_bytes.Statement.{statement}
 use Rattle.format.proofs.sizes.leaf_bytes.Tie as tie
@@ -12,7 +12,7 @@ leaf-bits-requires : tie.Need-leaf-bits-requires
 leaf-bits-requires c κs = search needs
 
 bytes-for-requires : tie.Need-bytes-for-requires
-bytes-for-requires c κs = omega (arith, l-most (shapeFor (c .before .args .s)) (c .before .pre))
+bytes-for-requires c κs = omega (arith, l-most (settingFor (c .before .args .s)) (shapeFor (c .before .args .s)) (c .before .pre))
 
 returns : tie.Need-returns
 unfolding wOf

@@ -7,9 +7,8 @@ use Prim.Native.Nat.{ℕ, _+_, _*_, _-_, _≤_, _<_}
 use native.Mathlib.Omega.{arith}
 use lib.ListN.{length}
 use Rattle.protocol.specs.Strings.{bytesFor}
-use Rattle.protocol.specs.Binary.{bits256}
 use Rattle.protocol.specs.Shape.{kOf}
-use Rattle.format.specs.Sizes.{shapeFor}
+use Rattle.format.specs.Sizes.{settingFor, alphabetFor, shapeFor}
 use Rattle.format.proofs.SizeLaws.{in-limits, k-most}
 use Rattle.format.proofs.FitLaws.{k-fits, l-fits}
 use Rattle.strings.specs.Sums.{byteAt}
@@ -34,7 +33,7 @@ hashed-bits-requires c κs = search needs
 bytes-for-requires : tie.Need-bytes-for-requires Inv-loop μ-loop
 bytes-for-requires c κs =
     let a = c .before .before .before .before .args in
-    omega (arith, c .hashed-bits .ensures, k-most (shapeFor (a .s)) (c .before .before .before .before .pre .0))
+    omega (arith, c .hashed-bits .ensures, k-most (settingFor (a .s)) (shapeFor (a .s)) (c .before .before .before .before .pre .0))
 
 loop-holds : tie.Need-loop-holds Inv-loop μ-loop
 loop-holds c = (search needs, refl, refl, λ pos. absurd (omega arith))
@@ -53,9 +52,9 @@ fill-entries-requires c κs =
     let a = c .before .before .before .before .before .before .before .before .before .args in
     let shape = shapeFor (a .s) in
     let k = c .before .before .before .before .before .hashed-bits .ensures in
-    let width : c .before .before .before .before .bytes-for .result ≡ bytesFor (kOf bits256 (shapeFor (a .s))) = c .before .before .before .before .bytes-for .ensures ∙ ap bytesFor k in
+    let width : c .before .before .before .before .bytes-for .result ≡ bytesFor (kOf (alphabetFor (a .s)) (shapeFor (a .s))) = c .before .before .before .before .bytes-for .ensures ∙ ap bytesFor k in
     let len = c .before .least .ensures in
-    (omega (arith, width, k-fits shape, c .before .before .before .before .before .before .before .before .before .pre .2, len .0), rw (c .before .before .before .loop .inv .2) (omega (arith, len .1)))
+    (omega (arith, width, k-fits (settingFor (a .s)) shape, c .before .before .before .before .before .before .before .before .before .pre .2, len .0), rw (c .before .before .before .loop .inv .2) (omega (arith, len .1)))
 
 slice-aggregate-hash-block : tie.Need-slice-aggregate-hash-block Inv-loop μ-loop
 slice-aggregate-hash-block c = search needs
@@ -65,17 +64,17 @@ hash-block-requires c κs =
     let a = c .before .before .before .before .before .before .before .before .before .before .before .before .before .args in
     let shape = shapeFor (a .s) in
     let k = c .before .before .before .before .before .before .before .before .before .hashed-bits .ensures in
-    let width : c .before .before .before .before .before .before .before .before .bytes-for .result ≡ bytesFor (kOf bits256 (shapeFor (a .s))) = c .before .before .before .before .before .before .before .before .bytes-for .ensures ∙ ap bytesFor k in
+    let width : c .before .before .before .before .before .before .before .before .bytes-for .result ≡ bytesFor (kOf (alphabetFor (a .s)) (shapeFor (a .s))) = c .before .before .before .before .before .before .before .before .bytes-for .ensures ∙ ap bytesFor k in
     let len = c .before .before .before .before .before .least .ensures in
     let l = c .before .before .before .before .before .before .before .loop in
     let kept : length (c .before .before .before .fill-entries .last .0) ≡ block * 32 * lanes = c .before .before .before .fill-entries .kept .0 ∙ l .inv .2 in (
       (
         l .inv .1 ∙ c .before .before .before .before .before .before .before .before .before .before .before .before .before .pre .3,
-        rw width (hash-length shape _ (c .before .before .before .before .before .before .before .before .before .before .before .before .before .pre .1)),
+        rw width (hash-length (settingFor (a .s)) shape _ (c .before .before .before .before .before .before .before .before .before .before .before .before .before .pre .1)),
         in-limits shape (c .before .before .before .before .before .before .before .before .before .before .before .before .before .pre .0) .τ-most,
         rw kept (omega (arith, len .1)),
-        omega (arith, k, l-fits shape, c .before .before .before .before .before .before .before .before .before .before .before .before .before .pre .2),
-        omega (arith, width, k-fits shape, c .before .before .before .before .before .before .before .before .before .before .before .before .before .pre .2),
+        omega (arith, k, l-fits (settingFor (a .s)) shape, c .before .before .before .before .before .before .before .before .before .before .before .before .before .pre .2),
+        omega (arith, width, k-fits (settingFor (a .s)) shape, c .before .before .before .before .before .before .before .before .before .before .before .before .before .pre .2),
         omega (arith, len .0),
       ),
       (c .before .before .before .fill-entries .ensures, l .inv .3),
@@ -107,11 +106,11 @@ returns c =
     let a = c .before .before .before .before .before .before .before .args in
     let shape = shapeFor (a .s) in
     let k = c .before .before .before .hashed-bits .ensures in
-    let width : c .before .before .bytes-for .result ≡ bytesFor (kOf bits256 (shapeFor (a .s))) = c .before .before .bytes-for .ensures ∙ ap bytesFor k in
+    let width : c .before .before .bytes-for .result ≡ bytesFor (kOf (alphabetFor (a .s)) (shapeFor (a .s))) = c .before .before .bytes-for .ensures ∙ ap bytesFor k in
     let l = c .before .loop in
     let end : l .from ≡ c .before .before .bytes-for .result = omega arith in
     let done = rw (end, width, k) at (l .inv .3) in
-    λ e r h i. done (row-some shape (in-limits shape (c .before .before .before .before .before .before .before .pre .0) .n-least)) r i e h
+    λ e r h i. done (row-some (settingFor (a .s)) shape (in-limits shape (c .before .before .before .before .before .before .before .pre .0) .n-least)) r i e h
 
 pub hash-all-spec : {M : Type 1} → statement M
 hash-all-spec =

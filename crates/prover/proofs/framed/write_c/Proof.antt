@@ -16,7 +16,7 @@ use Rattle.protocol.specs.Shape.{Shape, limits, kOf, wOf}
 use Rattle.protocol.specs.Sections.{commitLengths, hashLengths}
 use Rattle.protocol.specs.Prover.{cSection, dSection, ũSection, ṼSection, qs0Section, qs1Section}
 use Rattle.protocol.proofs.ListLaws.{row-end}
-use Rattle.format.specs.Sizes.{shapeFor}
+use Rattle.format.specs.Sizes.{settingFor, shapeFor}
 use Rattle.format.proofs.SizeLaws.{in-limits, k-most, w-most, bytes-most, corrections-most, hashed-most, row-most}
 use Rattle.format.proofs.FitLaws.{n-fits, l-fits, variables-fit}
 use Rattle.sections.proofs.Writes.{framed-one, framed-two, rest-length, take-length}
@@ -40,11 +40,11 @@ sub-put-count c = in-limits (shapeFor (c .before .before .before .before .args .
 
 mul-put-count : tie.Need-mul-put-count
 mul-put-count c =
-    rw (c .before .leaf-bytes .ensures) (omega (arith, corrections-most (shapeFor (c .before .before .before .before .args .s)) (c .before .before .before .before .pre .0)))
+    rw (c .before .leaf-bytes .ensures) (omega (arith, corrections-most (settingFor (c .before .before .before .before .args .s)) (shapeFor (c .before .before .before .before .args .s)) (c .before .before .before .before .pre .0)))
 
 put-count-requires : tie.Need-put-count-requires
 put-count-requires c κs =
-    (simp length-take (omega arith), rw (c .before .leaf-bytes .ensures) (omega (arith, corrections-most (shapeFor (c .before .before .before .before .args .s)) (c .before .before .before .before .pre .0))))
+    (simp length-take (omega arith), rw (c .before .leaf-bytes .ensures) (omega (arith, corrections-most (settingFor (c .before .before .before .before .args .s)) (shapeFor (c .before .before .before .before .args .s)) (c .before .before .before .before .pre .0))))
 
 sub-write-corrections : tie.Need-sub-write-corrections
 sub-write-corrections c = search needs

@@ -16,7 +16,7 @@ use Rattle.protocol.specs.Shape.{Shape, limits, kOf, wOf}
 use Rattle.protocol.specs.Sections.{commitLengths, hashLengths}
 use Rattle.protocol.specs.Prover.{cSection, dSection, ũSection, ṼSection, qs0Section, qs1Section}
 use Rattle.protocol.proofs.ListLaws.{row-end}
-use Rattle.format.specs.Sizes.{shapeFor}
+use Rattle.format.specs.Sizes.{settingFor, shapeFor}
 use Rattle.format.proofs.SizeLaws.{in-limits, k-most, w-most, bytes-most, corrections-most, hashed-most, row-most}
 use Rattle.format.proofs.FitLaws.{n-fits, l-fits, variables-fit}
 use Rattle.sections.proofs.Writes.{framed-one, framed-two, rest-length, take-length}
@@ -54,7 +54,7 @@ row-at-requires c κs =
 write-difference-requires : tie.Need-write-difference-requires
 write-difference-requires c κs =
     let long : length (now (c .row-at .result)) ≡ wOf bits256 (shapeFor (c .before .before .before .before .before .before .before .before .before .before .args .s)) = c .row-at .ensures .1 ∙ c .before .before .before .before .before .before .leaf-bytes .ensures in
-    (rest-length 4 (bytesFor (c .before .before .before .before .before .before .before .before .before .before .args .s .n)) (c .before .before .before .before .put-count .last .0) (now (c .before .before .before .before .before .before .before .before .before .before .args .out)) (c .before .before .before .before .put-count .kept .0 ∙ simp length-take (omega arith)) (c .before .before .before .before .before .before .before .before .before .before .pre .3), c .before .before .before .before .before .before .before .before .before .before .pre .2, rw long (n-fits (shapeFor (c .before .before .before .before .before .before .before .before .before .before .args .s))))
+    (rest-length 4 (bytesFor (c .before .before .before .before .before .before .before .before .before .before .args .s .n)) (c .before .before .before .before .put-count .last .0) (now (c .before .before .before .before .before .before .before .before .before .before .args .out)) (c .before .before .before .before .put-count .kept .0 ∙ simp length-take (omega arith)) (c .before .before .before .before .before .before .before .before .before .before .pre .3), c .before .before .before .before .before .before .before .before .before .before .pre .2, rw long (n-fits (settingFor (c .before .before .before .before .before .before .before .before .before .before .args .s)) (shapeFor (c .before .before .before .before .before .before .before .before .before .before .args .s))))
 
 same-length : tie.Need-same-length
 same-length c = search needs

@@ -16,7 +16,7 @@ use Rattle.protocol.specs.Shape.{Shape, limits, kOf, wOf}
 use Rattle.protocol.specs.Sections.{commitLengths, hashLengths}
 use Rattle.protocol.specs.Prover.{cSection, dSection, ũSection, ṼSection, qs0Section, qs1Section}
 use Rattle.protocol.proofs.ListLaws.{row-end}
-use Rattle.format.specs.Sizes.{shapeFor}
+use Rattle.format.specs.Sizes.{settingFor, shapeFor}
 use Rattle.format.proofs.SizeLaws.{in-limits, k-most, w-most, bytes-most, corrections-most, hashed-most, row-most}
 use Rattle.format.proofs.FitLaws.{n-fits, l-fits, variables-fit}
 use Rattle.sections.proofs.Writes.{framed-one, framed-two, rest-length, take-length}
@@ -62,7 +62,7 @@ row-at-requires c κs =
 write-hash-bits-requires : tie.Need-write-hash-bits-requires
 write-hash-bits-requires c κs =
     let long : length (now (c .row-at .result)) ≡ wOf bits256 (shapeFor (c .before .before .before .before .before .before .before .before .before .before .before .before .args .s)) = c .row-at .ensures .1 ∙ c .before .before .before .before .before .before .before .before .leaf-bytes .ensures in
-    rw (c .before .before .before .before .before .before .before .hashed-bits .ensures, long) (rest-length 4 (bytesFor (c .before .before .before .before .before .before .before .before .before .before .before .before .args .s .t)) (c .before .before .before .before .put-count .last .0) (now (c .before .before .before .before .before .before .before .before .before .before .before .before .args .out)) (c .before .before .before .before .put-count .kept .0 ∙ simp length-take (omega arith)) (c .before .before .before .before .before .before .before .before .before .before .before .before .pre .3), hash-length (shapeFor (c .before .before .before .before .before .before .before .before .before .before .before .before .args .s)) _ (c .before .before .before .before .before .before .before .before .before .before .before .before .pre .2), l-fits (shapeFor (c .before .before .before .before .before .before .before .before .before .before .before .before .args .s)), omega (arith, w-most (shapeFor (c .before .before .before .before .before .before .before .before .before .before .before .before .args .s)) (c .before .before .before .before .before .before .before .before .before .before .before .before .pre .0)))
+    rw (c .before .before .before .before .before .before .before .hashed-bits .ensures, long) (rest-length 4 (bytesFor (c .before .before .before .before .before .before .before .before .before .before .before .before .args .s .t)) (c .before .before .before .before .put-count .last .0) (now (c .before .before .before .before .before .before .before .before .before .before .before .before .args .out)) (c .before .before .before .before .put-count .kept .0 ∙ simp length-take (omega arith)) (c .before .before .before .before .before .before .before .before .before .before .before .before .pre .3), hash-length (shapeFor (c .before .before .before .before .before .before .before .before .before .before .before .before .args .s)) _ (c .before .before .before .before .before .before .before .before .before .before .before .before .pre .2), l-fits (settingFor (c .before .before .before .before .before .before .before .before .before .before .before .before .args .s)) (shapeFor (c .before .before .before .before .before .before .before .before .before .before .before .before .args .s)), omega (arith, w-most (settingFor (c .before .before .before .before .before .before .before .before .before .before .before .before .args .s)) (shapeFor (c .before .before .before .before .before .before .before .before .before .before .before .before .args .s)) (c .before .before .before .before .before .before .before .before .before .before .before .before .pre .0)))
 
 same-length : tie.Need-same-length
 same-length c = search needs

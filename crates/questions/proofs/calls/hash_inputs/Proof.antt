@@ -3,7 +3,6 @@
 use mathlib.Core.Path.{ap, sym, _∙_}
 use borrow.Author.Needs.{needs}
 use lib.Dec.{eqb}
-use Rattle.protocol.specs.Shape.{perTree}
 use Rattle.format.proofs.AllLaws.{all-one}
 use Rattle.format.proofs.AskLaws.{same-first, then-ask, same-also}
 use Rattle.questions.proofs.calls.hash_inputs.Statement.{statement}
@@ -15,8 +14,8 @@ hash-matrix-exact-requires c κs = search needs
 hash-matrix-form-requires : tie.Need-hash-matrix-form-requires
 hash-matrix-form-requires c κs = (c .before .before .before .pre, λ h. sym (c .hash-matrix-exact .ensures) ∙ h)
 
-leaves-form-requires : tie.Need-leaves-form-requires
-leaves-form-requires c κs = search needs
+full-form-requires : tie.Need-full-form-requires
+full-form-requires c κs = search needs
 
 hash-bytes-requires : tie.Need-hash-bytes-requires
 hash-bytes-requires c κs = search needs
@@ -25,12 +24,11 @@ also-requires : tie.Need-also-requires
 also-requires c κs = search needs
 
 returns : tie.Need-returns
-unfolding perTree
 returns c =
     let l = c .before .before in
     let h = l .before in
     let q = same-first 5 0 _ (all-one (h .before .hash-matrix-exact .ensures)) (h .hash-matrix-form .ensures) in
-    then-ask _ _ (then-ask _ _ q (l .leaves-form .ensures)) (same-also 10 _ (ap (eqb _) (c .before .hash-bytes .ensures)) (c .also .ensures))
+    then-ask _ _ (then-ask _ _ q (l .full-form .ensures)) (same-also 10 _ (ap (eqb _) (c .before .hash-bytes .ensures)) (c .also .ensures))
 
 pub hash-inputs-spec : {M : Type 1} → statement M
 hash-inputs-spec =
@@ -38,7 +36,7 @@ hash-inputs-spec =
     (tie.spec
     hash-matrix-exact-requires
     hash-matrix-form-requires
-    leaves-form-requires
+    full-form-requires
     hash-bytes-requires
     also-requires
     returns)

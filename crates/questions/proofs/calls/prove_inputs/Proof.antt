@@ -4,7 +4,6 @@ use mathlib.Core.Path.{ap, sym, _∙_}
 use borrow.Author.Needs.{needs}
 use lib.Dec.{eqb}
 use Rattle.algebra.proofs.CountLaws.{and-left}
-use Rattle.protocol.specs.Shape.{perTree}
 use Rattle.format.proofs.AllLaws.{all-two}
 use Rattle.format.proofs.AskLaws.{same-first, then-ask, same-also}
 use Rattle.questions.proofs.calls.prove_inputs.Statement.{statement}
@@ -21,8 +20,11 @@ hash-matrix-form-requires c κs =
     let h = c .before in
     (h .before .before .before .before .before .pre, λ e. sym (h .hash-matrix-exact .ensures) ∙ and-left (h .hash-matrix-exact .result) (c .batching-exact .result) e)
 
-leaves-form-requires : tie.Need-leaves-form-requires
-leaves-form-requires c κs = search needs
+batching-form-requires : tie.Need-batching-form-requires
+batching-form-requires c κs = search needs
+
+full-form-requires : tie.Need-full-form-requires
+full-form-requires c κs = search needs
 
 witness-form-requires : tie.Need-witness-form-requires
 witness-form-requires c κs = search needs
@@ -34,13 +36,13 @@ also-requires : tie.Need-also-requires
 also-requires c κs = search needs
 
 returns : tie.Need-returns
-unfolding perTree
 returns c =
     let x = c .before .before in
     let l = x .before in
-    let h = l .before in
+    let f = l .before in
+    let h = f .before in
     let q = same-first 5 0 _ (all-two (h .before .before .hash-matrix-exact .ensures) (h .before .batching-exact .ensures)) (h .hash-matrix-form .ensures) in
-    then-ask _ _ (then-ask _ _ (then-ask _ _ q (l .leaves-form .ensures)) (x .witness-form .ensures)) (same-also 10 _ (ap (eqb _) (c .before .proof-bytes .ensures)) (c .also .ensures))
+    then-ask _ _ (then-ask _ _ (then-ask _ _ (then-ask _ _ q (f .batching-form .ensures)) (l .full-form .ensures)) (x .witness-form .ensures)) (same-also 10 _ (ap (eqb _) (c .before .proof-bytes .ensures)) (c .also .ensures))
 
 pub prove-inputs-spec : {M : Type 1} → statement M
 prove-inputs-spec =
@@ -49,7 +51,8 @@ prove-inputs-spec =
     hash-matrix-exact-requires
     batching-exact-requires
     hash-matrix-form-requires
-    leaves-form-requires
+    batching-form-requires
+    full-form-requires
     witness-form-requires
     proof-bytes-requires
     also-requires

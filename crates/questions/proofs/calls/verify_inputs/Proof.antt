@@ -4,7 +4,6 @@ use mathlib.Core.Path.{sym, _∙_}
 use mathlib.Core.Bool.{_&&_}
 use borrow.Author.Needs.{needs}
 use Rattle.algebra.proofs.CountLaws.{and-left, and-right}
-use Rattle.protocol.specs.Shape.{perTree, perOpened}
 use Rattle.format.proofs.AllLaws.{all-three}
 use Rattle.format.proofs.AskLaws.{same-first, then-ask}
 use Rattle.questions.proofs.calls.verify_inputs.Statement.{statement}
@@ -28,19 +27,19 @@ hash-matrix-form-requires c κs =
     let χ? = c .batching-exact .result in
     (d .before .before .before .before .before .pre, λ e. sym (h .hash-matrix-exact .ensures) ∙ and-right Δ? H? (and-left (Δ? && H?) χ? e))
 
-sub-leaves-form : tie.Need-sub-leaves-form
-sub-leaves-form c = search needs
+challenge-form-requires : tie.Need-challenge-form-requires
+challenge-form-requires c κs = search needs
 
-leaves-form-requires : tie.Need-leaves-form-requires
-leaves-form-requires c κs = search needs
+opened-form-requires : tie.Need-opened-form-requires
+opened-form-requires c κs = search needs
 
 returns : tie.Need-returns
-unfolding perOpened perTree
 returns c =
-    let h = c .before in
+    let d = c .before in
+    let h = d .before in
     let b = h .before in
     let q = same-first 5 0 _ (all-three (b .before .before .challenge-exact .ensures) (b .before .hash-matrix-exact .ensures) (b .batching-exact .ensures)) (h .hash-matrix-form .ensures) in
-    then-ask _ _ q (c .leaves-form .ensures)
+    then-ask _ _ (then-ask _ _ q (d .challenge-form .ensures)) (c .opened-form .ensures)
 
 pub verify-inputs-spec : {M : Type 1} → statement M
 verify-inputs-spec =
@@ -50,6 +49,6 @@ verify-inputs-spec =
     hash-matrix-exact-requires
     batching-exact-requires
     hash-matrix-form-requires
-    sub-leaves-form
-    leaves-form-requires
+    challenge-form-requires
+    opened-form-requires
     returns)

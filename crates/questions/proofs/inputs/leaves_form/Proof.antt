@@ -7,13 +7,13 @@ use Prim.Native.Nat.{_*_}
 use native.Mathlib.Omega.{arith}
 use borrow.Author.Needs.{needs}
 use denote.Ref.{now}
-use Rattle.protocol.specs.Binary.{bits256}
 use Rattle.protocol.specs.Strings.{bytesFor}
 use Rattle.protocol.specs.Key.{rowsSpare}
 use Rattle.protocol.specs.Shape.{wOf}
 use Rattle.protocol.specs.Questions.{leavesExact, leavesSpare}
 use Rattle.protocol.proofs.TestLaws.{eqb-same, eqb-other}
-use Rattle.format.specs.Sizes.{shapeFor}
+use Rattle.format.specs.Sizes.{settingFor, alphabetFor, shapeFor}
+use Rattle.sections.proofs.SpareLaws.{rows-are}
 use Rattle.format.proofs.SizeLaws.{l-most, trees-most}
 use Rattle.format.proofs.AskLaws.{go-on, stop-at, no-of, yes-of, says-no, says-yes, says-all}
 use Rattle.questions.proofs.inputs.leaves_form.Statement.{statement}
@@ -55,21 +55,21 @@ rows-spare-requires c κs =
     let a = p .before .before .before .before in
     let S = shapeFor (a .args .s) in (
       c .before .before .if1 .left ∙ p .leaves-bytes .ensures ∙ ap (λ k. S .τ * a .args .per * bytesFor k) (sym (c .before .leaf-bits .ensures)),
-      omega (arith, l-most S (a .pre .0)),
+      omega (arith, l-most (settingFor (a .args .s)) S (a .pre .0)),
     )
 
 refuse-requires-2 : tie.Need-refuse-requires-2
 refuse-requires-2 c κs = search needs
 
-exact : (c : tie.Else1) → leavesExact bits256 (shapeFor (c .before .before .before .before .before .args .s)) (c .before .before .before .before .before .args .per) (now (c .before .before .before .before .before .args .leaves)) ≡ true
+exact : (c : tie.Else1) → leavesExact (alphabetFor (c .before .before .before .before .before .args .s)) (shapeFor (c .before .before .before .before .before .args .s)) (c .before .before .before .before .before .args .per) (now (c .before .before .before .before .before .args .leaves)) ≡ true
 unfolding leavesExact
 exact c = eqb-same _ _ (c .if1 .left ∙ c .before .leaves-bytes .ensures)
 
-spare : (c : tie.After-rows-spare) → c .rows-spare .result ≡ leavesSpare bits256 (shapeFor (c .before .before .before .before .before .before .before .before .args .s)) (c .before .before .before .before .before .before .before .before .args .per) (now (c .before .before .before .before .before .before .before .before .args .leaves))
+spare : (c : tie.After-rows-spare) → c .rows-spare .result ≡ leavesSpare (alphabetFor (c .before .before .before .before .before .before .before .before .args .s)) (shapeFor (c .before .before .before .before .before .before .before .before .args .s)) (c .before .before .before .before .before .before .before .before .args .per) (now (c .before .before .before .before .before .before .before .before .args .leaves))
 unfolding leavesSpare
 spare c =
     let a = c .before .before .before .before .before .before .before .before .args in
-    c .rows-spare .ensures ∙ ap (λ k. rowsSpare bits256 k (a .s .tau * a .per) (now (a .leaves))) (c .before .before .leaf-bits .ensures)
+    rows-are (settingFor (a .s)) _ _ _ (c .rows-spare .ensures) ∙ ap (λ k. rowsSpare (alphabetFor (a .s)) k (a .s .tau * a .per) (now (a .leaves))) (c .before .before .leaf-bits .ensures)
 
 returns-3 : tie.Need-returns-3
 returns-3 c =

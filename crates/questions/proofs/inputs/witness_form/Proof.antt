@@ -9,11 +9,10 @@ use borrow.Author.Needs.{needs}
 use denote.Ref.{now}
 use lib.Dec.{eqb}
 use lib.ListN.{length}
-use Rattle.protocol.specs.Binary.{bits256}
 use Rattle.protocol.specs.Strings.{bytesFor, spareZero}
 use Rattle.protocol.specs.Questions.{witnessForm}
 use Rattle.protocol.proofs.TestLaws.{eqb-same, eqb-other}
-use Rattle.format.specs.Sizes.{shapeFor}
+use Rattle.format.specs.Sizes.{alphabetFor, shapeFor}
 use Rattle.format.specs.declared.sizes.Sizes.{Sizes}
 use Rattle.format.proofs.SizeLaws.{in-limits}
 use Rattle.format.proofs.AskLaws.{go-on, stop-at, no-of, yes-of, says-no, says-yes, says-all}
@@ -35,12 +34,12 @@ witness-bytes-requires c κs = search needs
 refuse-requires : tie.Need-refuse-requires
 refuse-requires c κs = search needs
 
-form-is : (s : Sizes) (x : List ℕ) → witnessForm bits256 (shapeFor s) x ≡ (eqb (length x) (bytesFor (s .n)) && spareZero x (s .n))
+form-is : (s : Sizes) (x : List ℕ) → witnessForm (alphabetFor s) (shapeFor s) x ≡ (eqb (length x) (bytesFor (s .n)) && spareZero x (s .n))
 unfolding witnessForm
 form-is s x = refl
 
 exact : (c : tie.After-row-spare)
-    → witnessForm bits256 (shapeFor (c .before .before .before .before .before .before .args .s)) (now (c .before .before .before .before .before .before .args .witness))
+    → witnessForm (alphabetFor (c .before .before .before .before .before .before .args .s)) (shapeFor (c .before .before .before .before .before .before .args .s)) (now (c .before .before .before .before .before .before .args .witness))
     ≡ spareZero (now (c .before .before .before .before .before .before .args .witness)) (c .before .before .before .before .before .before .args .s .n)
 exact c =
     let a = c .before .before .before .before .before .before .args in

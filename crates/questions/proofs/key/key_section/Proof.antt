@@ -7,10 +7,10 @@ use borrow.Author.Needs.{needs}
 use denote.Ref.{now}
 use lib.ListN.{length, getD}
 use Rattle.protocol.specs.Frames.{sectionNo}
-use Rattle.protocol.specs.Binary.{bits256}
+use Rattle.protocol.specs.Alphabet.{Alphabet}
 use Rattle.protocol.specs.Shape.{Shape}
 use Rattle.protocol.specs.Key.{keyLengths}
-use Rattle.format.specs.Sizes.{shapeFor}
+use Rattle.format.specs.Sizes.{alphabetFor, shapeFor}
 use Rattle.questions.proofs.KeyLaws.{rest-is, sections-length}
 use Rattle.questions.proofs.key.key_section.Statement.{statement}
 use Rattle.questions.proofs.key.key_section.Tie as tie
@@ -30,15 +30,15 @@ part-section-no-end c = search needs
 slice-aggregate-section-no : tie.Need-slice-aggregate-section-no
 slice-aggregate-section-no c = search needs
 
-count : (s : Shape) (i : ℕ) → i < 3 → i < length (keyLengths bits256 s)
+count : (A : Alphabet) (s : Shape) (i : ℕ) → i < 3 → i < length (keyLengths A s)
 unfolding keyLengths
-count s i h = h
+count A s i h = h
 
 section-no-requires : tie.Need-section-no-requires
 section-no-requires c κs =
     let a = c .before .before .before .before in
     let s = shapeFor (a .args .s) in
-    rw (c .before .before .key-lengths .ensures, rest-is (now (a .args .key)) 8) (omega (arith, sections-length s (now (a .args .key)) (a .pre .0)), count s (a .args .i) (a .pre .1))
+    rw (c .before .before .key-lengths .ensures, rest-is (now (a .args .key)) 8) (omega (arith, sections-length (alphabetFor (a .args .s)) s (now (a .args .key)) (a .pre .0)), count (alphabetFor (a .args .s)) s (a .args .i) (a .pre .1))
 
 returns : tie.Need-returns
 returns c =

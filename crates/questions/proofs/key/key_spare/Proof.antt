@@ -5,11 +5,11 @@ use Prim.Native.Nat.{_*_}
 use native.Mathlib.Omega.{arith}
 use borrow.Author.Needs.{needs}
 use Rattle.protocol.specs.Strings.{spareZero}
-use Rattle.protocol.specs.Binary.{bits256}
 use Rattle.protocol.specs.Key.{rowsSpare, keySpare}
-use Rattle.format.specs.Sizes.{shapeFor}
+use Rattle.format.specs.Sizes.{settingFor, alphabetFor, shapeFor}
 use Rattle.format.proofs.SizeLaws.{in-limits, matrix-rows-most}
 use Rattle.format.proofs.AllLaws.{all-three}
+use Rattle.sections.proofs.SpareLaws.{rows-are}
 use Rattle.questions.proofs.key.key_spare.Statement.{statement}
 use Rattle.questions.proofs.key.key_spare.Tie as tie
 
@@ -45,8 +45,10 @@ unfolding keySpare
 returns c =
     let b = c .before .before in
     let a = b .before .before in
-    let S = shapeFor (a .before .before .before .args .s) in
-    all-three (a .rows-spare .ensures ∙ ap (rowsSpare bits256 (S .n) (S .m * S .n)) (a .before .section-a .ensures .0)) (b .rows-spare2 .ensures ∙ ap (rowsSpare bits256 (S .n) (S .m)) (b .before .section-b .ensures .0))
+    let z = a .before .before .before .args .s in
+    let S = shapeFor z in
+    all-three (rows-are (settingFor z) _ _ _ (a .rows-spare .ensures) ∙ ap (rowsSpare (alphabetFor z) (S .n) (S .m * S .n)) (a .before .section-a .ensures .0))
+    (rows-are (settingFor z) _ _ _ (b .rows-spare2 .ensures) ∙ ap (rowsSpare (alphabetFor z) (S .n) (S .m)) (b .before .section-b .ensures .0))
     (c .row-spare .ensures ∙ ap (λ y. spareZero y (S .m)) (c .before .section-y .ensures .0))
 
 pub key-spare-spec : {M : Type 1} → statement M

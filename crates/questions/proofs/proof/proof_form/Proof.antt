@@ -5,10 +5,9 @@ use mathlib.Core.List.{[], _∷_}
 use borrow.Author.Needs.{needs}
 use denote.Ref.{now}
 use Rattle.protocol.specs.Frames.{framed}
-use Rattle.protocol.specs.Binary.{bits256}
 use Rattle.protocol.specs.Answers.{ask}
 use Rattle.protocol.specs.Questions.{q12}
-use Rattle.format.specs.Sizes.{shapeFor}
+use Rattle.format.specs.Sizes.{alphabetFor, shapeFor}
 use Rattle.format.specs.Verdict.{answerOf}
 use Rattle.format.proofs.AskLaws.{stop-at, then-ask, said-yes, same-first, same-also}
 use Rattle.questions.specs.Facts.{PlacesOf}
@@ -31,7 +30,7 @@ enum-told c = search needs
 enum-told-2 : tie.Need-enum-told-2
 enum-told-2 c = search needs
 
-exact : (c : tie.After-read-sections) → answerOf (c .read-sections .result .answer) ≡ ask (q12 bits256 (shapeFor (c .before .before .before .before .args .s)) (now (c .before .before .before .before .args .proof)) ∷ [])
+exact : (c : tie.After-read-sections) → answerOf (c .read-sections .result .answer) ≡ ask (q12 (alphabetFor (c .before .before .before .before .args .s)) (shapeFor (c .before .before .before .before .args .s)) (now (c .before .before .before .before .args .proof)) ∷ [])
 exact c = same-first 12 0 _ (ap (λ ls. framed ls (now (c .before .before .before .before .args .proof))) (c .before .before .proof-lengths .ensures)) (c .read-sections .ensures .0)
 
 returns : tie.Need-returns
@@ -40,7 +39,7 @@ returns c =
     let told = c .enum-told2 .given .1 in
     (then-ask _ _ (exact p) (stop-at _ told), λ h. absurd (refused-not (ap answerOf told) h))
 
-placed : (c : tie.After-enum-told) → PlacesOf bits256 (shapeFor (c .before .before .before .before .before .before .before .args .s)) (now (c .before .before .before .before .before .before .before .args .proof)) (c .before .before .before .read-sections .result .places)
+placed : (c : tie.After-enum-told) → PlacesOf (alphabetFor (c .before .before .before .before .before .before .before .args .s)) (shapeFor (c .before .before .before .before .before .before .before .args .s)) (now (c .before .before .before .before .before .before .before .args .proof)) (c .before .before .before .read-sections .result .places)
 placed c =
     let p = c .before .before .before in
     let yes = ap answerOf (c .enum-told .given .1) in
@@ -52,10 +51,18 @@ proof-spare-requires c κs = (c .before .before .before .before .before .before 
 also-requires : tie.Need-also-requires
 also-requires c κs = search needs
 
+proof-elements-requires : tie.Need-proof-elements-requires
+proof-elements-requires c κs = placed (c .before .before)
+
+also-requires-2 : tie.Need-also-requires-2
+also-requires-2 c κs = search needs
+
 returns-2 : tie.Need-returns-2
 returns-2 c =
-    let p = c .before .before in
-    (then-ask _ _ (exact (p .before .before .before)) (same-also 13 _ (c .before .proof-spare .ensures) (c .also .ensures)), λ _. placed p)
+    let spare = c .before .before in
+    let p = spare .before .before in
+    let thirteen = then-ask _ _ (exact (p .before .before .before)) (same-also 13 _ (spare .before .proof-spare .ensures) (spare .also .ensures)) in
+    (then-ask _ _ thirteen (same-also 18 _ (c .before .proof-elements .ensures) (c .also2 .ensures)), λ _. placed p)
 
 pub proof-form-spec : {M : Type 1} → statement M
 proof-form-spec =
@@ -69,4 +76,6 @@ proof-form-spec =
     returns
     proof-spare-requires
     also-requires
+    proof-elements-requires
+    also-requires-2
     returns-2)

@@ -7,18 +7,18 @@ use borrow.Author.Needs.{needs}
 use denote.Ref.{now}
 use lib.ListN.{length}
 use Rattle.protocol.specs.Frames.{sectionNo}
-use Rattle.protocol.specs.Binary.{bits256}
+use Rattle.protocol.specs.Alphabet.{Alphabet}
 use Rattle.protocol.specs.Shape.{Shape}
 use Rattle.protocol.specs.Sections.{lengths}
-use Rattle.format.specs.Sizes.{shapeFor}
+use Rattle.format.specs.Sizes.{alphabetFor, shapeFor}
 use Rattle.sections.specs.Taking.{bytesAt}
 use Rattle.sections.proofs.ReaderLaws.{section-taken, section-length}
 use Rattle.questions.proofs.proof.proof_section.Statement.{statement}
 use Rattle.questions.proofs.proof.proof_section.Tie as tie
 
-count : (s : Shape) (i : ℕ) → i < 6 → i < length (lengths bits256 s)
+count : (A : Alphabet) (s : Shape) (i : ℕ) → i < 6 → i < length (lengths A s)
 unfolding lengths
-count s i h = h
+count A s i h = h
 
 mul-at : tie.Need-mul-at
 mul-at c = search needs
@@ -34,8 +34,8 @@ returns c z form =
     let s = shapeFor z in
     let start = c .before .before .before in
     let a = start .args in
-    let ls = lengths bits256 s in
-    let h = count s (a .i) (start .pre .1) in
+    let ls = lengths (alphabetFor z) s in
+    let h = count (alphabetFor z) s (a .i) (start .pre .1) in
     let e : now (c .section-from .result) ≡ sectionNo ls (a .i) (now (a .proof)) =
     c .section-from .ensures ∙ ap (bytesAt (now (a .proof))) (start .pre .0 (a .i) (start .pre .1)) ∙ section-taken ls (now (a .proof)) (a .i) h form in
     (e, ap length e ∙ section-length ls (now (a .proof)) (a .i) h form)

@@ -6,12 +6,12 @@ use native.Mathlib.Omega.{arith}
 use borrow.Author.Needs.{needs}
 use denote.Ref.{now}
 use Rattle.protocol.specs.Strings.{bytesFor, spareZero}
-use Rattle.protocol.specs.Binary.{bits256}
 use Rattle.protocol.specs.Key.{rowsSpare}
 use Rattle.protocol.specs.Shape.{lOf, wOf}
 use Rattle.protocol.specs.Sections.{lengths}
 use Rattle.protocol.specs.Questions.{proofSpare}
-use Rattle.format.specs.Sizes.{shapeFor}
+use Rattle.format.specs.Sizes.{settingFor, alphabetFor, shapeFor}
+use Rattle.sections.proofs.SpareLaws.{rows-are}
 use Rattle.format.proofs.SizeLaws.{in-limits, l-most}
 use Rattle.format.proofs.AllLaws.{all-three}
 use Rattle.questions.proofs.proof.proof_spare.Statement.{statement}
@@ -31,7 +31,7 @@ unfolding lengths wOf
 rows-spare-requires c κs =
     let a = c .before .before .before .before in
     let S = shapeFor (a .args .s) in
-    (c .before .before .proof-section .ensures (a .args .s) (a .pre .1 .0) .1 ∙ ap (λ k. (S .τ - 1) * bytesFor k) (sym (c .before .leaf-bits .ensures)), omega (arith, l-most S (a .pre .0)))
+    (c .before .before .proof-section .ensures (a .args .s) (a .pre .1 .0) .1 ∙ ap (λ k. (S .τ - 1) * bytesFor k) (sym (c .before .leaf-bits .ensures)), omega (arith, l-most (settingFor (a .args .s)) S (a .pre .0)))
 
 proof-section-requires-2 : tie.Need-proof-section-requires-2
 proof-section-requires-2 c κs = search needs
@@ -60,8 +60,8 @@ returns c =
     let S = shapeFor (a .args .s) in
     let form = a .pre .1 .0 in
     all-three
-    (r .rows-spare .ensures ∙ ap (λ k. rowsSpare bits256 k (S .τ - 1) (now (r .before .before .before .proof-section .result))) (r .before .before .leaf-bits .ensures)
-    ∙ ap (rowsSpare bits256 (lOf bits256 S) (S .τ - 1)) (r .before .before .before .proof-section .ensures (a .args .s) form .0))
+    (rows-are (settingFor (a .args .s)) _ _ _ (r .rows-spare .ensures) ∙ ap (λ k. rowsSpare (alphabetFor (a .args .s)) k (S .τ - 1) (now (r .before .before .before .proof-section .result))) (r .before .before .leaf-bits .ensures)
+    ∙ ap (rowsSpare (alphabetFor (a .args .s)) (lOf (alphabetFor (a .args .s)) S) (S .τ - 1)) (r .before .before .before .proof-section .ensures (a .args .s) form .0))
     (d .row-spare .ensures ∙ ap (λ d. spareZero d (S .n)) (d .before .proof-section2 .ensures (a .args .s) form .0))
     (c .row-spare2 .ensures ∙ ap (λ u. spareZero u (S .t)) (c .before .proof-section3 .ensures (a .args .s) form .0))
 

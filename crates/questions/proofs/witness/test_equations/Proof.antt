@@ -7,7 +7,6 @@ use native.Mathlib.Nat.{mul-assoc}
 use native.Mathlib.Omega.{arith}
 use denote.Ref.{now}
 use Rattle.protocol.specs.Strings.{bytesFor, spareZero}
-use Rattle.protocol.specs.Binary.{bits256}
 use Rattle.protocol.specs.Shape.{Shape, shapeOf}
 use Rattle.protocol.specs.Key.{sectionA, sectionB, sectionY}
 use Rattle.format.specs.Verdict.{answerOf}
@@ -16,19 +15,19 @@ use Rattle.equations.specs.Equations.{keyError}
 use Rattle.equations.proofs.BlockLaws.{bytes-enough}
 use Rattle.questions.proofs.SolvedLaws.{solved-as}
 use borrow.Author.Needs.{needs}
-use Rattle.format.specs.Sizes.{shapeFor}
+use Rattle.format.specs.Sizes.{settingFor, alphabetFor, shapeFor}
 use Rattle.questions.proofs.KeyLaws.{facts-sized}
 use Rattle.questions.proofs.witness.test_equations.Statement.{statement}
 use Rattle.questions.proofs.witness.test_equations.Tie as tie
 
 section-a-requires : tie.Need-section-a-requires
-section-a-requires c κs = facts-sized (shapeFor (c .before .before .before .before .args .s)) (now (c .before .before .before .before .args .key)) (c .before .before .before .before .pre .1 .of-key)
+section-a-requires c κs = facts-sized (alphabetFor (c .before .before .before .before .args .s)) (shapeFor (c .before .before .before .before .args .s)) (now (c .before .before .before .before .args .key)) (c .before .before .before .before .pre .1 .of-key)
 
 section-b-requires : tie.Need-section-b-requires
-section-b-requires c κs = facts-sized (shapeFor (c .before .before .before .before .before .args .s)) (now (c .before .before .before .before .before .args .key)) (c .before .before .before .before .before .pre .1 .of-key)
+section-b-requires c κs = facts-sized (alphabetFor (c .before .before .before .before .before .args .s)) (shapeFor (c .before .before .before .before .before .args .s)) (now (c .before .before .before .before .before .args .key)) (c .before .before .before .before .before .pre .1 .of-key)
 
 section-y-requires : tie.Need-section-y-requires
-section-y-requires c κs = facts-sized (shapeFor (c .before .before .before .before .before .before .args .s)) (now (c .before .before .before .before .before .before .args .key)) (c .before .before .before .before .before .before .pre .1 .of-key)
+section-y-requires c κs = facts-sized (alphabetFor (c .before .before .before .before .before .before .args .s)) (shapeFor (c .before .before .before .before .before .before .args .s)) (now (c .before .before .before .before .before .before .args .key)) (c .before .before .before .before .before .before .pre .1 .of-key)
 
 equation-errors-requires : tie.Need-equation-errors-requires
 equation-errors-requires c κs =
@@ -51,12 +50,12 @@ returns : tie.Need-returns
 returns c =
     let key = now (c .before .before .before .before .before .before .before .before .before .before .before .before .args .key) in
     let x = now (c .before .before .before .before .before .before .before .before .before .before .before .before .args .witness) in
-    let e = c .before .before .before .before .before .before .before .before .before .before .before .before .pre .0 .0 (c .before .before .before .before .before .before .before .before .before .before .before .before .pre .1 .of-key .header) in
+    let e = c .before .before .before .before .before .before .before .before .before .before .before .before .pre .0 (c .before .before .before .before .before .before .before .before .before .before .before .before .pre .1 .of-key .header) in
     let p = c .before .before .before .before .equation-errors in
     let same : (i : ℕ) → keyError (c .before .before .before .before .before .before .before .before .before .before .before .before .args .s .n) (now (c .before .before .before .before .before .before .before .section-a .result)) (now (c .before .before .before .before .before .before .section-b .result)) (now (c .before .before .before .before .before .section-y .result)) x i
-    ≡ keyError (shapeOf key .n) (sectionA bits256 (shapeOf key) key) (sectionB bits256 (shapeOf key) key) (sectionY bits256 (shapeOf key) key) x i =
-    λ i. rw (c .before .before .before .before .before .before .before .section-a .ensures .0, c .before .before .before .before .before .before .section-b .ensures .0, c .before .before .before .before .before .section-y .ensures .0) (ap (λ (z : Shape). keyError (z .n) (sectionA bits256 z key) (sectionB bits256 z key) (sectionY bits256 z key) x i) e) in
-    solved-as key x (subst (λ (z : Shape). spareZero x (z .n) ≡ true) e (c .before .before .before .before .before .before .before .before .before .before .before .before .pre .1 .of-witness .witness-spare)) (p .last .0) (p .kept .0 ∙ c .before .before .before .before .before .before .before .before .before .before .before .before .pre .2 ∙ ap (λ (z : Shape). z .m) e) (λ i h. p .ensures i (rw (p .kept .0) at h) ∙ same i) (answerOf (c .answer .result)) (c .answer .ensures)
+    ≡ keyError (shapeOf key .n) (sectionA (alphabetFor (c .before .before .before .before .before .before .before .before .before .before .before .before .args .s)) (shapeOf key) key) (sectionB (alphabetFor (c .before .before .before .before .before .before .before .before .before .before .before .before .args .s)) (shapeOf key) key) (sectionY (alphabetFor (c .before .before .before .before .before .before .before .before .before .before .before .before .args .s)) (shapeOf key) key) x i =
+    λ i. rw (c .before .before .before .before .before .before .before .section-a .ensures .0, c .before .before .before .before .before .before .section-b .ensures .0, c .before .before .before .before .before .section-y .ensures .0) (ap (λ (z : Shape). keyError (z .n) (sectionA (alphabetFor (c .before .before .before .before .before .before .before .before .before .before .before .before .args .s)) z key) (sectionB (alphabetFor (c .before .before .before .before .before .before .before .before .before .before .before .before .args .s)) z key) (sectionY (alphabetFor (c .before .before .before .before .before .before .before .before .before .before .before .before .args .s)) z key) x i) e) in
+    solved-as (settingFor (c .before .before .before .before .before .before .before .before .before .before .before .before .args .s)) key x (subst (λ (z : Shape). spareZero x (z .n) ≡ true) e (c .before .before .before .before .before .before .before .before .before .before .before .before .pre .1 .of-witness .witness-spare)) (p .last .0) (p .kept .0 ∙ c .before .before .before .before .before .before .before .before .before .before .before .before .pre .2 ∙ ap (λ (z : Shape). z .m) e) (λ i h. p .ensures i (rw (p .kept .0) at h) ∙ same i) (answerOf (c .answer .result)) (c .answer .ensures)
 
 pub test-equations-spec : {M : Type 1} → statement M
 test-equations-spec =

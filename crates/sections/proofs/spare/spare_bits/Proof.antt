@@ -8,14 +8,13 @@ use borrow.Author.Needs.{needs}
 use denote.Ref.{now}
 use lib.ListN.{length}
 use lib.Dec.{eqb}
-use Rattle.protocol.specs.Binary.{bits256}
-use Rattle.protocol.specs.Key.{rowsSpare}
+use Rattle.sections.specs.Spare.{bitsSpare}
 use Rattle.sections.proofs.SpareLaws.{no-rows, row-fits, rows-more}
 use Rattle.sections.proofs.spare.spare_bits.Statement.{statement}
 use Rattle.sections.proofs.spare.spare_bits.Tie as tie
 
 abbrev Inv-loop : tie.InvT-loop
-Inv-loop s bits rows width used found₀ i₀ found i = (i ≤ rows) × (eqb found 0 ≡ rowsSpare bits256 bits i s)
+Inv-loop s bits rows width used found₀ i₀ found i = (i ≤ rows) × (eqb found 0 ≡ bitsSpare bits i s)
 
 abbrev μ-loop : tie.MeasureT-loop
 μ-loop s bits rows width used found₀ i₀ found i = rows - i

@@ -1,0 +1,2 @@
+pub mod ConsistencyMeaning
+pub mod RowLaws

@@ -1,0 +1,2 @@
+pub mod ProductMeaning
+pub mod ProductLaws
