@@ -9,7 +9,7 @@ cd "$(dirname "$0")/.."
 work=$(mktemp -d)
 trap 'rm -rf "$work"' EXIT
 kernels='lanes chunks trees tables tables_opened hash equations
-    forms_choices forms_columns forms_folds forms_planes forms_batching forms'
+    forms_choices forms_columns forms_folds forms_planes forms_batching forms_pieces forms'
 
 # The limits; the most equations in one pass; the elements of the field, and those besides 0; and lengths of buffers
 # that follow from them: the cells, the table of sums of a block, the table of the v_e, Ṽ, the vectors, and a leaf for each

@@ -19,10 +19,10 @@ use Rattle.strings.proofs.ProductLaws.{bit-times-lt}
 use Rattle.chunks.proofs.BitSumLaws.{sum-swap}
 use Rattle.forms_columns.specs.Stacks.{byteProduct}
 use Rattle.forms_columns.proofs.ProductLaws.{product-comm, product-bits}
-use Rattle.forms_batching.specs.Batched.{formSum}
 use Rattle.forms_batching.specs.Lines.{lineBit, lineSum}
 use Rattle.forms_batching.proofs.FormLaws.{product-scale, product-xor}
 use Rattle.forms_batching.proofs.StackLaws.{scaled-lt}
+use Rattle.forms_pieces.specs.FormSums.{formSum}
 use Rattle.equations.specs.Equations.{rowOf, matrixOf}
 use Rattle.equations.proofs.BlockLaws.{bytes-enough}
 use Rattle.equations.proofs.RowLaws.{row-bit}

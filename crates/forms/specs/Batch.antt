@@ -3,8 +3,8 @@
 --   LinesAre m w b L == the m lines of L are the rows of b, of w bytes each
 --   batchOf d m χ e f == Σ_i χ(e, i)·f(i);  batchByte d m χ e f == the same where a list χ has m bytes for each
 --     repetition
---   formsByte d n m A χ e f, middlesByte d n m A b x χ e f == what they make of the forms of the equations at the vector
---     f, and of 01's a₁ at it and the bits x
+--   formsByte d n m A χ e f, middlesByte d n m A b x χ e f == what they make of the forms of the equations at the
+--     vector f, and of 01's a₁ at it and the bits x
 --   blockBytes m from χ == the batching bytes of the equations from `from` on, of m in all
 --   blockForms, blockMiddles == the same sums over `count` equations only, whose parts of the sections are A and b
 --   FormsInputs d n m τ quad lin cells A b xs χ vs polar == these are as long as m equations of n variables and τ

@@ -1,8 +1,5 @@
 pub mod FormLaws
 pub mod StackLaws
-pub mod FoldLaws
-pub mod PanelLaws
+pub mod PartLaws
 pub mod LineLaws
-pub mod LeftLaws
-pub mod PieceLaws
 pub mod VectorLaws

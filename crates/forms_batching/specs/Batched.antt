@@ -1,13 +1,11 @@
--- The batched matrix, folded, and its forms. In each definition d is the degree of the field (field's Degrees).
+-- The batched matrix, folded, and its products with vectors. In each definition d is the degree of the field (field's
+-- Degrees).
 --   cellSum cells m χ e q f z == Σ_i χ(e, i)·b_i, where b_i is bit z of byte f of chunk i of the sixteen rows q of the
 --     cells
 --   batchedByte w size m A χ e ρ c == Σ_i χ(e, i)·F_i(ρ, c), where F_i is string i of A, of size bytes, in rows of w
 --     bytes, folded
---   rowsSum d w size m A χ e W top rows c == Σ_ρ W(ρ)·Σ_i χ(e, i)·F_i(ρ, c), over the rows of so many sixteens, from the
---     sixteen `top` on
---   leftSum d w size m A χ e W J c == the same over the rows up to the J-th sixteen
---   formSum d n w m A χ e y W == Σ_i χ(e, i)·Σ_ρ W(ρ)·Σ_c A_i(ρ, c)·y(c), where A_i is matrix i of A, of n rows of w
---     bytes
+--   rowsSum d w size m A χ e W top rows c == Σ_ρ W(ρ)·Σ_i χ(e, i)·F_i(ρ, c), over the rows of so many sixteens, from
+--     the sixteen `top` on
 --   weighedBit S χ m f z == Σ_i χ(i)·b_i, where b_i is bit z of byte f of row i of S
 --   WeighedAll S χ m sums W G τ == Weighed for each of τ repetitions
 --   VectorsFit τ vs == vs has τ vectors (forms_columns' Stacks);  VectorsAre n τ T vs == their first n coordinates are
@@ -16,36 +14,31 @@
 --     others are as they were
 --   CellsRoom cells == as long as the longest piece of a set of panels
 --   SumsRoom sums == as long as the longest table of sums
---   planeTimes d v S χ m f z p == what plane p of weighedBit is, at bit z of byte f, times α^p and byte f of v
+--   planeTimes d v S χ m f z p == the share of bit p of the bytes χ in weighedBit, times byte f of v: that bit stands
+--     for α^p
 --   rowTimes d vs e first S χ m h f z == weighedBit at byte f of half h, times coordinate first + f of vector e of vs
 --   CollectFits m τ G top rows stacks sums cells W vs == these have the lengths of so many sixteens of rows, from the
 --     sixteen `top` on, of m matrices, and of τ repetitions
 --   Collected d τ top rows m W cells vs old new == to the values of each stack the cells of these rows are added,
 --     batched, each row times its coordinate
---   PartStacked d τ top rows m W cells vs stacks == the stacks have the columns of a panel of the batched matrix, folded,
---     times these coordinates of the vectors from the left, whichever panel the cells hold
---   polarSum d n w m A χ e x y == formSum d at x and y, and at y and x
---   BatchFits d n w m τ G polar quad mid lines cells A W vs xs == these have the lengths of a key's parts and of τ
---     repetitions, the entries of xs are bits,
---     0 from n on, and 0 where the polar form is not asked for; the vectors are elements, 0 from n on
+--   PartStacked d τ top rows m W cells vs stacks == the stacks have the columns of a panel of the batched matrix,
+--     folded, times these coordinates of the vectors from the left, whichever panel the cells hold
 -- Assumes nothing.
 use mathlib.Core.Path.{_≡_}
-use mathlib.Core.Bool.{Bool, false}
 use mathlib.Core.List.{List}
 use Prim.Native.Nat.{ℕ, _+_, _*_, _/_, _^_, _≤_, _<_}
 use lib.Bits.{bitXor}
 use lib.ListN.{length}
 use Rattle.protocol.specs.Lists.{blockAt}
-use Rattle.protocol.specs.Strings.{bytesFor}
 use Rattle.protocol.specs.Shape.{mostVariables}
 use Rattle.field.specs.Degrees.{degreeOf}
 use Rattle.strings.specs.Sums.{byteAt, bitOf, xorSum}
 use Rattle.lanes.specs.Lanes.{lanes, laneAt}
 use Rattle.chunks.specs.Chunks.{mostBlock, chunk, cellAt}
 use Rattle.forms_choices.specs.Entries.{mostSums, upTo, Weighed, IsBytes, ChosenAll, GroupsFor, WordsFit}
-use Rattle.forms_folds.specs.Folds.{cellSixteens, entry, foldedBit, Folded}
-use Rattle.forms_batching.specs.Lines.{LinesFit, PartCells, VectorsEnd}
-use Rattle.forms_columns.specs.Stacks.{alpha, byteProduct, stackOf, columnOf, coordinateOf, VectorsRoom, StacksFit, IsBits}
+use Rattle.forms_folds.specs.Folds.{cellSixteens, foldedBit, Folded}
+use Rattle.forms_batching.specs.Lines.{PartCells, VectorsEnd}
+use Rattle.forms_columns.specs.Stacks.{alpha, byteProduct, stackOf, columnOf, coordinateOf, StacksFit}
 
 unfoldable pub cellSum : List ℕ → ℕ → (ℕ → ℕ → ℕ) → ℕ → ℕ → ℕ → ℕ → ℕ
 cellSum cells m χ e q f z = xorSum m (λ i. bitOf (cellAt cells (q * m + i) f) z * χ e i)
@@ -55,13 +48,6 @@ batchedByte w size m A χ e ρ c = xorSum m (λ i. foldedBit w (blockAt A size i
 
 abbrev pub rowsSum : ℕ → ℕ → ℕ → ℕ → List ℕ → (ℕ → ℕ → ℕ) → ℕ → (ℕ → ℕ) → ℕ → ℕ → ℕ → ℕ
 rowsSum d w size m A χ e W top rows c = xorSum (rows * 16) (λ ρ. byteProduct d (W (top * 16 + ρ)) (batchedByte w size m A χ e (top * 16 + ρ) c))
-
-abbrev pub leftSum : ℕ → ℕ → ℕ → ℕ → List ℕ → (ℕ → ℕ → ℕ) → ℕ → (ℕ → ℕ) → ℕ → ℕ → ℕ
-leftSum d w size m A χ e W J c = xorSum ((J + 1) * 16) (λ ρ. byteProduct d (W ρ) (batchedByte w size m A χ e ρ c))
-
-unfoldable pub formSum : ℕ → ℕ → ℕ → ℕ → List ℕ → (ℕ → ℕ → ℕ) → ℕ → (ℕ → ℕ) → (ℕ → ℕ) → ℕ
-formSum d n w m A χ e y W =
-    xorSum m (λ i. byteProduct d (χ e i) (xorSum n (λ ρ. byteProduct d (W ρ) (xorSum n (λ c. entry w (blockAt A (n * w) i) ρ c * y c)))))
 
 abbrev pub weighedBit : List ℕ → (ℕ → ℕ) → ℕ → ℕ → ℕ → ℕ
 weighedBit S χ m f z = xorSum m (λ i. bitOf (cellAt S i f) z * χ i)
@@ -111,12 +97,3 @@ abbrev pub PartStacked : ℕ → ℕ → ℕ → ℕ → ℕ → List ℕ → Li
 PartStacked d τ top rows m W cells vs stacks =
     (A : List ℕ) (χ : ℕ → ℕ → ℕ) (n w J count e s : ℕ) → Folded n w m A top J count cells → rows ≤ count → rows ≤ J + 1
     → IsBytes χ → ChosenAll χ m τ W → VectorsEnd n τ vs → VectorsNarrow d τ vs → e < τ → s < 16 → (top + J) * 16 + s < n → columnOf d stacks e s ≡ rowsSum d w (n * w) m A χ e (coordinateOf vs e) top rows ((top + J) * 16 + s)
-
-abbrev pub polarSum : ℕ → ℕ → ℕ → ℕ → List ℕ → (ℕ → ℕ → ℕ) → ℕ → (ℕ → ℕ) → (ℕ → ℕ) → ℕ
-polarSum d n w m A χ e x y = bitXor (formSum d n w m A χ e y x) (formSum d n w m A χ e x y)
-
-abbrev pub BatchFits : ℕ → ℕ → ℕ → ℕ → ℕ → ℕ → Bool → List ℕ → List ℕ → List ℕ → List ℕ → List ℕ → List ℕ → List ℕ → List ℕ → Type 0
-BatchFits d n w m τ G polar quad mid lines cells A W vs xs =
-    (length quad ≡ lanes) × (length mid ≡ lanes) × (length A ≡ m * (n * w)) × (w ≡ bytesFor n) × (n ≤ mostVariables) × (0 < m) × (m ≤ mostBlock) × (0 < τ) × (τ ≤ lanes)
-    × GroupsFor m G × WordsFit τ W × VectorsRoom vs × (length xs ≡ mostVariables) × IsBits xs × ((c : ℕ) → n ≤ c → byteAt xs c ≡ 0)
-    × (polar ≡ false → (c : ℕ) → byteAt xs c ≡ 0) × LinesFit m lines × CellsRoom cells × VectorsEnd n τ vs × VectorsNarrow d τ vs

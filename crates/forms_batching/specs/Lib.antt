@@ -1,3 +1,2 @@
 pub mod Batched
 pub mod Lines
-pub mod Pieces

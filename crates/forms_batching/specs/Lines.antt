@@ -13,9 +13,6 @@
 --   leftBit cells m x i top rows h z == Σ_ρ x(16·top + ρ)·b_ρ over these rows ρ, b_ρ bit z of row ρ of byte column h of
 --     chunk i of its sixteen
 --   lineSum L m χ e c == Σ_i χ(e, i)·lineBit L m i c
---   leftPart w size A x i top rows c == Σ_ρ x(ρ)·F_i(ρ, c) over the rows ρ of so many sixteens from the sixteen top on,
---     where F_i is string i of A, of size bytes, in rows of w bytes, folded
---   leftOf w size A x i c == the same over all rows up to the sixteen of c
 --   LeftAdded m J top rows bits cells old new == where the bits are masks of x, leftBit is added to each line at the
 --     columns of panel J
 --   LinesBeside m J old new == the lines are as they were at the other columns
@@ -32,11 +29,9 @@ use Prim.Native.Nat.{ℕ, _+_, _*_, _-_, _/_, _%_, _≤_, _<_}
 use lib.Bits.{bitAnd, bitXor}
 use lib.ListN.{length}
 use Rattle.algebra.specs.Coded.{Coded, mulByte}
-use Rattle.protocol.specs.Lists.{blockAt}
 use Rattle.protocol.specs.Shape.{mostVariables}
 use Rattle.strings.specs.Sums.{byteAt, bitOf, xorSum, maskByte}
 use Rattle.chunks.specs.Chunks.{chunk, cellAt}
-use Rattle.forms_folds.specs.Folds.{foldedBit}
 use Rattle.forms_columns.specs.Stacks.{byteProduct, coordinateOf}
 
 abbrev pub chunkBits : ℕ
@@ -68,12 +63,6 @@ leftBit cells m x i top rows h z = xorSum (rows * 16) (λ ρ. x (top * 16 + ρ) 
 
 unfoldable pub lineSum : List ℕ → ℕ → (ℕ → ℕ → ℕ) → ℕ → ℕ → ℕ
 lineSum L m χ e c = xorSum m (λ i. lineBit L m i c * χ e i)
-
-unfoldable pub leftPart : ℕ → ℕ → List ℕ → (ℕ → ℕ) → ℕ → ℕ → ℕ → ℕ → ℕ
-leftPart w size A x i top rows c = xorSum (rows * 16) (λ ρ. x (top * 16 + ρ) * foldedBit w (blockAt A size i) (top * 16 + ρ) c)
-
-unfoldable pub leftOf : ℕ → ℕ → List ℕ → (ℕ → ℕ) → ℕ → ℕ → ℕ
-leftOf w size A x i c = xorSum ((c / 16 + 1) * 16) (λ ρ. x ρ * foldedBit w (blockAt A size i) ρ c)
 
 abbrev pub LeftAdded : ℕ → ℕ → ℕ → ℕ → List ℕ → List ℕ → List ℕ → List ℕ → Type 0
 LeftAdded m J top rows bits cells old new =

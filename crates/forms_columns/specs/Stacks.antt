@@ -1,8 +1,8 @@
 -- Polynomials in α whose coefficients are bits, in planes: plane s of a stack holds the coefficients of α^s, one bit
 -- for each place. In each definition d is the degree of the field (field's Degrees).
 --   alpha d s == α^s as a byte, where α is the element 02;  byteProduct d x y == the product of two bytes as elements
---   planes == the planes of a stack: as many coefficients as a product of two elements of the larger field has before it
---     is reduced
+--   planes == the planes of a stack: as many coefficients as a product of two elements of the larger field has before
+--     it is reduced
 --   stackAt d t f z == the value of a stack at bit z of byte f;  stackOf d T e f z == that of stack e of a table
 --   foldOf d T e h z == the sum of the values of stack e at bit z of the sixteen bytes of half h
 --   columnOf d T e s == the same for column s of sixteen

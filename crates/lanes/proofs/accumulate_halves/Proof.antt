@@ -1,5 +1,5 @@
--- `lanes::accumulate_halves` meets its contract. Each element is changed once (`Elementwise`), by the product that `multiply`
--- ensures.
+-- `lanes::accumulate_halves` meets its contract. Each element is changed once (`Elementwise`), by the product that
+-- `multiply` ensures.
 -- Assumes nothing.
 use borrow.Author.Needs.{needs}
 use Prim.Native.Nat.{ℕ, _≤_, _<_, _-_}

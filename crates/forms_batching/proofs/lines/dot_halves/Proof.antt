@@ -1,4 +1,5 @@
--- `forms_batching::lines::dot_halves` meets its contract. The invariant: the products of the coordinates below c are added.
+-- `forms_batching::lines::dot_halves` meets its contract. The invariant: the products of the coordinates below c are
+-- added.
 -- Assumes nothing.
 use borrow.Author.Needs.{needs}
 use Prim.Native.Nat.{ℕ, _-_, _≤_}

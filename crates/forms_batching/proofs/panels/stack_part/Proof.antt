@@ -14,7 +14,7 @@ use Rattle.chunks.specs.Chunks.{chunk}
 use Rattle.forms_columns.specs.Stacks.{byteProduct, planes, stackOf, coordinateOf}
 use Rattle.forms_batching.specs.Batched.{cellSum}
 use Rattle.forms_batching.proofs.StackLaws.{stack-none}
-use Rattle.forms_batching.proofs.PanelLaws.{fold-is}
+use Rattle.forms_batching.proofs.PartLaws.{fold-is}
 use Rattle.forms_batching.proofs.panels.stack_part.Statement.{statement}
 use Rattle.forms_batching.proofs.panels.stack_part.Tie as tie
 

@@ -1,14 +1,14 @@
--- `forms_batching::panels::piece_at` meets its contract.
+-- `forms_pieces::piece_at` meets its contract.
 -- Assumes nothing.
 use borrow.Author.Needs.{needs}
 use Prim.Native.Nat.{_-_}
 use mathlib.Core.Path.{_≡_, refl, ap, _∙_}
 use native.Mathlib.Omega.{arith}
 use Rattle.strings.proofs.LeastLaws.{under-least}
-use Rattle.forms_batching.specs.Pieces.{endOf, rowsOf}
-use Rattle.forms_batching.proofs.PieceLaws.{end-is}
-use Rattle.forms_batching.proofs.panels.piece_at.Statement.{statement}
-use Rattle.forms_batching.proofs.panels.piece_at.Tie as tie
+use Rattle.forms_pieces.specs.Pieces.{endOf, rowsOf}
+use Rattle.forms_pieces.proofs.PieceLaws.{end-is}
+use Rattle.forms_pieces.proofs.piece_at.Statement.{statement}
+use Rattle.forms_pieces.proofs.piece_at.Tie as tie
 
 sub-from : tie.Need-sub-from
 sub-from c = search needs

@@ -19,10 +19,11 @@ use Rattle.chunks.proofs.BitSumLaws.{sum-swap, sum-blocks, bits-lt, times-sum, 
 use Rattle.forms_folds.specs.Folds.{foldedBit}
 use Rattle.forms_columns.specs.Stacks.{byteProduct}
 use Rattle.forms_columns.proofs.ProductLaws.{product-sum, product-bits, product-zero}
-use Rattle.forms_batching.specs.Batched.{batchedByte, leftSum}
-use Rattle.forms_batching.specs.Lines.{lineByte, lineBit, leftBit, lineSum, leftPart, leftOf, LinesBeside}
+use Rattle.forms_batching.specs.Batched.{batchedByte}
+use Rattle.forms_pieces.specs.FormSums.{leftSum, leftPart, leftOf}
+use Rattle.forms_batching.specs.Lines.{lineByte, lineBit, leftBit, lineSum, LinesBeside}
 use Rattle.forms_batching.proofs.FormLaws.{product-xor, product-inner}
-use Rattle.forms_batching.proofs.FoldLaws.{folded-bit-lt}
+use Rattle.forms_pieces.proofs.FoldLaws.{folded-bit-lt}
 
 -- ---- the lines, part by part
 

@@ -1,4 +1,4 @@
--- `forms_batching::panels::add_forms` meets its contract. The invariant: of each panel, as many sixteens of rows are
+-- `forms_pieces::add_forms` meets its contract. The invariant: of each panel, as many sixteens of rows are
 -- added as the walk over the pieces has passed. What all of them come to is `FoldLaws`.
 -- Assumes nothing.
 use borrow.Author.Needs.{needs}
@@ -17,15 +17,16 @@ use Rattle.chunks.specs.Chunks.{chunk}
 use Rattle.forms_choices.specs.Entries.{IsBytes, ChosenAll}
 use Rattle.forms_folds.specs.Folds.{Folded, FoldedSet}
 use Rattle.forms_columns.specs.Stacks.{byteProduct, planes, columnOf, coordinateOf}
-use Rattle.forms_batching.specs.Batched.{SumsRoom, rowsSum, leftSum}
+use Rattle.forms_batching.specs.Batched.{SumsRoom, rowsSum}
+use Rattle.forms_pieces.specs.FormSums.{leftSum}
 use Rattle.forms_batching.specs.Lines.{lineBit, lineSum}
-use Rattle.forms_batching.specs.Pieces.{panelsOf, endOf, rowsOf, pieceEnd, Walk, Walked}
-use Rattle.forms_batching.proofs.FoldLaws.{form-is, polar-is}
-use Rattle.forms_batching.proofs.PanelLaws.{partTerm, quad-is, mid-is, term-parts, terms-none, terms-all}
-use Rattle.forms_batching.proofs.LeftLaws.{Added, AddedUpTo, left-none, added-start, added-end, lines-added, both-halves}
-use Rattle.forms_batching.proofs.PieceLaws.{piece-of, rows-height, walkMeasure, end-bounds, end-under, walk-start, walk-end, back-walked, walked-here, sum-walked, next-walked, next-walk, next-inside, next-less, next-held, part-folded, lines-walked}
-use Rattle.forms_batching.proofs.panels.add_forms.Statement.{statement}
-use Rattle.forms_batching.proofs.panels.add_forms.Tie as tie
+use Rattle.forms_pieces.specs.Pieces.{panelsOf, endOf, rowsOf, pieceEnd, Walk, Walked}
+use Rattle.forms_pieces.proofs.FoldLaws.{form-is, polar-is}
+use Rattle.forms_pieces.proofs.PanelLaws.{partTerm, quad-is, mid-is, term-parts, terms-none, terms-all}
+use Rattle.forms_pieces.proofs.LeftLaws.{Added, AddedUpTo, left-none, added-start, added-end, lines-added, both-halves}
+use Rattle.forms_pieces.proofs.PieceLaws.{piece-of, rows-height, walkMeasure, end-bounds, end-under, walk-start, walk-end, back-walked, walked-here, sum-walked, next-walked, next-walk, next-inside, next-less, next-held, part-folded, lines-walked}
+use Rattle.forms_pieces.proofs.add_forms.Statement.{statement}
+use Rattle.forms_pieces.proofs.add_forms.Tie as tie
 
 -- where the polar form is not asked for, what would be added is 0
 all-added : (asked : Bool) (w size m : ℕ) (A xs L₀ L : List ℕ) (i c : ℕ) → (asked ≡ true → Added w size m A (byteAt xs) L₀ L i c) → (asked ≡ false → L ≡ L₀) → (asked ≡ false → (k : ℕ) → byteAt xs k ≡ 0) → Added w size m A (byteAt xs) L₀ L i c

@@ -1,4 +1,4 @@
--- `forms_batching::panels::widen` meets its contract. Each element is changed once (`Elementwise`).
+-- `forms_pieces::widen` meets its contract. Each element is changed once (`Elementwise`).
 -- Assumes nothing.
 use borrow.Author.Needs.{needs}
 use Prim.Native.Nat.{ℕ, _*_, _-_, _≤_, _<_}
@@ -9,8 +9,8 @@ use denote.Ref.{now}
 use lib.ListN.{length, length-set}
 use Rattle.strings.specs.Sums.{byteAt}
 use Rattle.strings.proofs.Elementwise.{changed, changed-more, changed-all}
-use Rattle.forms_batching.proofs.panels.widen.Statement.{statement}
-use Rattle.forms_batching.proofs.panels.widen.Tie as tie
+use Rattle.forms_pieces.proofs.widen.Statement.{statement}
+use Rattle.forms_pieces.proofs.widen.Tie as tie
 
 abbrev change : List ℕ → ℕ → ℕ → ℕ
 change xs c x = byteAt xs c * 255

@@ -1,11 +1,11 @@
--- `forms_batching::panels::rows_of` meets its contract, case by case.
+-- `forms_pieces::rows_of` meets its contract, case by case.
 -- Assumes nothing.
 use borrow.Author.Needs.{needs}
 use mathlib.Core.Path.{sym}
 use native.Mathlib.Omega.{arith}
-use Rattle.forms_batching.proofs.PieceLaws.{rows-whole, rows-eight, rows-long, rows-other}
-use Rattle.forms_batching.proofs.panels.rows_of.Statement.{statement}
-use Rattle.forms_batching.proofs.panels.rows_of.Tie as tie
+use Rattle.forms_pieces.proofs.PieceLaws.{rows-whole, rows-eight, rows-long, rows-other}
+use Rattle.forms_pieces.proofs.rows_of.Statement.{statement}
+use Rattle.forms_pieces.proofs.rows_of.Tie as tie
 
 returns : tie.Need-returns
 returns c = let a = c .before .args in sym (rows-whole (a .first) (a .end) (omega arith))

@@ -20,10 +20,10 @@ use Rattle.forms_folds.specs.Folds.{foldedBit, before, height, pieceSixteens, c
 use Rattle.forms_folds.specs.Sets.{PieceOf}
 use Rattle.forms_folds.proofs.PlaceLaws.{before-tall, before-flat, height-tall, height-flat}
 use Rattle.forms_folds.specs.declared.Piece.{Piece}
-use Rattle.forms_batching.specs.declared.panels.Place.{Place}
+use Rattle.forms_pieces.specs.declared.Place.{Place}
 use Rattle.forms_batching.specs.Lines.{lineByte, leftBit, LinesBeside}
-use Rattle.forms_batching.proofs.LeftLaws.{AddedUpTo, PartFolded, added-more, added-beside}
-use Rattle.forms_batching.specs.Pieces.{panelsOf, endOf, shortPiece, rowsOf, pieceEnd, PieceAt, NextPlace, Walk, Walked}
+use Rattle.forms_pieces.proofs.LeftLaws.{AddedUpTo, PartFolded, added-more, added-beside}
+use Rattle.forms_pieces.specs.Pieces.{panelsOf, endOf, shortPiece, rowsOf, pieceEnd, PieceAt, NextPlace, Walk, Walked}
 
 -- ---- the end of a set
 

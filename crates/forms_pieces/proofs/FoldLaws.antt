@@ -20,8 +20,9 @@ use Rattle.chunks.proofs.BitSumLaws.{sum-swap, sum-blocks}
 use Rattle.forms_folds.specs.Folds.{entry, foldedBit}
 use Rattle.forms_columns.specs.Stacks.{byteProduct}
 use Rattle.forms_columns.proofs.ProductLaws.{product-comm, product-zero}
-use Rattle.forms_batching.specs.Batched.{batchedByte, leftSum, formSum}
+use Rattle.forms_batching.specs.Batched.{batchedByte}
+use Rattle.forms_pieces.specs.FormSums.{leftSum, formSum}
 use Rattle.forms_batching.proofs.FormLaws.{product-outer, product-rows}
 
 -- ---- one matrix
 

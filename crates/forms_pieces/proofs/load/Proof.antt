@@ -1,8 +1,8 @@
--- `forms_batching::panels::load` meets its contract.
+-- `forms_pieces::load` meets its contract.
 -- Assumes nothing.
 use borrow.Author.Needs.{needs}
-use Rattle.forms_batching.proofs.panels.load.Statement.{statement}
-use Rattle.forms_batching.proofs.panels.load.Tie as tie
+use Rattle.forms_pieces.proofs.load.Statement.{statement}
+use Rattle.forms_pieces.proofs.load.Tie as tie
 
 load-piece-requires : tie.Need-load-piece-requires
 load-piece-requires c κs = c .before .before .before .before .before .before .pre .0

@@ -16,7 +16,7 @@ use Prim.Native.Nat.{ℕ, _+_, _-_, _/_, _%_, _≤_, _<_}
 use lib.Dec.{ltb, leb, eqb}
 use Rattle.forms_folds.specs.Folds.{pieceSixteens}
 use Rattle.forms_folds.specs.declared.Piece.{Piece}
-use Rattle.forms_batching.specs.declared.panels.Place.{Place}
+use Rattle.forms_pieces.specs.declared.Place.{Place}
 
 abbrev pub panelsOf : ℕ → ℕ
 panelsOf n = (n + 15) / 16

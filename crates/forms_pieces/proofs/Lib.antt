@@ -1,0 +1,4 @@
+pub mod FoldLaws
+pub mod PanelLaws
+pub mod LeftLaws
+pub mod PieceLaws

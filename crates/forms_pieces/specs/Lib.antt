@@ -1,0 +1,2 @@
+pub mod FormSums
+pub mod Pieces
