@@ -7,7 +7,7 @@ use native.Mathlib.Omega.{arith}
 use lib.ListN.{length, take}
 use lib.Bits.{bitXor}
 use Rattle.protocol.specs.Strings.{bit}
-use Rattle.protocol.specs.Binary.{bits256}
+use Rattle.protocol.specs.Setting.{Setting, alphabetOf}
 use Rattle.protocol.specs.Shape.{Shape, maskAt, perTree, kOf, lOf, wOf}
 use Rattle.protocol.specs.Key.{sectionA, sectionB}
 use Rattle.protocol.specs.Prover.{v, qs0, qs1, qs0Section, qs1Section}
@@ -21,35 +21,35 @@ use Rattle.forms.specs.Batch.{formsByte, middlesByte}
 use Rattle.forms.proofs.FormsMeaning.{qs0-is, qs1-is}
 use Rattle.strings.proofs.TableLaws.{prefix-table}
 
-module _ (s : Shape) (leaves key χ tab out : List ℕ) (is : TableIs tab leaves (s .τ) (wOf bits256 s) (perTree bits256)) (long : s .τ ≤ length out)
-    (g : ℕ → ℕ → ℕ) (same : (e c : ℕ) → e < s .τ → c < s .n → g e c ≡ laneAt tab c e) where
+module _ (g : Setting) (s : Shape) (leaves key χ tab out : List ℕ) (is : TableIs tab leaves (s .τ) (wOf (alphabetOf g) s) (perTree (alphabetOf g))) (long : s .τ ≤ length out)
+    (vs : ℕ → ℕ → ℕ) (same : (e c : ℕ) → e < s .τ → c < s .n → vs e c ≡ laneAt tab c e) where
   -- a hashed coordinate is in a leaf
-  inside : (c : ℕ) → c < kOf bits256 s → c < 8 * wOf bits256 s
+  inside : (c : ℕ) → c < kOf (alphabetOf g) s → c < 8 * wOf (alphabetOf g) s
   unfolding lOf
-  inside c h = in-width s c (omega arith)
+  inside c h = in-width g s c (omega arith)
 
   -- and so is one of a vector
-  below : (c : ℕ) → c < s .n → c < kOf bits256 s
+  below : (c : ℕ) → c < s .n → c < kOf (alphabetOf g) s
   unfolding kOf
   below c h = omega arith
 
-  lane-is : (e : ℕ) → e < s .τ → (c : ℕ) → c < kOf bits256 s → laneAt tab c e ≡ byteOf (v bits256 s leaves e c)
-  lane-is e l c h = table-v s leaves e c tab (s .τ) is l (inside c h)
+  lane-is : (e : ℕ) → e < s .τ → (c : ℕ) → c < kOf (alphabetOf g) s → laneAt tab c e ≡ byteOf g (v (alphabetOf g) s leaves e c)
+  lane-is e l c h = table-v g s leaves e c tab (s .τ) is l (inside c h)
 
-  front : (e : ℕ) → e < s .τ → (c : ℕ) → c < s .n → g e c ≡ byteOf (v bits256 s leaves e c)
+  front : (e : ℕ) → e < s .τ → (c : ℕ) → c < s .n → vs e c ≡ byteOf g (v (alphabetOf g) s leaves e c)
   front e l c h = same e c l h ∙ lane-is e l c (below c h)
 
-  pub qs0-are : ((e : ℕ) → e < s .τ → byteAt out e ≡ bitXor (maskLane tab (maskAt bits256 s e) e) (formsByte (s .n) (s .m) (sectionA bits256 s key) χ e (g e)))
-      → take (s .τ) out ≡ qs0Section bits256 s leaves key χ
+  pub qs0-are : ((e : ℕ) → e < s .τ → byteAt out e ≡ bitXor (maskLane (g .degree) tab (maskAt (alphabetOf g) s e) e) (formsByte (g .degree) (s .n) (s .m) (sectionA (alphabetOf g) s key) χ e (vs e)))
+      → take (s .τ) out ≡ qs0Section (alphabetOf g) s leaves key χ
   unfolding qs0Section
   qs0-are at =
-      prefix-table out (s .τ) (λ e. byteOf (qs0 bits256 s leaves key χ e)) long
-      (λ e l. at e l ∙ qs0-is s leaves key χ tab e l (lane-is e l) (g e) (front e l))
+      prefix-table out (s .τ) (λ e. byteOf g (qs0 (alphabetOf g) s leaves key χ e)) long
+      (λ e l. at e l ∙ qs0-is (g .degree) s leaves key χ tab e l (lane-is e l) (vs e) (front e l))
 
-  pub qs1-are : (x us : List ℕ) → IsU s leaves us
-      → ((e : ℕ) → e < s .τ → byteAt out e ≡ bitXor (maskBits us (maskAt bits256 s e)) (middlesByte (s .n) (s .m) (sectionA bits256 s key) (sectionB bits256 s key) (bit x) χ e (g e)))
-      → take (s .τ) out ≡ qs1Section bits256 s leaves key x χ
+  pub qs1-are : (x us : List ℕ) → IsU g s leaves us
+      → ((e : ℕ) → e < s .τ → byteAt out e ≡ bitXor (maskBits (g .degree) us (maskAt (alphabetOf g) s e)) (middlesByte (g .degree) (s .n) (s .m) (sectionA (alphabetOf g) s key) (sectionB (alphabetOf g) s key) (bit x) χ e (vs e)))
+      → take (s .τ) out ≡ qs1Section (alphabetOf g) s leaves key x χ
   unfolding qs1Section
   qs1-are x us bits at =
-      prefix-table out (s .τ) (λ e. byteOf (qs1 bits256 s leaves key x χ e)) long
-      (λ e l. at e l ∙ qs1-is s leaves key χ tab e l (lane-is e l) (g e) (front e l) x us (λ c h. bits c (inside c h)))
+      prefix-table out (s .τ) (λ e. byteOf g (qs1 (alphabetOf g) s leaves key x χ e)) long
+      (λ e l. at e l ∙ qs1-is (g .degree) s leaves key χ tab e l (lane-is e l) (vs e) (front e l) x us (λ c h. bits c (inside c h)))

@@ -9,7 +9,7 @@ use lib.ListN.{length, replicate, length-replicate, List·getD-append}
 use Rattle.protocol.specs.Strings.{bytesFor}
 use Rattle.protocol.specs.Frames.{framedLength}
 use Rattle.protocol.specs.Alphabet.{Alphabet}
-use Rattle.protocol.specs.Binary.{bits256}
+use Rattle.protocol.specs.Setting.{Setting, alphabetOf}
 use Rattle.protocol.specs.Shape.{Shape, limits, perTree, wOf}
 use Rattle.protocol.specs.Sections.{commitLengths, hashLengths}
 use Rattle.protocol.proofs.CountingLaws.{leaves-length}
@@ -40,25 +40,25 @@ pub key-form : (A : Alphabet) (s : Shape) (key : List ℕ) → KeyFacts A s key 
 key-form A s key f = record { header = f .header; sizes = f .in-range; exact = f .key-exact }
 
 -- the buffers of a call, made for the largest key, have room for this one
-pub buffers-of : (s : Shape) → limits s ≡ true → Buffers bits256 s (replicate (8 * mostLeaf * lanes) 0) (replicate (lanes * mostLeaf) 0)
-buffers-of s h = record {
-  table-room = rw (length-replicate {A = ℕ} (8 * mostLeaf * lanes) 0) (room s h .table-room);
-  sums-room = rw (length-replicate {A = ℕ} (lanes * mostLeaf) 0) (room s h .sums-room);
+pub buffers-of : (g : Setting) (s : Shape) → limits s ≡ true → Buffers (alphabetOf g) s (replicate (8 * mostLeaf * lanes) 0) (replicate (lanes * mostLeaf) 0)
+buffers-of g s h = record {
+  table-room = rw (length-replicate {A = ℕ} (8 * mostLeaf * lanes) 0) (room g s h .table-room);
+  sums-room = rw (length-replicate {A = ℕ} (lanes * mostLeaf) 0) (room g s h .sums-room);
 }
 
 -- and so has the space of the cells
-pub space-of : (s : Shape) → limits s ≡ true → Buffers bits256 s (replicate (cellSixteens * (mostBlock * chunk)) 0) (replicate (lanes * mostLeaf) 0)
-space-of s h = record {
-  table-room = rw (length-replicate {A = ℕ} (cellSixteens * (mostBlock * chunk)) 0) (omega (arith, room s h .table-room));
-  sums-room = rw (length-replicate {A = ℕ} (lanes * mostLeaf) 0) (room s h .sums-room);
+pub space-of : (g : Setting) (s : Shape) → limits s ≡ true → Buffers (alphabetOf g) s (replicate (cellSixteens * (mostBlock * chunk)) 0) (replicate (lanes * mostLeaf) 0)
+space-of g s h = record {
+  table-room = rw (length-replicate {A = ℕ} (cellSixteens * (mostBlock * chunk)) 0) (omega (arith, room g s h .table-room));
+  sums-room = rw (length-replicate {A = ℕ} (lanes * mostLeaf) 0) (room g s h .sums-room);
 }
 
 -- the lengths of what the steps write
-module _ (s : Shape) where
-  pub commit-length : framedLength (commitLengths bits256 s) ≡ 8 + (s .τ - 1) * wOf bits256 s + bytesFor (s .n)
+module _ (g : Setting) (s : Shape) where
+  pub commit-length : framedLength (commitLengths (alphabetOf g) s) ≡ 8 + (s .τ - 1) * wOf (alphabetOf g) s + bytesFor (s .n)
   unfolding framedLength commitLengths
   commit-length = omega arith
 
-  pub hash-length : framedLength (hashLengths bits256 s) ≡ 8 + bytesFor (s .t) + s .τ * s .t
+  pub hash-length : framedLength (hashLengths (alphabetOf g) s) ≡ 8 + bytesFor (s .t) + s .τ * s .t
   unfolding framedLength hashLengths
   hash-length = omega arith

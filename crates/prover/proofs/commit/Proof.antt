@@ -15,7 +15,7 @@ use Rattle.protocol.specs.Shape.{Shape, limits, kOf, wOf}
 use Rattle.protocol.specs.Sections.{commitLengths, hashLengths}
 use Rattle.protocol.specs.Prover.{cSection, dSection, ũSection, ṼSection, qs0Section, qs1Section}
 use Rattle.protocol.proofs.ListLaws.{row-end}
-use Rattle.format.specs.Sizes.{shapeFor}
+use Rattle.format.specs.Sizes.{settingFor, shapeFor}
 use Rattle.format.proofs.SizeLaws.{in-limits, k-most, w-most, bytes-most, corrections-most, hashed-most, row-most}
 use Rattle.format.proofs.FitLaws.{n-fits, l-fits, variables-fit}
 use Rattle.sections.proofs.Writes.{framed-one, framed-two, rest-length, part-starts, take-length}
@@ -32,7 +32,7 @@ slice-aggregate-load-2 c = search needs
 
 load-requires : tie.Need-load-requires
 load-requires c κs =
-    (c .before .before .before .before .before .pre .in-range, c .before .before .before .before .before .pre .of-leaves, buffers-of (shapeFor (c .before .before .before .before .before .args .s)) (c .before .before .before .before .before .pre .in-range))
+    (c .before .before .before .before .before .pre .in-range, c .before .before .before .before .before .pre .of-leaves, buffers-of (settingFor (c .before .before .before .before .before .args .s)) (shapeFor (c .before .before .before .before .before .args .s)) (c .before .before .before .before .before .pre .in-range))
 
 slice-aggregate-commit-into : tie.Need-slice-aggregate-commit-into
 slice-aggregate-commit-into c = search needs

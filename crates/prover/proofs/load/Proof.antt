@@ -16,7 +16,7 @@ use Rattle.protocol.specs.Shape.{Shape, limits, kOf, perTree, wOf}
 use Rattle.protocol.specs.Sections.{commitLengths, hashLengths}
 use Rattle.protocol.specs.Prover.{cSection, dSection, ũSection, ṼSection, qs0Section, qs1Section}
 use Rattle.protocol.proofs.ListLaws.{row-end}
-use Rattle.format.specs.Sizes.{alphabetFor, shapeFor}
+use Rattle.format.specs.Sizes.{settingFor, alphabetFor, shapeFor}
 use Rattle.format.proofs.SizeLaws.{in-limits, k-most, w-most, bytes-most, corrections-most, hashed-most, row-most}
 use Rattle.format.proofs.FitLaws.{n-fits, l-fits, variables-fit}
 use Rattle.sections.proofs.Writes.{framed-one, framed-two, rest-length, part-starts, take-length}
@@ -32,10 +32,10 @@ leaf-bytes-requires : tie.Need-leaf-bytes-requires
 leaf-bytes-requires c κs = search needs
 
 mul-load-trees : tie.Need-mul-load-trees
-mul-load-trees c = rw (c .leaf-bytes .ensures) (omega (arith, w-most (shapeFor (c .before .before .before .before .args .s)) (c .before .before .before .before .pre .0)))
+mul-load-trees c = rw (c .leaf-bytes .ensures) (omega (arith, w-most (settingFor (c .before .before .before .before .args .s)) (shapeFor (c .before .before .before .before .args .s)) (c .before .before .before .before .pre .0)))
 
 mul-load-trees-2 : tie.Need-mul-load-trees-2
-mul-load-trees-2 c = rw (c .leaf-bytes .ensures) (omega (arith, w-most (shapeFor (c .before .before .before .before .args .s)) (c .before .before .before .before .pre .0)))
+mul-load-trees-2 c = rw (c .leaf-bytes .ensures) (omega (arith, w-most (settingFor (c .before .before .before .before .args .s)) (shapeFor (c .before .before .before .before .args .s)) (c .before .before .before .before .pre .0)))
 
 slice-relend-prefix-load-trees : tie.Need-slice-relend-prefix-load-trees
 slice-relend-prefix-load-trees c = rw (c .leaf-bytes .ensures) (c .before .before .before .before .pre .2 .table-room)
@@ -46,7 +46,7 @@ slice-aggregate-load-trees c =
 
 mul-load-trees-3 : tie.Need-mul-load-trees-3
 mul-load-trees-3 c =
-    rw (c .before .leaf-bytes .ensures) (omega (arith, room (shapeFor (c .before .before .before .before .before .args .s)) (c .before .before .before .before .before .pre .0) .sums-room))
+    rw (c .before .leaf-bytes .ensures) (omega (arith, room (settingFor (c .before .before .before .before .before .args .s)) (shapeFor (c .before .before .before .before .before .args .s)) (c .before .before .before .before .before .pre .0) .sums-room))
 
 slice-relend-prefix-load-trees-2 : tie.Need-slice-relend-prefix-load-trees-2
 slice-relend-prefix-load-trees-2 c = rw (c .before .leaf-bytes .ensures) (c .before .before .before .before .before .pre .2 .sums-room)
@@ -65,7 +65,7 @@ load-trees-requires c κs = (
   take-length (c .before .before .before .before .before .before .before .args .s .tau * c .before .before .before .leaf-bytes .result) (now (c .before .before .before .before .before .before .before .args .sums)) (rw (c .before .before .before .leaf-bytes .ensures) (c .before .before .before .before .before .before .before .pre .2 .sums-room)),
   rw (c .before .before .before .leaf-bytes .ensures, c .degree-of .ensures) (leaves-long (alphabetFor (c .before .before .before .before .before .before .before .args .s)) (shapeFor (c .before .before .before .before .before .before .before .args .s)) _ (c .before .before .before .before .before .before .before .pre .1)),
   in-limits (shapeFor (c .before .before .before .before .before .before .before .args .s)) (c .before .before .before .before .before .before .before .pre .0) .τ-most,
-  rw (c .before .before .before .leaf-bytes .ensures) (omega (arith, w-most (shapeFor (c .before .before .before .before .before .before .before .args .s)) (c .before .before .before .before .before .before .before .pre .0))),
+  rw (c .before .before .before .leaf-bytes .ensures) (omega (arith, w-most (settingFor (c .before .before .before .before .before .before .before .args .s)) (shapeFor (c .before .before .before .before .before .before .before .args .s)) (c .before .before .before .before .before .before .before .pre .0))),
   omega (arith, c .degree-of .ensures),
 )
 

@@ -15,7 +15,7 @@ use Rattle.protocol.specs.Shape.{Shape, limits, kOf, wOf}
 use Rattle.protocol.specs.Sections.{commitLengths, hashLengths}
 use Rattle.protocol.specs.Prover.{cSection, dSection, ũSection, ṼSection, qs0Section, qs1Section}
 use Rattle.protocol.proofs.ListLaws.{row-end}
-use Rattle.format.specs.Sizes.{alphabetFor, shapeFor}
+use Rattle.format.specs.Sizes.{settingFor, alphabetFor, shapeFor}
 use Rattle.format.proofs.SizeLaws.{in-limits, k-most, w-most, bytes-most, corrections-most, hashed-most, row-most}
 use Rattle.format.proofs.FitLaws.{n-fits, l-fits, variables-fit}
 use Rattle.sections.proofs.Writes.{framed-one, framed-two, rest-length, take-length}
@@ -39,11 +39,11 @@ sub-put-count c = in-limits (shapeFor (c .before .before .before .before .args .
 
 mul-put-count : tie.Need-mul-put-count
 mul-put-count c =
-    rw (c .before .leaf-bytes .ensures) (omega (arith, corrections-most (shapeFor (c .before .before .before .before .args .s)) (c .before .before .before .before .pre .0)))
+    rw (c .before .leaf-bytes .ensures) (omega (arith, corrections-most (settingFor (c .before .before .before .before .args .s)) (shapeFor (c .before .before .before .before .args .s)) (c .before .before .before .before .pre .0)))
 
 put-count-requires : tie.Need-put-count-requires
 put-count-requires c κs =
-    (simp length-take (omega arith), rw (c .before .leaf-bytes .ensures) (omega (arith, corrections-most (shapeFor (c .before .before .before .before .args .s)) (c .before .before .before .before .pre .0))))
+    (simp length-take (omega arith), rw (c .before .leaf-bytes .ensures) (omega (arith, corrections-most (settingFor (c .before .before .before .before .args .s)) (shapeFor (c .before .before .before .before .args .s)) (c .before .before .before .before .pre .0))))
 
 sub-write-corrections : tie.Need-sub-write-corrections
 sub-write-corrections c = search needs
@@ -72,7 +72,7 @@ returns c =
     let long : length (c .before .before .write-corrections .last .0) ≡ (c .before .before .before .before .before .before .before .before .before .before .before .args .s .tau - 1) * wOf (alphabetFor (c .before .before .before .before .before .before .before .before .before .before .before .args .s)) (shapeFor (c .before .before .before .before .before .before .before .before .before .before .before .args .s)) = corrected .kept .0 ∙ rest-length 4 ((c .before .before .before .before .before .before .before .before .before .before .before .args .s .tau - 1) * wOf (alphabetFor (c .before .before .before .before .before .before .before .before .before .before .before .args .s)) (shapeFor (c .before .before .before .before .before .before .before .before .before .before .before .args .s))) (c .before .before .before .before .before .before .put-count .last .0) (now (c .before .before .before .before .before .before .before .before .before .before .before .args .out)) (c .before .before .before .before .before .before .put-count .kept .0 ∙ simp length-take (omega arith)) (c .before .before .before .before .before .before .before .before .before .before .before .pre .2) in
     λ leaves form are.
     framed-one ((a .s .tau - 1) * wOf (alphabetFor (a .s)) shape) (count .last .0) (now (a .out)) (corrected .last .0) (cSection (alphabetFor (a .s)) shape leaves) (count .kept .0 ∙ simp length-take (omega arith)) (rw (leaf .ensures) at (count .ensures))
-    (corrections-are shape leaves (corrected .last .0) (now (a .sums)) are written (form .leaves-exact) (form .leaves-spare) long (λ i. omega (arith, c .before .before .before .before .before .before .before .before .before .shared-slice-known .given i))) long
+    (corrections-are (settingFor (c .before .before .before .before .before .before .before .before .before .before .before .args .s)) shape leaves (corrected .last .0) (now (a .sums)) are written (form .leaves-exact) (form .leaves-spare) long (λ i. omega (arith, c .before .before .before .before .before .before .before .before .before .shared-slice-known .given i))) long
 
 pub write-c-spec : {M : Type 1} → statement M
 write-c-spec =

@@ -15,7 +15,7 @@ use Rattle.protocol.specs.Shape.{Shape, limits, kOf, wOf}
 use Rattle.protocol.specs.Sections.{commitLengths, hashLengths}
 use Rattle.protocol.specs.Prover.{cSection, dSection, ũSection, ṼSection, qs0Section, qs1Section}
 use Rattle.protocol.proofs.ListLaws.{row-end}
-use Rattle.format.specs.Sizes.{alphabetFor, shapeFor}
+use Rattle.format.specs.Sizes.{settingFor, alphabetFor, shapeFor}
 use Rattle.format.proofs.SizeLaws.{in-limits, k-most, w-most, bytes-most, corrections-most, hashed-most, row-most}
 use Rattle.format.proofs.FitLaws.{n-fits, l-fits, variables-fit}
 use Rattle.sections.proofs.Writes.{framed-one, framed-two, rest-length, take-length}
@@ -53,7 +53,7 @@ row-at-requires c κs =
 write-difference-requires : tie.Need-write-difference-requires
 write-difference-requires c κs =
     let long : length (now (c .row-at .result)) ≡ wOf (alphabetFor (c .before .before .before .before .before .before .before .before .before .before .args .s)) (shapeFor (c .before .before .before .before .before .before .before .before .before .before .args .s)) = c .row-at .ensures .1 ∙ c .before .before .before .before .before .before .leaf-bytes .ensures in
-    (rest-length 4 (bytesFor (c .before .before .before .before .before .before .before .before .before .before .args .s .n)) (c .before .before .before .before .put-count .last .0) (now (c .before .before .before .before .before .before .before .before .before .before .args .out)) (c .before .before .before .before .put-count .kept .0 ∙ simp length-take (omega arith)) (c .before .before .before .before .before .before .before .before .before .before .pre .3), c .before .before .before .before .before .before .before .before .before .before .pre .2, rw long (n-fits (shapeFor (c .before .before .before .before .before .before .before .before .before .before .args .s))))
+    (rest-length 4 (bytesFor (c .before .before .before .before .before .before .before .before .before .before .args .s .n)) (c .before .before .before .before .put-count .last .0) (now (c .before .before .before .before .before .before .before .before .before .before .args .out)) (c .before .before .before .before .put-count .kept .0 ∙ simp length-take (omega arith)) (c .before .before .before .before .before .before .before .before .before .before .pre .3), c .before .before .before .before .before .before .before .before .before .before .pre .2, rw long (n-fits (settingFor (c .before .before .before .before .before .before .before .before .before .before .args .s)) (shapeFor (c .before .before .before .before .before .before .before .before .before .before .args .s))))
 
 same-length : tie.Need-same-length
 same-length c = search needs
@@ -70,7 +70,7 @@ returns c =
     framed-one (bytesFor (a .s .n)) (count .last .0) (now (a .out)) (differs .last .0) (dSection (alphabetFor (a .s)) shape leaves (now (a .witness))) (count .kept .0 ∙ simp length-take (omega arith)) (rw (c .before .before .before .before .before .before .before .before .before .before .before .before .before .pre .2) at (count .ensures))
     (differs .ensures
     ∙ ap (λ (r : List ℕ). pack (a .s .n) (λ i. bitXor (bit (now (a .witness)) i) (bit r i))) row
-    ∙ difference-is shape leaves (now (a .witness)) (blockAt (now (a .sums)) (wOf (alphabetFor (a .s)) shape) 0) (first-is-u shape leaves (now (a .sums)) (in-limits (shapeFor (c .before .before .before .before .before .before .before .before .before .before .before .before .before .args .s)) (c .before .before .before .before .before .before .before .before .before .before .before .before .before .pre .0) .τ-least) are))
+    ∙ difference-is (settingFor (c .before .before .before .before .before .before .before .before .before .before .before .before .before .args .s)) shape leaves (now (a .witness)) (blockAt (now (a .sums)) (wOf (alphabetFor (a .s)) shape) 0) (first-is-u (settingFor (c .before .before .before .before .before .before .before .before .before .before .before .before .before .args .s)) shape leaves (now (a .sums)) (in-limits (shapeFor (c .before .before .before .before .before .before .before .before .before .before .before .before .before .args .s)) (c .before .before .before .before .before .before .before .before .before .before .before .before .before .pre .0) .τ-least) are))
     long
 
 pub write-d-spec : {M : Type 1} → statement M

@@ -15,7 +15,7 @@ use Rattle.protocol.specs.Shape.{Shape, limits, kOf, wOf}
 use Rattle.protocol.specs.Sections.{commitLengths, hashLengths}
 use Rattle.protocol.specs.Prover.{cSection, dSection, ũSection, ṼSection, qs0Section, qs1Section}
 use Rattle.protocol.proofs.ListLaws.{row-end}
-use Rattle.format.specs.Sizes.{alphabetFor, shapeFor}
+use Rattle.format.specs.Sizes.{settingFor, alphabetFor, shapeFor}
 use Rattle.format.proofs.SizeLaws.{in-limits, k-most, w-most, bytes-most, corrections-most, hashed-most, row-most}
 use Rattle.format.proofs.FitLaws.{n-fits, l-fits, variables-fit}
 use Rattle.sections.proofs.Writes.{framed-one, framed-two, rest-length, take-length}
@@ -61,7 +61,7 @@ row-at-requires c κs =
 write-hash-bits-requires : tie.Need-write-hash-bits-requires
 write-hash-bits-requires c κs =
     let long : length (now (c .row-at .result)) ≡ wOf (alphabetFor (c .before .before .before .before .before .before .before .before .before .before .before .before .args .s)) (shapeFor (c .before .before .before .before .before .before .before .before .before .before .before .before .args .s)) = c .row-at .ensures .1 ∙ c .before .before .before .before .before .before .before .before .leaf-bytes .ensures in
-    rw (c .before .before .before .before .before .before .before .hashed-bits .ensures, long) (rest-length 4 (bytesFor (c .before .before .before .before .before .before .before .before .before .before .before .before .args .s .t)) (c .before .before .before .before .put-count .last .0) (now (c .before .before .before .before .before .before .before .before .before .before .before .before .args .out)) (c .before .before .before .before .put-count .kept .0 ∙ simp length-take (omega arith)) (c .before .before .before .before .before .before .before .before .before .before .before .before .pre .3), hash-length (shapeFor (c .before .before .before .before .before .before .before .before .before .before .before .before .args .s)) _ (c .before .before .before .before .before .before .before .before .before .before .before .before .pre .2), l-fits (shapeFor (c .before .before .before .before .before .before .before .before .before .before .before .before .args .s)), omega (arith, w-most (shapeFor (c .before .before .before .before .before .before .before .before .before .before .before .before .args .s)) (c .before .before .before .before .before .before .before .before .before .before .before .before .pre .0)))
+    rw (c .before .before .before .before .before .before .before .hashed-bits .ensures, long) (rest-length 4 (bytesFor (c .before .before .before .before .before .before .before .before .before .before .before .before .args .s .t)) (c .before .before .before .before .put-count .last .0) (now (c .before .before .before .before .before .before .before .before .before .before .before .before .args .out)) (c .before .before .before .before .put-count .kept .0 ∙ simp length-take (omega arith)) (c .before .before .before .before .before .before .before .before .before .before .before .before .pre .3), hash-length (settingFor (c .before .before .before .before .before .before .before .before .before .before .before .before .args .s)) (shapeFor (c .before .before .before .before .before .before .before .before .before .before .before .before .args .s)) _ (c .before .before .before .before .before .before .before .before .before .before .before .before .pre .2), l-fits (settingFor (c .before .before .before .before .before .before .before .before .before .before .before .before .args .s)) (shapeFor (c .before .before .before .before .before .before .before .before .before .before .before .before .args .s)), omega (arith, w-most (settingFor (c .before .before .before .before .before .before .before .before .before .before .before .before .args .s)) (shapeFor (c .before .before .before .before .before .before .before .before .before .before .before .before .args .s)) (c .before .before .before .before .before .before .before .before .before .before .before .before .pre .0)))
 
 same-length : tie.Need-same-length
 same-length c = search needs
@@ -78,7 +78,7 @@ returns c =
     framed-one (bytesFor (a .s .t)) (count .last .0) (now (a .out)) (hashed .last .0) (ũSection (alphabetFor (a .s)) shape leaves (now (a .matrix))) (count .kept .0 ∙ simp length-take (omega arith)) (rw (c .before .before .before .before .before .before .before .before .bytes-for .ensures) at (count .ensures))
     (hashed .ensures
     ∙ ap₂ (λ (r : List ℕ) (n : ℕ). pack (a .s .t) (hashBit (now (a .matrix)) r n)) row (c .before .before .before .before .before .before .before .before .before .before .hashed-bits .ensures)
-    ∙ hash-is shape leaves (now (a .matrix)) (blockAt (now (a .sums)) (wOf (alphabetFor (a .s)) shape) 0) (c .before .before .before .before .before .before .before .before .before .before .before .before .before .before .before .pre .2 .hash-exact) (c .before .before .before .before .before .before .before .before .before .before .before .before .before .before .before .pre .2 .hash-spare) (first-is-u shape leaves (now (a .sums)) (in-limits (shapeFor (c .before .before .before .before .before .before .before .before .before .before .before .before .before .before .before .args .s)) (c .before .before .before .before .before .before .before .before .before .before .before .before .before .before .before .pre .0) .τ-least) are))
+    ∙ hash-is (settingFor (c .before .before .before .before .before .before .before .before .before .before .before .before .before .before .before .args .s)) shape leaves (now (a .matrix)) (blockAt (now (a .sums)) (wOf (alphabetFor (a .s)) shape) 0) (c .before .before .before .before .before .before .before .before .before .before .before .before .before .before .before .pre .2 .hash-exact) (c .before .before .before .before .before .before .before .before .before .before .before .before .before .before .before .pre .2 .hash-spare) (first-is-u (settingFor (c .before .before .before .before .before .before .before .before .before .before .before .before .before .before .before .args .s)) shape leaves (now (a .sums)) (in-limits (shapeFor (c .before .before .before .before .before .before .before .before .before .before .before .before .before .before .before .args .s)) (c .before .before .before .before .before .before .before .before .before .before .before .before .before .before .before .pre .0) .τ-least) are))
     long
 
 pub write-u-spec : {M : Type 1} → statement M

@@ -15,7 +15,7 @@ use Rattle.protocol.specs.Shape.{Shape, limits, perTree, kOf, wOf}
 use Rattle.protocol.specs.Sections.{commitLengths, hashLengths}
 use Rattle.protocol.specs.Prover.{cSection, dSection, ũSection, ṼSection, qs0Section, qs1Section}
 use Rattle.protocol.proofs.ListLaws.{row-end}
-use Rattle.format.specs.Sizes.{alphabetFor, shapeFor}
+use Rattle.format.specs.Sizes.{settingFor, alphabetFor, shapeFor}
 use Rattle.format.proofs.SizeLaws.{in-limits, k-most, w-most, bytes-most, corrections-most, hashed-most, row-most}
 use Rattle.format.proofs.FitLaws.{n-fits, l-fits, variables-fit}
 use Rattle.sections.proofs.Writes.{framed-one, framed-two, rest-length, take-length}
@@ -78,7 +78,7 @@ returns c =
     let long : length (c .before .before .hash-all .last .0) ≡ c .before .before .before .before .before .before .before .before .before .before .before .before .before .before .args .s .tau * c .before .before .before .before .before .before .before .before .before .before .before .before .before .before .args .s .t = hashed .kept .0 ∙ rest-length 4 (c .before .before .before .before .before .before .before .before .before .before .before .before .before .before .args .s .tau * c .before .before .before .before .before .before .before .before .before .before .before .before .before .before .args .s .t) (c .before .before .before .before .before .before .before .put-count .last .0) (now (c .before .before .before .before .before .before .before .before .before .before .before .before .before .before .args .out)) (c .before .before .before .before .before .before .before .put-count .kept .0 ∙ simp length-take (omega arith)) (c .before .before .before .before .before .before .before .before .before .before .before .before .before .before .pre .3) in
     λ leaves is.
     framed-one (a .s .tau * a .s .t) (count .last .0) (now (a .out)) (hashed .last .0) (ṼSection (alphabetFor (a .s)) shape leaves (now (a .matrix))) (count .kept .0 ∙ simp length-take (omega arith)) (count .ensures)
-    (hashed-are shape leaves (now (a .matrix)) (take (8 * wOf (alphabetFor (a .s)) shape * lanes) (now (a .table))) (hashed .last .0) (c .before .before .before .before .before .before .before .before .before .before .before .before .before .before .pre .2)
+    (hashed-are (settingFor (c .before .before .before .before .before .before .before .before .before .before .before .before .before .before .args .s)) shape leaves (now (a .matrix)) (take (8 * wOf (alphabetFor (a .s)) shape * lanes) (now (a .table))) (hashed .last .0) (c .before .before .before .before .before .before .before .before .before .before .before .before .before .before .pre .2)
     (table-less (now (a .table)) leaves (a .s .tau) (wOf (alphabetFor (a .s)) shape) (perTree (alphabetFor (a .s))) (in-limits shape (c .before .before .before .before .before .before .before .before .before .before .before .before .before .before .pre .0) .τ-most) is) long (rw (c .before .before .before .before .before .before .before .before .before .before .leaf-bytes .ensures) at (hashed .ensures)))
     long
 

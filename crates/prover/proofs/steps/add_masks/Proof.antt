@@ -12,7 +12,7 @@ use Rattle.protocol.specs.Shape.{wOf}
 use Rattle.protocol.proofs.ListLaws.{row-end}
 use Rattle.strings.specs.Sums.{byteAt}
 use Rattle.lanes.specs.Lanes.{maskBits, firstMask}
-use Rattle.format.specs.Sizes.{alphabetFor, shapeFor}
+use Rattle.format.specs.Sizes.{settingFor, alphabetFor, shapeFor}
 use Rattle.format.proofs.SizeLaws.{in-limits, k-most}
 use Rattle.format.proofs.FitLaws.{mask-below, l-fits}
 use borrow.Author.Needs.{needs}
@@ -25,7 +25,7 @@ leaf-bytes-requires c κs = c .before .before .before .before .pre .in-range
 add-masks-requires : tie.Need-add-masks-requires
 add-masks-requires c κs =
     let s = shapeFor (c .before .before .before .before .before .before .args .s) in
-    (c .before .before .before .before .before .before .pre .qs0-lanes, (in-limits s (c .before .before .before .before .before .before .pre .in-range) .τ-most, (λ e h. omega (arith, c .before .before .before .before .before .before .pre .buffers .table-room, mask-below s e h, l-fits s))))
+    (c .before .before .before .before .before .before .pre .qs0-lanes, (in-limits s (c .before .before .before .before .before .before .pre .in-range) .τ-most, (λ e h. omega (arith, c .before .before .before .before .before .before .pre .buffers .table-room, mask-below (settingFor (c .before .before .before .before .before .before .args .s)) s e h, l-fits (settingFor (c .before .before .before .before .before .before .args .s)) s))))
 
 row-at-requires : tie.Need-row-at-requires
 row-at-requires c κs =
@@ -36,7 +36,7 @@ add-mask-bits-requires : tie.Need-add-mask-bits-requires
 add-mask-bits-requires c κs =
     let s = shapeFor (c .before .before .before .before .before .before .before .before .before .before .before .args .s) in
     let long : length (now (c .row-at .result)) ≡ wOf (alphabetFor (c .before .before .before .before .before .before .before .before .before .before .before .args .s)) s = c .row-at .ensures .1 ∙ c .before .before .before .before .before .before .leaf-bytes .ensures in
-    (c .before .before .before .before .before .before .before .before .before .before .before .pre .qs1-lanes, (in-limits s (c .before .before .before .before .before .before .before .before .before .before .before .pre .in-range) .τ-most, (λ e h. (omega (arith, long, mask-below s e h, l-fits s), omega (arith, mask-below s e h, k-most s (c .before .before .before .before .before .before .before .before .before .before .before .pre .in-range))))))
+    (c .before .before .before .before .before .before .before .before .before .before .before .pre .qs1-lanes, (in-limits s (c .before .before .before .before .before .before .before .before .before .before .before .pre .in-range) .τ-most, (λ e h. (omega (arith, long, mask-below (settingFor (c .before .before .before .before .before .before .before .before .before .before .before .args .s)) s e h, l-fits (settingFor (c .before .before .before .before .before .before .before .before .before .before .before .args .s)) s), omega (arith, mask-below (settingFor (c .before .before .before .before .before .before .before .before .before .before .before .args .s)) s e h, k-most (settingFor (c .before .before .before .before .before .before .before .before .before .before .before .args .s)) s (c .before .before .before .before .before .before .before .before .before .before .before .pre .in-range))))))
 
 same-length : tie.Need-same-length
 same-length c = search needs

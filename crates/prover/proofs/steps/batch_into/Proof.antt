@@ -15,7 +15,7 @@ use Rattle.protocol.specs.Shape.{Shape, limits, kOf, wOf}
 use Rattle.protocol.specs.Sections.{commitLengths, hashLengths}
 use Rattle.protocol.specs.Prover.{cSection, dSection, ũSection, ṼSection, qs0Section, qs1Section}
 use Rattle.protocol.proofs.ListLaws.{row-end}
-use Rattle.format.specs.Sizes.{alphabetFor, shapeFor}
+use Rattle.format.specs.Sizes.{settingFor, alphabetFor, shapeFor}
 use Rattle.format.proofs.SizeLaws.{in-limits, k-most, w-most, bytes-most, corrections-most, hashed-most, row-most}
 use Rattle.format.proofs.FitLaws.{n-fits, l-fits, variables-fit}
 use Rattle.protocol.specs.Key.{sectionA, sectionB}
@@ -37,7 +37,7 @@ fill-vectors-requires : tie.Need-fill-vectors-requires
 fill-vectors-requires c κs =
     let s = shapeFor (c .before .before .before .before .before .before .before .before .args .s) in
     let within = in-limits (shapeFor (c .before .before .before .before .before .before .before .before .args .s)) (c .before .before .before .before .before .before .before .before .pre .key-facts .in-range) in
-    (omega (arith, c .before .before .before .before .before .before .before .before .pre .buffers .table-room, variables-fit s), within .n-most, within .τ-most, refl)
+    (omega (arith, c .before .before .before .before .before .before .before .before .pre .buffers .table-room, variables-fit (settingFor (c .before .before .before .before .before .before .before .before .args .s)) s), within .n-most, within .τ-most, refl)
 
 slice-aggregate-add-masks : tie.Need-slice-aggregate-add-masks
 slice-aggregate-add-masks c = search needs
@@ -116,13 +116,13 @@ returns c =
     λ leaves loaded.
     c .before .before .put-two .ensures
     ∙ ap₂ (λ (x y : List ℕ). frame (x ∷ y ∷ []))
-    (qs0-are s leaves (now (a .key)) (now (a .batching)) T (formed .last .0) (loaded .table-is) wide g same
+    (qs0-are (settingFor (c .before .before .before .before .before .before .before .before .before .before .before .before .before .before .before .before .before .before .before .before .before .before .before .before .before .before .before .before .before .before .before .args .s)) s leaves (now (a .key)) (now (a .batching)) T (formed .last .0) (loaded .table-is) wide g same
     (λ e l.
     formed .ensures .0 e l
     ∙ ap (λ (x : ℕ). bitXor x (formsByte (a .s .n) (a .s .m) (sectionA (alphabetFor (a .s)) s (now (a .key))) (now (a .batching)) e (g e)))
     (masked .ensures .0 e l ∙ ap (λ (x : ℕ). bitXor x (maskLane T (firstMask (a .s) e) e)) (getD-replicate lanes e 0 0 (lane e l)) ∙ xor-zero-l (maskLane T (firstMask (a .s) e) e))))
-    (qs1-are s leaves (now (a .key)) (now (a .batching)) T (formed .last .1 .0) (loaded .table-is) wide′ g same (now (a .witness)) u
-    (first-is-u s leaves (now (a .sums)) (within .τ-least) (loaded .sums-are))
+    (qs1-are (settingFor (c .before .before .before .before .before .before .before .before .before .before .before .before .before .before .before .before .before .before .before .before .before .before .before .before .before .before .before .before .before .before .before .args .s)) s leaves (now (a .key)) (now (a .batching)) T (formed .last .1 .0) (loaded .table-is) wide′ g same (now (a .witness)) u
+    (first-is-u (settingFor (c .before .before .before .before .before .before .before .before .before .before .before .before .before .before .before .before .before .before .before .before .before .before .before .before .before .before .before .before .before .before .before .args .s)) s leaves (now (a .sums)) (within .τ-least) (loaded .sums-are))
     (λ e l.
     formed .ensures .1 e l
     ∙ ap (λ (x : ℕ). bitXor x (middlesByte (a .s .n) (a .s .m) (sectionA (alphabetFor (a .s)) s (now (a .key))) (sectionB (alphabetFor (a .s)) s (now (a .key))) (bit (now (a .witness))) (now (a .batching)) e (g e)))

@@ -15,7 +15,7 @@ use Rattle.protocol.specs.Shape.{Shape, limits, kOf, wOf}
 use Rattle.protocol.specs.Sections.{commitLengths, hashLengths}
 use Rattle.protocol.specs.Prover.{cSection, dSection, ũSection, ṼSection, qs0Section, qs1Section}
 use Rattle.protocol.proofs.ListLaws.{row-end}
-use Rattle.format.specs.Sizes.{alphabetFor, shapeFor}
+use Rattle.format.specs.Sizes.{settingFor, alphabetFor, shapeFor}
 use Rattle.format.proofs.SizeLaws.{in-limits, k-most, w-most, bytes-most, corrections-most, hashed-most, row-most}
 use Rattle.format.proofs.FitLaws.{n-fits, l-fits, variables-fit}
 use Rattle.sections.proofs.Writes.{framed-one, framed-two, rest-length, part-starts, take-length}
@@ -31,11 +31,11 @@ leaf-bytes-requires c κs = search needs
 
 mul-split : tie.Need-mul-split
 mul-split c =
-    rw (c .leaf-bytes .ensures) (omega (arith, corrections-most (shapeFor (c .before .before .before .before .before .args .s)) (c .before .before .before .before .before .pre .in-range)))
+    rw (c .leaf-bytes .ensures) (omega (arith, corrections-most (settingFor (c .before .before .before .before .before .args .s)) (shapeFor (c .before .before .before .before .before .args .s)) (c .before .before .before .before .before .pre .in-range)))
 
 add-split : tie.Need-add-split
 add-split c =
-    rw (c .leaf-bytes .ensures) (omega (arith, corrections-most (shapeFor (c .before .before .before .before .before .args .s)) (c .before .before .before .before .before .pre .in-range)))
+    rw (c .leaf-bytes .ensures) (omega (arith, corrections-most (settingFor (c .before .before .before .before .before .args .s)) (shapeFor (c .before .before .before .before .before .args .s)) (c .before .before .before .before .before .pre .in-range)))
 
 slice-relend-prefix-write-c : tie.Need-slice-relend-prefix-write-c
 slice-relend-prefix-write-c c = rw (c .leaf-bytes .ensures) (omega (arith, c .before .before .before .before .before .pre .out-length))
