@@ -12,20 +12,18 @@
 --     coordinates of the vectors are elements
 --   BlockInputs d n m τ from count .. == the same, where A and b are the parts of a block of so many equations
 --   BatchInputs d n m τ qs0 qs1 cells A b x χ vs == the same for a witness x
---   LanesNarrow d τ n T == the first n coordinates in each of the first τ lanes of T are elements of the field of
---     degree d
 -- Assumes nothing.
 use mathlib.Core.Path.{_≡_}
 use mathlib.Core.Bool.{Bool, false}
 use mathlib.Core.List.{List}
-use Prim.Native.Nat.{ℕ, _+_, _*_, _^_, _<_, _≤_}
+use Prim.Native.Nat.{ℕ, _+_, _*_, _<_, _≤_}
 use lib.ListN.{length}
 use Rattle.algebra.specs.Coded.{mulByte}
-use Rattle.field.specs.Degrees.{fieldOf, degreeOf}
+use Rattle.field.specs.Degrees.{fieldOf}
 use Rattle.protocol.specs.Strings.{bytesFor}
 use Rattle.protocol.specs.Shape.{mostVariables, mostEquations}
 use Rattle.strings.specs.Sums.{byteAt, xorSum}
-use Rattle.lanes.specs.Lanes.{lanes, laneAt}
+use Rattle.lanes.specs.Lanes.{lanes}
 use Rattle.chunks.specs.Chunks.{mostBlock}
 use Rattle.equations.specs.Equations.{rowOf, matrixOf}
 use Rattle.forms_columns.specs.Stacks.{VectorsRoom, IsBits}
@@ -73,6 +71,3 @@ abbrev pub BatchInputs : ℕ → ℕ → ℕ → ℕ → List ℕ → List ℕ �
 BatchInputs d n m τ qs0 qs1 cells A b x χ vs =
     (length qs0 ≡ lanes) × (length qs1 ≡ lanes) × (n ≤ mostVariables) × (τ ≤ lanes) × (0 < τ) × (length A ≡ m * (n * bytesFor n)) × (length b ≡ m * bytesFor n)
     × (length χ ≡ τ * m) × VectorsRoom vs × VectorsEnd n τ vs × CellsRoom cells × (length x ≡ bytesFor n) × (m ≤ mostEquations) × VectorsNarrow d τ vs
-
-abbrev pub LanesNarrow : ℕ → ℕ → ℕ → List ℕ → Type 0
-LanesNarrow d τ n T = (e c : ℕ) → e < τ → c < n → laneAt T c e < 2 ^ degreeOf d

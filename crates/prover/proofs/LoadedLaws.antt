@@ -14,16 +14,17 @@ use Rattle.protocol.specs.Shape.{Shape, limits, perTree, wOf}
 use Rattle.protocol.specs.Sections.{commitLengths, hashLengths}
 use Rattle.protocol.proofs.CountingLaws.{leaves-length}
 use Rattle.protocol.proofs.ListLaws.{row-end}
-use Rattle.format.proofs.FitLaws.{room}
+use Rattle.format.proofs.FitLaws.{room, variables-fit}
 use Rattle.format.specs.Limits.{mostLeaf}
 use Rattle.lanes.specs.Lanes.{lanes}
 use Rattle.chunks.specs.Chunks.{mostBlock, chunk}
 use Rattle.forms_folds.specs.Folds.{cellSixteens}
 use Rattle.tables.specs.Sums.{SumsAre, TableIs}
-use Rattle.tables.proofs.SumsMeaning.{per-tree}
+use Rattle.tables.proofs.SumsMeaning.{table-v}
 use Rattle.questions.specs.Asking.{SizedKey}
 use Rattle.questions.specs.Facts.{KeyFacts, LeavesForm}
-use Rattle.prover.specs.Loaded.{Buffers}
+use Rattle.prover.specs.Loaded.{Buffers, Loaded}
+use Rattle.prover.specs.Steps.{TableNarrow}
 
 pub leaves-long : (A : Alphabet) (s : Shape) (leaves : List ℕ) → LeavesForm A s leaves → length leaves ≡ s .τ * perTree A * wOf A s
 leaves-long A s leaves f = leaves-length A s leaves (f .leaves-exact)
@@ -62,3 +63,7 @@ module _ (g : Setting) (s : Shape) where
   pub hash-length : framedLength (hashLengths (alphabetOf g) s) ≡ 8 + bytesFor (s .t) + s .τ * s .t
   unfolding framedLength hashLengths
   hash-length = omega arith
+
+-- the lanes of a table that is loaded are elements
+pub loaded-narrow : (g : Setting) (s : Shape) (leaves table sums : List ℕ) → Loaded (alphabetOf g) s leaves table sums → TableNarrow (alphabetOf g) s table
+loaded-narrow g s leaves table sums loaded e c l h = rw (table-v g s leaves e c table (s .τ) (loaded .table-is) l (omega (arith, variables-fit g s))) (alphabetOf g .K .byte-lt _)

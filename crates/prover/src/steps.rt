@@ -45,8 +45,8 @@ pub fn hash_into(out: &mut [u8], matrix: &[u8], table: &[u8], sums: &[u8], s: Si
 // Adds the masks of every repetition: A*₀, of its v_e, to qs0, and A*₁, of u_0, to qs1.
 fn add_masks(qs0: &mut [u8], qs1: &mut [u8], table: &[u8], sums: &[u8], s: Sizes)
     requires { ⌜ MasksReady (alphabetFor s) (shapeFor s) (now table) (now sums) (now qs0) (now qs1) ⌝ }
-    ensures { λ _. ⌜ LanesAdded (s .tau) (λ e. maskLane (now (table .entry)) (firstMask s e) e) (now (qs0 .entry)) (now (qs0 .exit)) ⌝ }
-    ensures { λ _. ⌜ LanesAdded (s .tau) (λ e. maskBits (blockAt (now (sums .entry)) (wOf (alphabetFor s) (shapeFor s)) 0) (firstMask s e))
+    ensures { λ _. ⌜ LanesAdded (s .tau) (λ e. maskLane (s .degree) (now (table .entry)) (firstMask s e) e) (now (qs0 .entry)) (now (qs0 .exit)) ⌝ }
+    ensures { λ _. ⌜ LanesAdded (s .tau) (λ e. maskBits (s .degree) (blockAt (now (sums .entry)) (wOf (alphabetFor s) (shapeFor s)) 0) (firstMask s e))
         (now (qs1 .entry)) (now (qs1 .exit)) ⌝ }
 {
     let w = leaf_bytes(s);
@@ -67,10 +67,10 @@ fn add_forms(
 )
     requires { ⌜ FormsReady (alphabetFor s) (shapeFor s) (now key) (now witness) (now batching) (now vectors) (now qs0) (now qs1) (now cells) ⌝ }
     ensures { λ _. ⌜ LanesAdded (s .tau)
-        (λ e. formsByte (s .n) (s .m) (sectionA (alphabetFor s) (shapeFor s) (now (key .entry))) (now (batching .entry)) e (coordinateOf (now (vectors .entry)) e))
+        (λ e. formsByte (s .degree) (s .n) (s .m) (sectionA (alphabetFor s) (shapeFor s) (now (key .entry))) (now (batching .entry)) e (coordinateOf (now (vectors .entry)) e))
         (now (qs0 .entry)) (now (qs0 .exit)) ⌝ }
     ensures { λ _. ⌜ LanesAdded (s .tau)
-        (λ e. middlesByte (s .n) (s .m) (sectionA (alphabetFor s) (shapeFor s) (now (key .entry))) (sectionB (alphabetFor s) (shapeFor s) (now (key .entry)))
+        (λ e. middlesByte (s .degree) (s .n) (s .m) (sectionA (alphabetFor s) (shapeFor s) (now (key .entry))) (sectionB (alphabetFor s) (shapeFor s) (now (key .entry)))
         (bit (now (witness .entry))) (now (batching .entry)) e (coordinateOf (now (vectors .entry)) e))
         (now (qs1 .entry)) (now (qs1 .exit)) ⌝ }
 {

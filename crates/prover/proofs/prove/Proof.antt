@@ -21,7 +21,7 @@ use Rattle.format.proofs.FitLaws.{n-fits, l-fits, variables-fit}
 use Rattle.sections.proofs.Writes.{framed-one, framed-two, rest-length, part-starts, take-length}
 use borrow.Author.Needs.{needs}
 use Rattle.protocol.specs.Sections.{bytesOf}
-use Rattle.prover.proofs.LoadedLaws.{space-of, commit-length}
+use Rattle.prover.proofs.LoadedLaws.{loaded-narrow, space-of, commit-length}
 use Rattle.prover.proofs.prove.Statement.{statement}
 use Rattle.prover.proofs.prove.Tie as tie
 
@@ -79,6 +79,7 @@ rest-into-requires c κs =
       batching-length = c .before .before .before .before .before .before .before .before .before .before .before .before .before .before .before .before .before .before .before .before .pre .of-batching;
       buffers = c .before .before .before .before .before .before .before .before .before .before .before .load .ensures .buffers;
       cells-room = omega (arith, c .before .before .before .before .before .before .before .before .before .before .before .load .kept .0);
+      narrow = loaded-narrow (settingFor (c .before .before .before .before .before .before .before .before .before .before .before .before .before .before .before .before .before .before .before .before .args .s)) (shapeFor (c .before .before .before .before .before .before .before .before .before .before .before .before .before .before .before .before .before .before .before .before .args .s)) (now (c .before .before .before .before .before .before .before .before .before .before .before .before .before .before .before .before .before .before .before .before .args .leaves)) _ _ (c .before .before .before .before .before .before .before .before .before .before .before .load .ensures);
       out-length = rest-length (c .before .before .before .before .before .before .before .before .commit-bytes .result) (16 + bytesFor (c .before .before .before .before .before .before .before .before .before .before .before .before .before .before .before .before .before .before .before .before .args .s .t) + c .before .before .before .before .before .before .before .before .before .before .before .before .before .before .before .before .before .before .before .before .args .s .tau * c .before .before .before .before .before .before .before .before .before .before .before .before .before .before .before .before .before .before .before .before .args .s .t + c .before .before .before .before .before .before .before .before .before .before .before .before .before .before .before .before .before .before .before .before .args .s .tau + c .before .before .before .before .before .before .before .before .before .before .before .before .before .before .before .before .before .before .before .before .args .s .tau) (c .before .before .before .before .before .commit-into .last .0) (now (c .before .before .before .before .before .before .before .before .before .before .before .before .before .before .before .before .before .before .before .before .args .out)) (c .before .before .before .before .before .commit-into .kept .0 ∙ take-length (c .before .before .before .before .before .before .before .before .commit-bytes .result) (now (c .before .before .before .before .before .before .before .before .before .before .before .before .before .before .before .before .before .before .before .before .args .out)) (omega (arith, c .before .before .before .before .before .before .before .before .commit-bytes .ensures ∙ commit-length (settingFor (c .before .before .before .before .before .before .before .before .before .before .before .before .before .before .before .before .before .before .before .before .args .s)) (shapeFor (c .before .before .before .before .before .before .before .before .before .before .before .before .before .before .before .before .before .before .before .before .args .s)), c .before .before .before .before .before .before .before .before .before .before .before .before .before .before .before .before .before .before .before .before .pre .of-out))) (omega (arith, c .before .before .before .before .before .before .before .before .commit-bytes .ensures ∙ commit-length (settingFor (c .before .before .before .before .before .before .before .before .before .before .before .before .before .before .before .before .before .before .before .before .args .s)) (shapeFor (c .before .before .before .before .before .before .before .before .before .before .before .before .before .before .before .before .before .before .before .before .args .s)), c .before .before .before .before .before .before .before .before .before .before .before .before .before .before .before .before .before .before .before .before .pre .of-out));
     }
 

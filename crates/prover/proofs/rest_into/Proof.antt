@@ -58,6 +58,7 @@ batch-into-requires c κs =
       batching-length = c .before .before .before .before .before .before .before .before .before .before .before .before .before .before .before .pre .batching-length;
       buffers = c .before .before .before .before .before .before .before .before .before .before .before .before .before .before .before .pre .buffers;
       cells-room = c .before .before .before .before .before .before .before .before .before .before .before .before .before .before .before .pre .cells-room;
+      narrow = c .before .before .before .before .before .before .before .before .before .before .before .before .before .before .before .pre .narrow;
       out-length = rest-length (c .before .before .before .before .before .before .before .hash-bytes .result) (8 + c .before .before .before .before .before .before .before .before .before .before .before .before .before .before .before .args .s .tau + c .before .before .before .before .before .before .before .before .before .before .before .before .before .before .before .args .s .tau) (c .before .before .before .before .hash-into .last .0) (now (c .before .before .before .before .before .before .before .before .before .before .before .before .before .before .before .args .out)) (c .before .before .before .before .hash-into .kept .0 ∙ take-length (c .before .before .before .before .before .before .before .hash-bytes .result) (now (c .before .before .before .before .before .before .before .before .before .before .before .before .before .before .before .args .out)) (omega (arith, c .before .before .before .before .before .before .before .hash-bytes .ensures ∙ hash-length (settingFor (c .before .before .before .before .before .before .before .before .before .before .before .before .before .before .before .args .s)) (shapeFor (c .before .before .before .before .before .before .before .before .before .before .before .before .before .before .before .args .s)), c .before .before .before .before .before .before .before .before .before .before .before .before .before .before .before .pre .out-length))) (omega (arith, c .before .before .before .before .before .before .before .hash-bytes .ensures ∙ hash-length (settingFor (c .before .before .before .before .before .before .before .before .before .before .before .before .before .before .before .args .s)) (shapeFor (c .before .before .before .before .before .before .before .before .before .before .before .before .before .before .before .args .s)), c .before .before .before .before .before .before .before .before .before .before .before .before .before .before .before .pre .out-length));
     }
 

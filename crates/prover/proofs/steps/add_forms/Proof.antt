@@ -13,6 +13,7 @@ use Rattle.format.specs.Sizes.{alphabetFor, shapeFor}
 use Rattle.format.proofs.SizeLaws.{in-limits}
 use Rattle.forms_columns.specs.Stacks.{coordinateOf}
 use Rattle.forms.specs.Batch.{formsByte, middlesByte}
+use Rattle.forms.proofs.NarrowLaws.{element-bits}
 use Rattle.prover.proofs.LoadedLaws.{key-form}
 use borrow.Author.Needs.{needs}
 use Rattle.prover.proofs.steps.add_forms.Statement.{statement}
@@ -41,6 +42,7 @@ batch-lanes-requires c κs =
       c .before .before .before .before .before .before .before .before .before .before .before .before .pre .cells-room,
       c .before .before .before .before .before .before .before .before .before .before .before .before .pre .witness-form .witness-length,
       within .m-most,
+      λ e k l h. element-bits (c .before .before .before .before .before .before .before .before .before .before .before .before .args .s .degree) _ (c .before .before .before .before .before .before .before .before .before .before .before .before .pre .vectors-narrow e k l h),
     )
 
 same-length : tie.Need-same-length
@@ -58,8 +60,8 @@ returns c =
     let done = c .before .before .before .before .before .before .batch-lanes in
     let forms : now (c .before .before .before .before .before .before .before .before .section-a .result) ≡ sectionA (alphabetFor (c .before .before .before .before .before .before .before .before .before .before .before .before .before .before .before .before .before .before .before .args .s)) (shapeFor (c .before .before .before .before .before .before .before .before .before .before .before .before .before .before .before .before .before .before .before .args .s)) (now (c .before .before .before .before .before .before .before .before .before .before .before .before .before .before .before .before .before .before .before .args .key)) = c .before .before .before .before .before .before .before .before .section-a .ensures .0 in
     let linear : now (c .before .before .before .before .before .before .before .section-b .result) ≡ sectionB (alphabetFor (c .before .before .before .before .before .before .before .before .before .before .before .before .before .before .before .before .before .before .before .args .s)) (shapeFor (c .before .before .before .before .before .before .before .before .before .before .before .before .before .before .before .before .before .before .before .args .s)) (now (c .before .before .before .before .before .before .before .before .before .before .before .before .before .before .before .before .before .before .before .args .key)) = c .before .before .before .before .before .before .before .section-b .ensures .0 in (
-      (λ e h. done .ensures .0 e h ∙ ap (λ (A : List ℕ). bitXor (byteAt (now (a .qs0)) e) (formsByte (a .s .n) (a .s .m) A (now (a .batching)) e (coordinateOf (now (a .vectors)) e))) forms),
-      (λ e h. done .ensures .1 e h ∙ ap₂ (λ (A b : List ℕ). bitXor (byteAt (now (a .qs1)) e) (middlesByte (a .s .n) (a .s .m) A b (bit (now (a .witness))) (now (a .batching)) e (coordinateOf (now (a .vectors)) e))) forms linear),
+      (λ e h. done .ensures .0 e h ∙ ap (λ (A : List ℕ). bitXor (byteAt (now (a .qs0)) e) (formsByte (a .s .degree) (a .s .n) (a .s .m) A (now (a .batching)) e (coordinateOf (now (a .vectors)) e))) forms),
+      (λ e h. done .ensures .1 e h ∙ ap₂ (λ (A b : List ℕ). bitXor (byteAt (now (a .qs1)) e) (middlesByte (a .s .degree) (a .s .n) (a .s .m) A b (bit (now (a .witness))) (now (a .batching)) e (coordinateOf (now (a .vectors)) e))) forms linear),
     )
 
 pub add-forms-spec : {M : Type 1} → statement M

@@ -23,6 +23,7 @@ use Rattle.lanes.specs.Lanes.{lanes, laneAt, maskLane, maskBits, firstMask}
 use Rattle.forms_choices.proofs.ChoiceLaws.{up-to-first}
 use Rattle.forms_columns.specs.Stacks.{coordinateOf}
 use Rattle.forms.specs.Batch.{formsByte, middlesByte}
+use Rattle.forms.proofs.NarrowLaws.{vectors-below}
 use Rattle.prover_sections.proofs.SumSections.{first-is-u}
 use Rattle.prover.proofs.BatchSections.{qs0-are, qs1-are}
 use Rattle.sections.proofs.Writes.{framed-one, framed-two, rest-length, part-starts, take-length}
@@ -65,6 +66,7 @@ add-forms-requires c κs =
       batching-length = c .before .before .before .before .before .before .before .before .before .before .before .before .before .before .before .before .before .before .before .before .pre .batching-length;
       vectors-room = c .before .before .before .before .before .before .before .before .before .before .before .fill-vectors .kept .0;
       vectors-end = c .before .before .before .before .before .before .before .before .before .before .before .fill-vectors .ensures .1;
+      vectors-narrow = vectors-below (alphabetFor (c .before .before .before .before .before .before .before .before .before .before .before .before .before .before .before .before .before .before .before .before .args .s) .K .base .size) (c .before .before .before .before .before .before .before .before .before .before .before .before .before .before .before .before .before .before .before .before .args .s .n) (c .before .before .before .before .before .before .before .before .before .before .before .before .before .before .before .before .before .before .before .before .args .s .tau) (now (c .before .before .before .before .before .before .before .before .before .before .before .before .before .before .before .before .before .before .before .before .args .space)) _ (omega (arith, alphabetFor (c .before .before .before .before .before .before .before .before .before .before .before .before .before .before .before .before .before .before .before .before .args .s) .K .base .four≤size)) (c .before .before .before .before .before .before .before .before .before .before .before .fill-vectors .ensures .0) (c .before .before .before .before .before .before .before .before .before .before .before .before .before .before .before .before .before .before .before .before .pre .narrow);
       cells-room = c .before .before .before .before .before .before .before .before .before .before .before .before .before .before .before .before .before .before .before .before .pre .cells-room;
       qs0-lanes = c .before .before .before .before .before .before .add-masks .kept .0;
       qs1-lanes = c .before .before .before .before .before .before .add-masks .kept .1 .0;
@@ -108,25 +110,25 @@ returns c =
     let formed = c .before .before .before .before .before .before .before .before .before .before .add-forms in
     let T = now (a .space) in
     let u = blockAt (now (a .sums)) (wOf (alphabetFor (a .s)) s) 0 in
-    let g : ℕ → ℕ → ℕ = coordinateOf (filled .last .0) in
+    let vs : ℕ → ℕ → ℕ = coordinateOf (filled .last .0) in
     let lane : (e : ℕ) → e < a .s .tau → e < lanes = λ e h. omega (arith, h, within .τ-most) in
-    let same : (e k : ℕ) → e < a .s .tau → k < a .s .n → g e k ≡ laneAt T k e = λ e k l h. filled .ensures .0 e k l (omega (arith, h, within .n-most)) ∙ up-to-first (a .s .n) (λ z. laneAt T z e) k h in
+    let same : (e k : ℕ) → e < a .s .tau → k < a .s .n → vs e k ≡ laneAt T k e = λ e k l h. filled .ensures .0 e k l (omega (arith, h, within .n-most)) ∙ up-to-first (a .s .n) (λ z. laneAt T z e) k h in
     let wide : a .s .tau ≤ length (c .before .before .before .before .before .before .before .before .before .before .add-forms .last .0) = omega (arith, formed .kept .0, masked .kept .0, within .τ-most) in
     let wide′ : a .s .tau ≤ length (c .before .before .before .before .before .before .before .before .before .before .add-forms .last .1 .0) = omega (arith, formed .kept .1 .0, masked .kept .1 .0, within .τ-most) in
     λ leaves loaded.
     c .before .before .put-two .ensures
     ∙ ap₂ (λ (x y : List ℕ). frame (x ∷ y ∷ []))
-    (qs0-are (settingFor (c .before .before .before .before .before .before .before .before .before .before .before .before .before .before .before .before .before .before .before .before .before .before .before .before .before .before .before .before .before .before .before .args .s)) s leaves (now (a .key)) (now (a .batching)) T (formed .last .0) (loaded .table-is) wide g same
+    (qs0-are (settingFor (c .before .before .before .before .before .before .before .before .before .before .before .before .before .before .before .before .before .before .before .before .before .before .before .before .before .before .before .before .before .before .before .args .s)) s leaves (now (a .key)) (now (a .batching)) T (formed .last .0) (loaded .table-is) wide vs same
     (λ e l.
     formed .ensures .0 e l
-    ∙ ap (λ (x : ℕ). bitXor x (formsByte (a .s .n) (a .s .m) (sectionA (alphabetFor (a .s)) s (now (a .key))) (now (a .batching)) e (g e)))
-    (masked .ensures .0 e l ∙ ap (λ (x : ℕ). bitXor x (maskLane T (firstMask (a .s) e) e)) (getD-replicate lanes e 0 0 (lane e l)) ∙ xor-zero-l (maskLane T (firstMask (a .s) e) e))))
-    (qs1-are (settingFor (c .before .before .before .before .before .before .before .before .before .before .before .before .before .before .before .before .before .before .before .before .before .before .before .before .before .before .before .before .before .before .before .args .s)) s leaves (now (a .key)) (now (a .batching)) T (formed .last .1 .0) (loaded .table-is) wide′ g same (now (a .witness)) u
+    ∙ ap (λ (x : ℕ). bitXor x (formsByte (a .s .degree) (a .s .n) (a .s .m) (sectionA (alphabetFor (a .s)) s (now (a .key))) (now (a .batching)) e (vs e)))
+    (masked .ensures .0 e l ∙ ap (λ (x : ℕ). bitXor x (maskLane (a .s .degree) T (firstMask (a .s) e) e)) (getD-replicate lanes e 0 0 (lane e l)) ∙ xor-zero-l (maskLane (a .s .degree) T (firstMask (a .s) e) e))))
+    (qs1-are (settingFor (c .before .before .before .before .before .before .before .before .before .before .before .before .before .before .before .before .before .before .before .before .before .before .before .before .before .before .before .before .before .before .before .args .s)) s leaves (now (a .key)) (now (a .batching)) T (formed .last .1 .0) (loaded .table-is) wide′ vs same (now (a .witness)) u
     (first-is-u (settingFor (c .before .before .before .before .before .before .before .before .before .before .before .before .before .before .before .before .before .before .before .before .before .before .before .before .before .before .before .before .before .before .before .args .s)) s leaves (now (a .sums)) (within .τ-least) (loaded .sums-are))
     (λ e l.
     formed .ensures .1 e l
-    ∙ ap (λ (x : ℕ). bitXor x (middlesByte (a .s .n) (a .s .m) (sectionA (alphabetFor (a .s)) s (now (a .key))) (sectionB (alphabetFor (a .s)) s (now (a .key))) (bit (now (a .witness))) (now (a .batching)) e (g e)))
-    (masked .ensures .1 e l ∙ ap (λ (x : ℕ). bitXor x (maskBits u (firstMask (a .s) e))) (getD-replicate lanes e 0 0 (lane e l)) ∙ xor-zero-l (maskBits u (firstMask (a .s) e)))))
+    ∙ ap (λ (x : ℕ). bitXor x (middlesByte (a .s .degree) (a .s .n) (a .s .m) (sectionA (alphabetFor (a .s)) s (now (a .key))) (sectionB (alphabetFor (a .s)) s (now (a .key))) (bit (now (a .witness))) (now (a .batching)) e (vs e)))
+    (masked .ensures .1 e l ∙ ap (λ (x : ℕ). bitXor x (maskBits (a .s .degree) u (firstMask (a .s) e))) (getD-replicate lanes e 0 0 (lane e l)) ∙ xor-zero-l (maskBits (a .s .degree) u (firstMask (a .s) e)))))
 
 pub batch-into-spec : {M : Type 1} → statement M
 batch-into-spec =
