@@ -3,7 +3,7 @@
 use mathlib.Core.Path.{_≡_, refl, sym, ap, _∙_}
 use mathlib.Core.Bool.{true}
 use mathlib.Core.List.{List, _++_}
-use Prim.Native.Nat.{ℕ, _+_, _*_, _-_, _≤_, _<_}
+use Prim.Native.Nat.{ℕ, _+_, _*_, _-_, _^_, _≤_, _<_}
 use native.Mathlib.Omega.{arith}
 use lib.ListN.{length, replicate, length-replicate, List·getD-append}
 use Rattle.protocol.specs.Strings.{bytesFor}
@@ -67,3 +67,8 @@ module _ (g : Setting) (s : Shape) where
 -- the lanes of a table that is loaded are elements
 pub loaded-narrow : (g : Setting) (s : Shape) (leaves table sums : List ℕ) → Loaded (alphabetOf g) s leaves table sums → TableNarrow (alphabetOf g) s table
 loaded-narrow g s leaves table sums loaded e c l h = rw (table-v g s leaves e c table (s .τ) (loaded .table-is) l (omega (arith, variables-fit g s))) (alphabetOf g .K .byte-lt _)
+
+-- a tree has as many leaves as its degree says
+pub tree-power : (g : Setting) (r : ℕ) → r ≡ alphabetOf g .masks → 2 ^ r ≡ perTree (alphabetOf g)
+unfolding perTree
+tree-power g r h = ap (λ k. 2 ^ k) h ∙ sym (alphabetOf g .K .size-is)

@@ -24,7 +24,7 @@ use borrow.Author.Needs.{needs}
 use Rattle.lanes.specs.Lanes.{lanes}
 use Rattle.tables.specs.Sums.{SumsAre, TableIs}
 use Rattle.format.proofs.FitLaws.{room}
-use Rattle.prover.proofs.LoadedLaws.{leaves-long, sums-more, table-more}
+use Rattle.prover.proofs.LoadedLaws.{tree-power, leaves-long, sums-more, table-more}
 use Rattle.prover.proofs.load.Statement.{statement}
 use Rattle.prover.proofs.load.Tie as tie
 
@@ -59,14 +59,13 @@ degree-of-requires : tie.Need-degree-of-requires
 degree-of-requires c κs = search needs
 
 load-trees-requires : tie.Need-load-trees-requires
-unfolding perTree
 load-trees-requires c κs = (
   take-length (8 * c .before .before .before .leaf-bytes .result * 48) (now (c .before .before .before .before .before .before .before .args .table)) (rw (c .before .before .before .leaf-bytes .ensures) (c .before .before .before .before .before .before .before .pre .2 .table-room)),
   take-length (c .before .before .before .before .before .before .before .args .s .tau * c .before .before .before .leaf-bytes .result) (now (c .before .before .before .before .before .before .before .args .sums)) (rw (c .before .before .before .leaf-bytes .ensures) (c .before .before .before .before .before .before .before .pre .2 .sums-room)),
-  rw (c .before .before .before .leaf-bytes .ensures, c .degree-of .ensures) (leaves-long (alphabetFor (c .before .before .before .before .before .before .before .args .s)) (shapeFor (c .before .before .before .before .before .before .before .args .s)) _ (c .before .before .before .before .before .before .before .pre .1)),
+  rw (c .before .before .before .leaf-bytes .ensures, tree-power (settingFor (c .before .before .before .before .before .before .before .args .s)) (c .degree-of .result) (c .degree-of .ensures .0)) (leaves-long (alphabetFor (c .before .before .before .before .before .before .before .args .s)) (shapeFor (c .before .before .before .before .before .before .before .args .s)) _ (c .before .before .before .before .before .before .before .pre .1)),
   in-limits (shapeFor (c .before .before .before .before .before .before .before .args .s)) (c .before .before .before .before .before .before .before .pre .0) .τ-most,
   rw (c .before .before .before .leaf-bytes .ensures) (omega (arith, w-most (settingFor (c .before .before .before .before .before .before .before .args .s)) (shapeFor (c .before .before .before .before .before .before .before .args .s)) (c .before .before .before .before .before .before .before .pre .0))),
-  omega (arith, c .degree-of .ensures),
+  c .degree-of .ensures .1,
 )
 
 same-length : tie.Need-same-length
@@ -76,7 +75,6 @@ same-length-2 : tie.Need-same-length-2
 same-length-2 c = search needs
 
 returns : tie.Need-returns
-unfolding perTree
 returns c =
     let a = c .before .before .before .before .before .before .before .before .before .before .before .before .args in
     let shape = (shapeFor (c .before .before .before .before .before .before .before .before .before .before .before .before .args .s)) in
@@ -84,8 +82,8 @@ returns c =
     let first = c .before .before .before .before .load-trees in
     let tab : length (c .before .before .before .before .load-trees .last .0) ≡ 8 * wOf (alphabetFor (c .before .before .before .before .before .before .before .before .before .before .before .before .args .s)) (shapeFor (c .before .before .before .before .before .before .before .before .before .before .before .before .args .s)) * lanes = first .kept .0 ∙ take-length (8 * c .before .before .before .before .before .before .before .before .leaf-bytes .result * 48) (now (c .before .before .before .before .before .before .before .before .before .before .before .before .args .table)) (rw (c .before .before .before .before .before .before .before .before .leaf-bytes .ensures) (c .before .before .before .before .before .before .before .before .before .before .before .before .pre .2 .table-room)) ∙ ap (λ (x : ℕ). 8 * x * 48) (leaf .ensures) in
     let rows : length (c .before .before .before .before .load-trees .last .1 .0) ≡ c .before .before .before .before .before .before .before .before .before .before .before .before .args .s .tau * wOf (alphabetFor (c .before .before .before .before .before .before .before .before .before .before .before .before .args .s)) (shapeFor (c .before .before .before .before .before .before .before .before .before .before .before .before .args .s)) = first .kept .1 .0 ∙ take-length (c .before .before .before .before .before .before .before .before .before .before .before .before .args .s .tau * c .before .before .before .before .before .before .before .before .leaf-bytes .result) (now (c .before .before .before .before .before .before .before .before .before .before .before .before .args .sums)) (rw (c .before .before .before .before .before .before .before .before .leaf-bytes .ensures) (c .before .before .before .before .before .before .before .before .before .before .before .before .pre .2 .sums-room)) ∙ ap (λ (x : ℕ). c .before .before .before .before .before .before .before .before .before .before .before .before .args .s .tau * x) (leaf .ensures) in
-    let are : SumsAre (c .before .before .before .before .load-trees .last .1 .0) (now (c .before .before .before .before .before .before .before .before .before .before .before .before .args .leaves)) (c .before .before .before .before .before .before .before .before .before .before .before .before .args .s .tau) (wOf (alphabetFor (c .before .before .before .before .before .before .before .before .before .before .before .before .args .s)) (shapeFor (c .before .before .before .before .before .before .before .before .before .before .before .before .args .s))) (perTree (alphabetFor (a .s))) = rw (leaf .ensures, c .before .before .before .before .before .degree-of .ensures) at (first .ensures .0) in
-    let is : TableIs (c .before .before .before .before .load-trees .last .0) (now (c .before .before .before .before .before .before .before .before .before .before .before .before .args .leaves)) (c .before .before .before .before .before .before .before .before .before .before .before .before .args .s .tau) (wOf (alphabetFor (c .before .before .before .before .before .before .before .before .before .before .before .before .args .s)) (shapeFor (c .before .before .before .before .before .before .before .before .before .before .before .before .args .s))) (perTree (alphabetFor (a .s))) = rw (leaf .ensures, c .before .before .before .before .before .degree-of .ensures) at (first .ensures .1) in
+    let are : SumsAre (c .before .before .before .before .load-trees .last .1 .0) (now (c .before .before .before .before .before .before .before .before .before .before .before .before .args .leaves)) (c .before .before .before .before .before .before .before .before .before .before .before .before .args .s .tau) (wOf (alphabetFor (c .before .before .before .before .before .before .before .before .before .before .before .before .args .s)) (shapeFor (c .before .before .before .before .before .before .before .before .before .before .before .before .args .s))) (perTree (alphabetFor (a .s))) = rw (leaf .ensures, tree-power (settingFor (a .s)) (c .before .before .before .before .before .degree-of .result) (c .before .before .before .before .before .degree-of .ensures .0)) at (first .ensures .0) in
+    let is : TableIs (c .before .before .before .before .load-trees .last .0) (now (c .before .before .before .before .before .before .before .before .before .before .before .before .args .leaves)) (c .before .before .before .before .before .before .before .before .before .before .before .before .args .s .tau) (wOf (alphabetFor (c .before .before .before .before .before .before .before .before .before .before .before .before .args .s)) (shapeFor (c .before .before .before .before .before .before .before .before .before .before .before .before .args .s))) (perTree (alphabetFor (a .s))) = rw (leaf .ensures, tree-power (settingFor (a .s)) (c .before .before .before .before .before .degree-of .result) (c .before .before .before .before .before .degree-of .ensures .0)) at (first .ensures .1) in
     record {
       leaves-form = c .before .before .before .before .before .before .before .before .before .before .before .before .pre .1;
       buffers = record {

@@ -7,6 +7,7 @@ use native.Mathlib.Omega.{arith}
 use denote.Ref.{now}
 use lib.ListN.{length}
 use lib.Bits.{bitXor}
+use Rattle.field.specs.Degrees.{degreeOf}
 use Rattle.protocol.specs.Lists.{blockAt}
 use Rattle.protocol.specs.Shape.{wOf}
 use Rattle.protocol.proofs.ListLaws.{row-end}
@@ -23,6 +24,7 @@ leaf-bytes-requires : tie.Need-leaf-bytes-requires
 leaf-bytes-requires c κs = c .before .before .before .before .pre .in-range
 
 add-masks-requires : tie.Need-add-masks-requires
+unfolding degreeOf
 add-masks-requires c κs =
     let s = shapeFor (c .before .before .before .before .before .before .args .s) in
     (c .before .before .before .before .before .before .pre .qs0-lanes, (in-limits s (c .before .before .before .before .before .before .pre .in-range) .τ-most, (λ e h. omega (arith, c .before .before .before .before .before .before .pre .buffers .table-room, mask-below (settingFor (c .before .before .before .before .before .before .args .s)) s e h, l-fits (settingFor (c .before .before .before .before .before .before .args .s)) s))))
@@ -33,6 +35,7 @@ row-at-requires c κs =
     rw (c .before .before .before .before .before .leaf-bytes .ensures) (omega (arith, c .before .before .before .before .before .before .before .before .before .before .pre .buffers .sums-room, row-end 0 (s .τ) (wOf (alphabetFor (c .before .before .before .before .before .before .before .before .before .before .args .s)) s) (in-limits s (c .before .before .before .before .before .before .before .before .before .before .pre .in-range) .τ-least)))
 
 add-mask-bits-requires : tie.Need-add-mask-bits-requires
+unfolding degreeOf
 add-mask-bits-requires c κs =
     let s = shapeFor (c .before .before .before .before .before .before .before .before .before .before .before .args .s) in
     let long : length (now (c .row-at .result)) ≡ wOf (alphabetFor (c .before .before .before .before .before .before .before .before .before .before .before .args .s)) s = c .row-at .ensures .1 ∙ c .before .before .before .before .before .before .leaf-bytes .ensures in
@@ -47,7 +50,7 @@ same-length-2 c = search needs
 returns : tie.Need-returns
 returns c =
     let row : now (c .before .before .before .row-at .result) ≡ blockAt (now (c .before .before .before .before .before .before .before .before .before .before .before .before .before .before .args .sums)) (wOf (alphabetFor (c .before .before .before .before .before .before .before .before .before .before .before .before .before .before .args .s)) (shapeFor (c .before .before .before .before .before .before .before .before .before .before .before .before .before .before .args .s))) 0 = rw (c .before .before .before .before .before .before .before .before .before .leaf-bytes .ensures) at (c .before .before .before .row-at .ensures .0) in
-    (c .before .before .before .before .before .before .before .add-masks .ensures, λ e h. c .before .before .add-mask-bits .ensures e h ∙ ap (λ (u : List ℕ). bitXor (byteAt (now (c .before .before .before .before .before .before .before .before .before .before .before .before .before .before .args .qs1)) e) (maskBits u (firstMask (c .before .before .before .before .before .before .before .before .before .before .before .before .before .before .args .s) e))) row)
+    (c .before .before .before .before .before .before .before .add-masks .ensures, λ e h. c .before .before .add-mask-bits .ensures e h ∙ ap (λ (u : List ℕ). bitXor (byteAt (now (c .before .before .before .before .before .before .before .before .before .before .before .before .before .before .args .qs1)) e) (maskBits (c .before .before .before .before .before .before .before .before .before .before .before .before .before .before .args .s .degree) u (firstMask (c .before .before .before .before .before .before .before .before .before .before .before .before .before .before .args .s) e))) row)
 
 pub add-masks-spec : {M : Type 1} → statement M
 add-masks-spec =
