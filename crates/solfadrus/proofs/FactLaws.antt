@@ -11,7 +11,8 @@ use Rattle.algebra.proofs.CountLaws.{and-left, and-right}
 use Rattle.protocol.specs.Lists.{allTrue}
 use Rattle.protocol.specs.Strings.{bytesFor, spareZero}
 use Rattle.protocol.specs.Frames.{framedLength}
-use Rattle.protocol.specs.Binary.{bits256}
+use Rattle.protocol.specs.Alphabet.{Alphabet, elementsIn}
+use Rattle.protocol.specs.Setting.{Setting, alphabetOf}
 use Rattle.protocol.specs.Shape.{Shape, shapeOf, limits, wOf}
 use Rattle.protocol.specs.Sections.{lengths, commitLengths, hashLengths, batchLengths}
 use Rattle.protocol.specs.Answers.{accepted, ask, Question}
@@ -22,90 +23,92 @@ use Rattle.protocol.proofs.AnswerLaws.{ask-accepts, all-yes}
 use Rattle.format.proofs.FitLaws.{batching-of}
 use Rattle.questions.specs.Facts.{KeyFacts, WitnessForm, TestFacts, CommitFacts, HashFacts, BatchFacts, ProveFacts}
 
-witness-of : (s : Shape) (x : List ℕ) → witnessForm bits256 s x ≡ true → WitnessForm bits256 s x
+witness-of : (A : Alphabet) (s : Shape) (x : List ℕ) → witnessForm A s x ≡ true → WitnessForm A s x
 unfolding witnessForm
-witness-of s x h =
+witness-of A s x h =
     record {
       witness-length = eqb-eq _ _ (and-left (eqb (length x) (bytesFor (s .n))) (spareZero x (s .n)) h);
       witness-spare = and-right (eqb (length x) (bytesFor (s .n))) (spareZero x (s .n)) h;
     }
 
-commit-out : (s : Shape) (out : List ℕ) → eqb (length out) (framedLength (commitLengths bits256 s)) ≡ true → length out ≡ 8 + (s .τ - 1) * wOf bits256 s + bytesFor (s .n)
+commit-out : (A : Alphabet) (s : Shape) (out : List ℕ) → eqb (length out) (framedLength (commitLengths A s)) ≡ true → length out ≡ 8 + (s .τ - 1) * wOf A s + bytesFor (s .n)
 unfolding framedLength commitLengths
-commit-out s out h = eqb-eq _ _ h ∙ omega arith
+commit-out A s out h = eqb-eq _ _ h ∙ omega arith
 
-hash-out : (s : Shape) (out : List ℕ) → eqb (length out) (framedLength (hashLengths bits256 s)) ≡ true → length out ≡ 8 + bytesFor (s .t) + s .τ * s .t
+hash-out : (A : Alphabet) (s : Shape) (out : List ℕ) → eqb (length out) (framedLength (hashLengths A s)) ≡ true → length out ≡ 8 + bytesFor (s .t) + s .τ * s .t
 unfolding framedLength hashLengths
-hash-out s out h = eqb-eq _ _ h ∙ omega arith
+hash-out A s out h = eqb-eq _ _ h ∙ omega arith
 
-batch-out : (s : Shape) (out : List ℕ) → eqb (length out) (framedLength (batchLengths bits256 s)) ≡ true → length out ≡ 8 + s .τ + s .τ
+batch-out : (A : Alphabet) (s : Shape) (out : List ℕ) → eqb (length out) (framedLength (batchLengths A s)) ≡ true → length out ≡ 8 + s .τ + s .τ
 unfolding framedLength batchLengths
-batch-out s out h = eqb-eq _ _ h ∙ omega arith
+batch-out A s out h = eqb-eq _ _ h ∙ omega arith
 
-prove-out : (s : Shape) (out : List ℕ) → eqb (length out) (framedLength (lengths bits256 s)) ≡ true
-    → length out ≡ 24 + (s .τ - 1) * wOf bits256 s + bytesFor (s .n) + bytesFor (s .t) + s .τ * s .t + s .τ + s .τ
+prove-out : (A : Alphabet) (s : Shape) (out : List ℕ) → eqb (length out) (framedLength (lengths A s)) ≡ true
+    → length out ≡ 24 + (s .τ - 1) * wOf A s + bytesFor (s .n) + bytesFor (s .t) + s .τ * s .t + s .τ + s .τ
 unfolding framedLength lengths
-prove-out s out h = eqb-eq _ _ h ∙ omega arith
+prove-out A s out h = eqb-eq _ _ h ∙ omega arith
 
-module _ (key : List ℕ) where
+module _ (g : Setting) (key : List ℕ) where
   abbrev s : Shape
   s = shapeOf key
 
-  pub test-facts : (x : List ℕ) → ask (testQuestions bits256 key x) ≡ accepted → TestFacts bits256 (shapeOf key) key x
+  pub test-facts : (x : List ℕ) → ask (testQuestions g key x) ≡ accepted → TestFacts (alphabetOf g) (shapeOf key) key x
   test-facts x h =
-      let t = all-yes (testQuestions bits256 key x) (ask-accepts (testQuestions bits256 key x) .0 h) in
-      record { of-key = record { header = leb-le _ _ (t .0); in-range = t .1 .0; key-exact = t .1 .1 .0; key-spare = t .1 .1 .1 .0 }; of-witness = witness-of s x (t .1 .1 .1 .1 .0) }
+      let t = all-yes (testQuestions g key x) (ask-accepts (testQuestions g key x) .0 h) in
+      record { of-key = record { header = leb-le _ _ (t .1 .0); in-range = t .1 .1 .0; key-exact = t .1 .1 .1 .0; key-spare = t .1 .1 .1 .1 .0 }; of-witness = witness-of (alphabetOf g) s x (t .1 .1 .1 .1 .1 .0) }
 
-  pub commit-facts : (leaves x out : List ℕ) → ask (commitQuestions bits256 key leaves x out) ≡ accepted → KeyFacts bits256 (shapeOf key) key × CommitFacts bits256 (shapeOf key) leaves x out
+  pub commit-facts : (leaves x out : List ℕ) → ask (commitQuestions g key leaves x out) ≡ accepted → KeyFacts (alphabetOf g) (shapeOf key) key × CommitFacts (alphabetOf g) (shapeOf key) leaves x out
   commit-facts leaves x out h =
-      let t = all-yes (commitQuestions bits256 key leaves x out) (ask-accepts (commitQuestions bits256 key leaves x out) .0 h) in
-      let r = t .1 .1 .1 .1 in (
-        record { header = leb-le _ _ (t .0); in-range = t .1 .0; key-exact = t .1 .1 .0; key-spare = t .1 .1 .1 .0 },
+      let t = all-yes (commitQuestions g key leaves x out) (ask-accepts (commitQuestions g key leaves x out) .0 h) in
+      let r = t .1 .1 .1 .1 .1 in (
+        record { header = leb-le _ _ (t .1 .0); in-range = t .1 .1 .0; key-exact = t .1 .1 .1 .0; key-spare = t .1 .1 .1 .1 .0 },
         record {
-          in-range = t .1 .0;
+          in-range = t .1 .1 .0;
           of-leaves = record { leaves-exact = r .0; leaves-spare = r .1 .0 };
-          of-witness = witness-of s x (r .1 .1 .0);
-          of-out = commit-out s out (r .1 .1 .1 .0);
+          of-witness = witness-of (alphabetOf g) s x (r .1 .1 .0);
+          of-out = commit-out (alphabetOf g) s out (r .1 .1 .1 .0);
         },
       )
 
-  pub hash-facts : (leaves H′ out : List ℕ) → ask (hashQuestions bits256 key leaves H′ out) ≡ accepted → KeyFacts bits256 (shapeOf key) key × HashFacts bits256 (shapeOf key) leaves H′ out
+  pub hash-facts : (leaves H′ out : List ℕ) → ask (hashQuestions g key leaves H′ out) ≡ accepted → KeyFacts (alphabetOf g) (shapeOf key) key × HashFacts (alphabetOf g) (shapeOf key) leaves H′ out
   hash-facts leaves H′ out h =
-      let t = all-yes (hashQuestions bits256 key leaves H′ out) (ask-accepts (hashQuestions bits256 key leaves H′ out) .0 h) in
-      let r = t .1 .1 .1 .1 in
-      let q = all-true (hExact bits256 s H′ ∷ []) (r .0) in (
-        record { header = leb-le _ _ (t .0); in-range = t .1 .0; key-exact = t .1 .1 .0; key-spare = t .1 .1 .1 .0 },
+      let t = all-yes (hashQuestions g key leaves H′ out) (ask-accepts (hashQuestions g key leaves H′ out) .0 h) in
+      let r = t .1 .1 .1 .1 .1 in
+      let q = all-true (hExact (alphabetOf g) s H′ ∷ []) (r .0) in (
+        record { header = leb-le _ _ (t .1 .0); in-range = t .1 .1 .0; key-exact = t .1 .1 .1 .0; key-spare = t .1 .1 .1 .1 .0 },
         record {
-          in-range = t .1 .0;
+          in-range = t .1 .1 .0;
           of-hash = record { hash-exact = q .0; hash-spare = r .1 .0 };
           of-leaves = record { leaves-exact = r .1 .1 .0; leaves-spare = r .1 .1 .1 .0 };
-          of-out = hash-out s out (r .1 .1 .1 .1 .0);
+          of-out = hash-out (alphabetOf g) s out (r .1 .1 .1 .1 .0);
         },
       )
 
-  pub batch-facts : (leaves x χ out : List ℕ) → ask (batchQuestions bits256 key leaves x χ out) ≡ accepted → BatchFacts bits256 (shapeOf key) key leaves x χ out
+  pub batch-facts : (leaves x χ out : List ℕ) → ask (batchQuestions g key leaves x χ out) ≡ accepted → BatchFacts (alphabetOf g) (shapeOf key) key leaves x χ out
   batch-facts leaves x χ out h =
-      let t = all-yes (batchQuestions bits256 key leaves x χ out) (ask-accepts (batchQuestions bits256 key leaves x χ out) .0 h) in
-      let r = t .1 .1 .1 .1 in
-      let q = all-true (χExact bits256 s χ ∷ []) (r .0) in
+      let t = all-yes (batchQuestions g key leaves x χ out) (ask-accepts (batchQuestions g key leaves x χ out) .0 h) in
+      let r = t .1 .1 .1 .1 .1 in
+      let q = all-true (χExact (alphabetOf g) s χ ∷ []) (r .0) in
       record {
-        of-key = record { header = leb-le _ _ (t .0); in-range = t .1 .0; key-exact = t .1 .1 .0; key-spare = t .1 .1 .1 .0 };
-        of-batching = batching-of s χ (q .0);
-        of-leaves = record { leaves-exact = r .1 .0; leaves-spare = r .1 .1 .0 };
-        of-witness = witness-of s x (r .1 .1 .1 .0);
-        of-out = batch-out s out (r .1 .1 .1 .1 .0);
+        of-key = record { header = leb-le _ _ (t .1 .0); in-range = t .1 .1 .0; key-exact = t .1 .1 .1 .0; key-spare = t .1 .1 .1 .1 .0 };
+        of-batching = batching-of g s χ (q .0);
+        of-elements = all-true (elementsIn (alphabetOf g) χ ∷ []) (r .1 .0) .0;
+        of-leaves = record { leaves-exact = r .1 .1 .0; leaves-spare = r .1 .1 .1 .0 };
+        of-witness = witness-of (alphabetOf g) s x (r .1 .1 .1 .1 .0);
+        of-out = batch-out (alphabetOf g) s out (r .1 .1 .1 .1 .1 .0);
       }
 
-  pub prove-facts : (leaves x H′ χ out : List ℕ) → ask (proveQuestions bits256 key leaves x H′ χ out) ≡ accepted → ProveFacts bits256 (shapeOf key) key leaves x H′ χ out
+  pub prove-facts : (leaves x H′ χ out : List ℕ) → ask (proveQuestions g key leaves x H′ χ out) ≡ accepted → ProveFacts (alphabetOf g) (shapeOf key) key leaves x H′ χ out
   prove-facts leaves x H′ χ out h =
-      let t = all-yes (proveQuestions bits256 key leaves x H′ χ out) (ask-accepts (proveQuestions bits256 key leaves x H′ χ out) .0 h) in
-      let r = t .1 .1 .1 .1 in
-      let q = all-true (hExact bits256 s H′ ∷ χExact bits256 s χ ∷ []) (r .0) in
+      let t = all-yes (proveQuestions g key leaves x H′ χ out) (ask-accepts (proveQuestions g key leaves x H′ χ out) .0 h) in
+      let r = t .1 .1 .1 .1 .1 in
+      let q = all-true (hExact (alphabetOf g) s H′ ∷ χExact (alphabetOf g) s χ ∷ []) (r .0) in
       record {
-        of-key = record { header = leb-le _ _ (t .0); in-range = t .1 .0; key-exact = t .1 .1 .0; key-spare = t .1 .1 .1 .0 };
+        of-key = record { header = leb-le _ _ (t .1 .0); in-range = t .1 .1 .0; key-exact = t .1 .1 .1 .0; key-spare = t .1 .1 .1 .1 .0 };
         of-hash = record { hash-exact = q .0; hash-spare = r .1 .0 };
-        of-batching = batching-of s χ (q .1 .0);
-        of-leaves = record { leaves-exact = r .1 .1 .0; leaves-spare = r .1 .1 .1 .0 };
-        of-witness = witness-of s x (r .1 .1 .1 .1 .0);
-        of-out = prove-out s out (r .1 .1 .1 .1 .1 .0);
+        of-batching = batching-of g s χ (q .1 .0);
+        of-elements = all-true (elementsIn (alphabetOf g) χ ∷ []) (r .1 .1 .0) .0;
+        of-leaves = record { leaves-exact = r .1 .1 .1 .0; leaves-spare = r .1 .1 .1 .1 .0 };
+        of-witness = witness-of (alphabetOf g) s x (r .1 .1 .1 .1 .1 .0);
+        of-out = prove-out (alphabetOf g) s out (r .1 .1 .1 .1 .1 .1 .0);
       }

@@ -6,7 +6,7 @@ use mathlib.Core.Bool.{Bool, true, false, true≢false}
 use mathlib.Core.List.{List, _∷_}
 use Prim.Native.Nat.{ℕ, suc, _+_, _*_, _<_}
 use native.Mathlib.Omega.{arith}
-use Rattle.protocol.specs.Binary.{bits256}
+use Rattle.protocol.specs.Alphabet.{Alphabet}
 use Rattle.protocol.specs.Shape.{Shape, limits}
 use Rattle.protocol.specs.Answers.{Answer, accepted, refused, placeOf, word, isAccepted, written, Question, question, ask, Published, taken, header-short, size-out-of-range, key-length, key-spare-bit, challenge-length, hash-spare-bit, leaf-length, leaf-spare-bit, witness-form, output-length, equation-fails, proof-length, proof-spare-bit, inconsistent, product-differs}
 use Rattle.protocol.specs.Questions.{q2}
@@ -51,35 +51,39 @@ kept (refused i p) before after string e n = e
 pub wrote : (s : Shape) (a : Answer) (before after string : List ℕ) → Published s a → 0 ≡ word a → after ≡ written a before string → after ≡ string
 wrote s a before after string p z e = e ∙ ap (λ b. written b before string) (only-accepted s a p (sym z))
 
--- ---- number and place, of a call that first asks for the key's header and then for its sizes, as each does
+-- ---- number and place, of a call that first asks for the degree, for the key's header and for its sizes, as each does
 
-module _ (s : Shape) (b : Bool) (qs : List Question) (listed : Published s (ask (question b 1 0 ∷ q2 bits256 s ∷ qs))) where
+module _ (A : Alphabet) (s : Shape) (d b : Bool) (qs : List Question) (listed : Published s (ask (question d 16 0 ∷ question b 1 0 ∷ q2 A s ∷ qs))) where
   abbrev a : Answer
-  a = ask (question b 1 0 ∷ q2 bits256 s ∷ qs)
+  a = ask (question d 16 0 ∷ question b 1 0 ∷ q2 A s ∷ qs)
 
   -- a place fits: with sizes out of range none is named
   place-fits : placeOf a < 65536
-  place-fits = go b (limits s) refl refl
+  place-fits = go d b (limits s) refl refl refl
     where
       none : (i : ℕ) → a ≡ refused i 0 → placeOf a < 65536
       none i h = rw h (omega arith)
 
-      go : (c d : Bool) → b ≡ c → limits s ≡ d → placeOf a < 65536
-      go false d e f = none 1 (ask-no (question b 1 0) (q2 bits256 s ∷ qs) e)
-      go true false e f = none 2 (ask-yes (question b 1 0) (q2 bits256 s ∷ qs) e ∙ ask-no (q2 bits256 s) qs f)
-      go true true e f = let k = bounds-of s f in place-lt s (omega (arith, k .m≤)) (omega (arith, k .τ≤)) a listed
+      rest : List Question
+      rest = q2 A s ∷ qs
+
+      go : (x y z : Bool) → d ≡ x → b ≡ y → limits s ≡ z → placeOf a < 65536
+      go false y z h e f = none 16 (ask-no (question d 16 0) (question b 1 0 ∷ rest) h)
+      go true false z h e f = none 1 (ask-yes (question d 16 0) (question b 1 0 ∷ rest) h ∙ ask-no (question b 1 0) rest e)
+      go true true false h e f = none 2 (ask-yes (question d 16 0) (question b 1 0 ∷ rest) h ∙ ask-yes (question b 1 0) rest e ∙ ask-no (q2 A s) qs f)
+      go true true true h e f = let k = bounds-of s f in place-lt s (omega (arith, k .m≤)) (omega (arith, k .τ≤)) a listed
 
   -- taken or refused, as the questions say
-  pub asked-told : (r : ℕ) → r ≡ word a → Asked (question b 1 0 ∷ q2 bits256 s ∷ qs) r
+  pub asked-told : (r : ℕ) → r ≡ word a → Asked (question d 16 0 ∷ question b 1 0 ∷ q2 A s ∷ qs) r
   unfolding word
   asked-told r w = go a refl
     where
-      go : (c : Answer) → a ≡ c → Asked (question b 1 0 ∷ q2 bits256 s ∷ qs) r
-      go accepted e = inl (w ∙ ap word e ∙ word-accepted, ask-accepts (question b 1 0 ∷ q2 bits256 s ∷ qs) .0 e)
+      go : (c : Answer) → a ≡ c → Asked (question d 16 0 ∷ question b 1 0 ∷ q2 A s ∷ qs) r
+      go accepted e = inl (w ∙ ap word e ∙ word-accepted, ask-accepts (question d 16 0 ∷ question b 1 0 ∷ q2 A s ∷ qs) .0 e)
       go (refused i p) e =
           let q : p < 65536 = subst (λ (c : Answer). placeOf c < 65536) e place-fits in
           let n : r ≢ 0 = λ z. true≢false (ap isAccepted (sym (only-accepted s a listed (sym w ∙ z)) ∙ e)) in
-          inr (n, i, p, q, w ∙ ap word e, ask-refuses (question b 1 0 ∷ q2 bits256 s ∷ qs) i p e)
+          inr (n, i, p, q, w ∙ ap word e, ask-refuses (question d 16 0 ∷ question b 1 0 ∷ q2 A s ∷ qs) i p e)
 
   pub refusal-told : (i p : ℕ) → p < 65536 → suc i * 65536 + p ≡ word a → a ≡ refused (suc i) p
   refusal-told i p l h = word-tells s a listed place-fits i p l h

@@ -5,13 +5,12 @@ use mathlib.Core.Path.{_≡_, refl, sym, ap, _∙_}
 use mathlib.Core.List.{[], _∷_}
 use denote.Ref.{now}
 use Rattle.protocol.specs.Frames.{frame}
-use Rattle.protocol.specs.Binary.{bits256}
 use Rattle.protocol.specs.Prover.{cSection, dSection, commitBytes}
 use Rattle.protocol.specs.Shape.{Shape, shapeOf}
 use Rattle.protocol.specs.Questions.{q11}
 use Rattle.protocol.specs.Answers.{accepted, ask}
 use Rattle.protocol.specs.Calls.{commitQuestions, commitAnswer}
-use Rattle.format.specs.Sizes.{shapeFor}
+use Rattle.format.specs.Sizes.{settingFor, alphabetFor, shapeFor}
 use Rattle.format.specs.Verdict.{answerOf}
 use Rattle.format.proofs.AskLaws.{then-ask, go-on, stop-at}
 use Rattle.questions.specs.Facts.{KeyFacts, CommitFacts}
@@ -25,7 +24,7 @@ sizes-of-requires : tie.Need-sizes-of-requires
 sizes-of-requires c κs = search needs
 
 commit-form-requires : tie.Need-commit-form-requires
-commit-form-requires c κs = c .sizes-of .ensures
+commit-form-requires c κs = c .sizes-of .ensures .0
 
 enum-told : tie.Need-enum-told
 enum-told c = search needs
@@ -37,19 +36,19 @@ returns : tie.Need-returns
 unfolding commitAnswer
 returns c =
     let a = c .before .before .before .before .before .before .before .before .args in
-    (then-ask (commitQuestions bits256 (now (a .key)) (now (a .leaves)) (now (a .witness)) (now (a .out))) (q11 bits256 (shapeOf (now (a .key))) (now (a .key)) (now (a .witness)) ∷ []) (c .before .before .commit-form .ensures (now (a .out)) refl) (stop-at _ (c .enum-told2 .given .1)), rw (c .enum-told2 .given .1))
+    rw (← (c .before .before .before .sizes-of .ensures .1)) ((then-ask (commitQuestions (settingFor (c .before .before .before .sizes-of .result)) (now (a .key)) (now (a .leaves)) (now (a .witness)) (now (a .out))) (q11 (alphabetFor (c .before .before .before .sizes-of .result)) (shapeOf (now (a .key))) (now (a .key)) (now (a .witness)) ∷ []) (c .before .before .commit-form .ensures (now (a .out)) refl) (stop-at _ (c .enum-told2 .given .1)), rw (c .enum-told2 .given .1)))
 
-asked : (c : tie.After-enum-told) → ask (commitQuestions bits256 (now (c .before .before .before .before .before .before .before .before .args .key)) (now (c .before .before .before .before .before .before .before .before .args .leaves)) (now (c .before .before .before .before .before .before .before .before .args .witness)) (now (c .before .before .before .before .before .before .before .before .args .out))) ≡ accepted
+asked : (c : tie.After-enum-told) → ask (commitQuestions (settingFor (c .before .before .before .sizes-of .result)) (now (c .before .before .before .before .before .before .before .before .args .key)) (now (c .before .before .before .before .before .before .before .before .args .leaves)) (now (c .before .before .before .before .before .before .before .before .args .witness)) (now (c .before .before .before .before .before .before .before .before .args .out))) ≡ accepted
 asked c = sym (c .before .before .commit-form .ensures (now (c .before .before .before .before .before .before .before .before .args .out)) refl) ∙ ap answerOf (c .enum-told .given .1)
 
-facts : (c : tie.After-enum-told) → KeyFacts bits256 (shapeFor (c .before .before .before .sizes-of .result)) (now (c .before .before .before .before .before .before .before .before .args .key)) × CommitFacts bits256 (shapeFor (c .before .before .before .sizes-of .result)) (now (c .before .before .before .before .before .before .before .before .args .leaves)) (now (c .before .before .before .before .before .before .before .before .args .witness)) (now (c .before .before .before .before .before .before .before .before .args .out))
+facts : (c : tie.After-enum-told) → KeyFacts (alphabetFor (c .before .before .before .sizes-of .result)) (shapeFor (c .before .before .before .sizes-of .result)) (now (c .before .before .before .before .before .before .before .before .args .key)) × CommitFacts (alphabetFor (c .before .before .before .sizes-of .result)) (shapeFor (c .before .before .before .sizes-of .result)) (now (c .before .before .before .before .before .before .before .before .args .leaves)) (now (c .before .before .before .before .before .before .before .before .args .witness)) (now (c .before .before .before .before .before .before .before .before .args .out))
 facts c =
     let a = c .before .before .before .before .before .before .before .before .args in
-    let f = commit-facts (now (a .key)) (now (a .leaves)) (now (a .witness)) (now (a .out)) (asked c) in
-    by-sizes (λ z. KeyFacts bits256 z (now (a .key)) × CommitFacts bits256 z (now (a .leaves)) (now (a .witness)) (now (a .out))) (c .before .before .before .sizes-of .result) (now (a .key)) (c .before .before .before .sizes-of .ensures) (f .0 .header) f
+    let f = commit-facts (settingFor (c .before .before .before .sizes-of .result)) (now (a .key)) (now (a .leaves)) (now (a .witness)) (now (a .out)) (asked c) in
+    by-sizes (λ z. KeyFacts (alphabetFor (c .before .before .before .sizes-of .result)) z (now (a .key)) × CommitFacts (alphabetFor (c .before .before .before .sizes-of .result)) z (now (a .leaves)) (now (a .witness)) (now (a .out))) (c .before .before .before .sizes-of .result) (now (a .key)) (c .before .before .before .sizes-of .ensures .0) (f .0 .header) f
 
 solved-requires : tie.Need-solved-requires
-solved-requires c κs = (c .before .before .before .sizes-of .ensures, record { of-key = facts c .0; of-witness = facts c .1 .of-witness })
+solved-requires c κs = (c .before .before .before .sizes-of .ensures .0, record { of-key = facts c .0; of-witness = facts c .1 .of-witness })
 
 enum-told-3 : tie.Need-enum-told-3
 enum-told-3 c = search needs
@@ -61,7 +60,7 @@ returns-2 : tie.Need-returns-2
 unfolding commitAnswer
 returns-2 c =
     let a = c .before .before .before .before .before .before .before .before .before .before .before .args in
-    (then-ask (commitQuestions bits256 (now (a .key)) (now (a .leaves)) (now (a .witness)) (now (a .out))) (q11 bits256 (shapeOf (now (a .key))) (now (a .key)) (now (a .witness)) ∷ []) (c .before .before .before .before .before .commit-form .ensures (now (a .out)) refl) (go-on (c .before .before .before .enum-told .given .1) (c .before .before .solved .ensures)), rw (c .enum-told4 .given .1))
+    rw (← (c .before .before .before .before .before .before .sizes-of .ensures .1)) ((then-ask (commitQuestions (settingFor (c .before .before .before .before .before .before .sizes-of .result)) (now (a .key)) (now (a .leaves)) (now (a .witness)) (now (a .out))) (q11 (alphabetFor (c .before .before .before .before .before .before .sizes-of .result)) (shapeOf (now (a .key))) (now (a .key)) (now (a .witness)) ∷ []) (c .before .before .before .before .before .commit-form .ensures (now (a .out)) refl) (go-on (c .before .before .before .enum-told .given .1) (c .before .before .solved .ensures)), rw (c .enum-told4 .given .1)))
 
 commit-requires : tie.Need-commit-requires
 commit-requires c κs = facts (c .before .before .before .before) .1
@@ -73,10 +72,11 @@ returns-3 : tie.Need-returns-3
 unfolding commitAnswer commitBytes
 returns-3 c =
     let a = c .before .before .before .before .before .before .before .before .before .before .before .before .before .before .before .args in
-    let e = c .before .before .before .before .before .before .before .before .before .before .sizes-of .ensures .0 (facts (c .before .before .before .before .before .before .before) .0 .header) in (
-      then-ask (commitQuestions bits256 (now (a .key)) (now (a .leaves)) (now (a .witness)) (now (a .out))) (q11 bits256 (shapeOf (now (a .key))) (now (a .key)) (now (a .witness)) ∷ []) (c .before .before .before .before .before .before .before .before .before .commit-form .ensures (now (a .out)) refl) (go-on (c .before .before .before .before .before .before .before .enum-told .given .1) (c .before .before .before .before .before .before .solved .ensures)),
-      rw (c .before .before .before .before .enum-told3 .given .1) (c .before .before .commit .ensures ∙ ap (λ (z : Shape). frame (cSection bits256 z (now (a .leaves)) ∷ dSection bits256 z (now (a .leaves)) (now (a .witness)) ∷ [])) e),
-    )
+    let e = c .before .before .before .before .before .before .before .before .before .before .sizes-of .ensures .0 (facts (c .before .before .before .before .before .before .before) .0 .header) in
+    rw (← (c .before .before .before .before .before .before .before .before .before .before .sizes-of .ensures .1)) ((
+      then-ask (commitQuestions (settingFor (c .before .before .before .before .before .before .before .before .before .before .sizes-of .result)) (now (a .key)) (now (a .leaves)) (now (a .witness)) (now (a .out))) (q11 (alphabetFor (c .before .before .before .before .before .before .before .before .before .before .sizes-of .result)) (shapeOf (now (a .key))) (now (a .key)) (now (a .witness)) ∷ []) (c .before .before .before .before .before .before .before .before .before .commit-form .ensures (now (a .out)) refl) (go-on (c .before .before .before .before .before .before .before .enum-told .given .1) (c .before .before .before .before .before .before .solved .ensures)),
+      rw (c .before .before .before .before .enum-told3 .given .1) (c .before .before .commit .ensures ∙ ap (λ (z : Shape). frame (cSection (alphabetFor (c .before .before .before .before .before .before .before .before .before .before .sizes-of .result)) z (now (a .leaves)) ∷ dSection (alphabetFor (c .before .before .before .before .before .before .before .before .before .before .sizes-of .result)) z (now (a .leaves)) (now (a .witness)) ∷ [])) e),
+    ))
 
 pub commit-spec : {M : Type 1} → statement M
 commit-spec =
