@@ -1,6 +1,7 @@
 /*
  * Tests what the header says of the stack: each call takes less than MQ_STACK_BYTES of it, at the largest sizes, the
- * usual ones and the least, at both degrees (buffers are those of the largest at all sizes). A control takes more, and must be seen.
+ * usual ones and the least, at both degrees (buffers are those of the largest at all sizes). A control takes more, and
+ * must be seen.
  */
 #define _XOPEN_SOURCE 700
 #include <stdio.h>

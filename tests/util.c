@@ -210,10 +210,11 @@ static void test_same_y(uint64_t seed, struct sizes s)
 /* ---- Proofs ------------------------------------------------------------------------------- */
 
 #define LENT(NAME) made->NAME.at, made->NAME.len
+#define LENT_KEY LENT(key), made->sizes.degree
 
 static uint32_t verify(const struct made *made)
 {
-    return mq_verify(LENT(key), made->sizes.degree, LENT(delta), LENT(hash_matrix), LENT(batching), LENT(opened), LENT(proof));
+    return mq_verify(LENT_KEY, LENT(delta), LENT(hash_matrix), LENT(batching), LENT(opened), LENT(proof));
 }
 
 /* With a bit of the proof flipped. */
@@ -232,11 +233,11 @@ static void prove(struct made *made)
     const struct sizes s = made->sizes;
     const size_t commit = SIZE(COMMIT), hash = SIZE(HASH), batch = SIZE(BATCH);
     struct lent steps = lend(made->proof.len);
-    check(mq_commit(LENT(key), made->sizes.degree, LENT(leaves), LENT(witness), steps.at, commit) == MQ_ACCEPTED, "mq_commit", s);
-    check(mq_hash(LENT(key), made->sizes.degree, LENT(leaves), LENT(hash_matrix), steps.at + commit, hash) == MQ_ACCEPTED, "mq_hash", s);
-    check(mq_batch(LENT(key), made->sizes.degree, LENT(leaves), LENT(witness), LENT(batching), steps.at + commit + hash, batch)
+    check(mq_commit(LENT_KEY, LENT(leaves), LENT(witness), steps.at, commit) == MQ_ACCEPTED, "mq_commit", s);
+    check(mq_hash(LENT_KEY, LENT(leaves), LENT(hash_matrix), steps.at + commit, hash) == MQ_ACCEPTED, "mq_hash", s);
+    check(mq_batch(LENT_KEY, LENT(leaves), LENT(witness), LENT(batching), steps.at + commit + hash, batch)
               == MQ_ACCEPTED, "mq_batch", s);
-    check(mq_prove(LENT(key), made->sizes.degree, LENT(leaves), LENT(witness), LENT(hash_matrix), LENT(batching), LENT(proof))
+    check(mq_prove(LENT_KEY, LENT(leaves), LENT(witness), LENT(hash_matrix), LENT(batching), LENT(proof))
               == MQ_ACCEPTED, "mq_prove", s);
     check(memcmp(steps.at, made->proof.at, steps.len) == 0, "the steps write other bytes", s);
     free(steps.at);
@@ -254,7 +255,7 @@ static void test_open_refused(const struct made *made)
               "mq_open_leaves takes another degree", s);
     for (unsigned byte = 16; s.degree == 4 && byte < 256; byte++) {
         *last = (uint8_t)byte;
-        check(!mq_open_leaves(LENT(key), s.degree, LENT(delta), LENT(leaves), LENT(opened)),
+        check(!mq_open_leaves(LENT_KEY, LENT(delta), LENT(leaves), LENT(opened)),
               "mq_open_leaves takes a byte that is no element", s);
     }
     *last = kept;
@@ -267,13 +268,13 @@ static void test_opened(struct made *made)
     open_leaves(made); /* by the test's own loop, leaf by leaf */
     made->opened = lend(expected.len);
     check(!mq_open_leaves(made->key.at, 7, s.degree, LENT(delta), LENT(leaves), LENT(opened))
-              && !mq_open_leaves(LENT(key), made->sizes.degree, made->delta.at, s.tau + 1, LENT(leaves), LENT(opened))
-              && !mq_open_leaves(LENT(key), made->sizes.degree, LENT(delta), made->leaves.at, made->leaves.len - 1, LENT(opened))
-              && !mq_open_leaves(LENT(key), made->sizes.degree, LENT(delta), LENT(leaves), made->opened.at, made->opened.len - 1),
+              && !mq_open_leaves(LENT_KEY, made->delta.at, s.tau + 1, LENT(leaves), LENT(opened))
+              && !mq_open_leaves(LENT_KEY, LENT(delta), made->leaves.at, made->leaves.len - 1, LENT(opened))
+              && !mq_open_leaves(LENT_KEY, LENT(delta), LENT(leaves), made->opened.at, made->opened.len - 1),
           "mq_open_leaves takes a wrong length", s);
     test_open_refused(made);
     check(memcmp(made->opened.at, zero.at, zero.len) == 0, "mq_open_leaves writes where it answers 0", s);
-    check(mq_open_leaves(LENT(key), made->sizes.degree, LENT(delta), LENT(leaves), LENT(opened)), "mq_open_leaves refuses its case", s);
+    check(mq_open_leaves(LENT_KEY, LENT(delta), LENT(leaves), LENT(opened)), "mq_open_leaves refuses its case", s);
     check(memcmp(made->opened.at, expected.at, expected.len) == 0, "mq_open_leaves", s);
     check(verify(made) == MQ_ACCEPTED, "mq_verify refuses leaves that were opened", s);
     free(expected.at);
@@ -353,7 +354,7 @@ static void test_spare(struct made *made)
         for (size_t c = all[i].bits; c < 8 * len; c++) {
             const size_t row = all[i].count - 1;
             all[i].rows[row * len + len - 1] |= (uint8_t)(1 << c % 8);
-            check(mq_prove(LENT(key), made->sizes.degree, LENT(leaves), LENT(witness), LENT(hash_matrix), LENT(batching), LENT(proof))
+            check(mq_prove(LENT_KEY, LENT(leaves), LENT(witness), LENT(hash_matrix), LENT(batching), LENT(proof))
                       == all[i].number * 65536, "a spare bit is not refused", s);
             mq_clear_spare(all[i].rows, all[i].count, all[i].bits);
         }

@@ -8,8 +8,8 @@ static size_t writes(struct sizes s)
 
 static uint32_t library(const struct lent *in, uint32_t degree, struct lent out)
 {
-    return mq_prove(LENT_KEY(in, degree), LENT(in[LEAVES]), LENT(in[WITNESS]), LENT(in[HASH_MATRIX]), LENT(in[BATCHING]),
-                    LENT(out));
+    return mq_prove(LENT_KEY(in, degree), LENT(in[LEAVES]), LENT(in[WITNESS]), LENT(in[HASH_MATRIX]),
+                    LENT(in[BATCHING]), LENT(out));
 }
 
 static uint32_t rendering(const struct lent *in, uint32_t degree, struct lent out)

@@ -174,8 +174,8 @@ static void tell(void)
     int missed = 0;
     for (size_t i = 0; i < NUMBERS * PLACES; i++)
         different += words[i] > 0;
-    printf("%s: %lu cases, each lent in two ways, %zu different words; by number, at degrees 8+4", the_call.name, cases_tried,
-           different);
+    printf("%s: %lu cases, each lent in two ways, %zu different words; by number, at degrees 8+4", the_call.name,
+           cases_tried, different);
     for (const int *number = the_call.answers; *number >= 0; number++) {
         printf(" %d: %lu+%lu", *number, with_number[EIGHT][*number], with_number[FOUR][*number]);
         missed |= with_number[FOUR][*number] == 0;
