@@ -272,7 +272,7 @@ extern "C" {
 #define MQ_LEAVES_SIZE(n, m, tau, t, degree) \
     ((tau) * MQ_FIELD_SIZE(degree) * MQ_LEAF_SIZE(n, m, tau, t, degree))
 #define MQ_OPENED_SIZE(n, m, tau, t, degree) \
-    ((tau) * (MQ_FIELD_SIZE(degree) - 1) * MQ_LEAF_SIZE(n, m, tau, t, degree))
+    ((tau) * ((degree) == 4 ? 15 : 255) * MQ_LEAF_SIZE(n, m, tau, t, degree))
 #define MQ_HASH_MATRIX_SIZE(n, m, tau, t, degree) ((t) * MQ_HASH_ROW_SIZE(n, m, tau, t, degree))
 #define MQ_BATCHING_SIZE(n, m, tau, t, degree) ((tau) * (m))
 #define MQ_DELTA_SIZE(n, m, tau, t, degree) (tau)

@@ -151,7 +151,7 @@ static inline int mq_open_leaves(const uint8_t *key, size_t key_len, uint32_t de
                                  uint8_t *out, size_t out_len)
 {
     struct mq_sizes s;
-    size_t leaf, last, e;
+    size_t leaf, each, e;
     if (degree != 8 && degree != 4)
         return 0;
     if (!mq_key_sizes(key, key_len, &s) || delta_len != MQ_DELTA_SIZE(s.n, s.m, s.tau, s.t, degree)
@@ -159,15 +159,15 @@ static inline int mq_open_leaves(const uint8_t *key, size_t key_len, uint32_t de
         || out_len != MQ_OPENED_SIZE(s.n, s.m, s.tau, s.t, degree))
         return 0;
     leaf = MQ_LEAF_SIZE(s.n, s.m, s.tau, s.t, degree);
-    last = MQ_FIELD_SIZE(degree) - 1;
+    each = MQ_FIELD_SIZE(degree);
     for (e = 0; e < s.tau; e++)
-        if (delta[e] > last)
+        if (delta[e] >= each)
             return 0;
     for (e = 0; e < s.tau; e++) {
-        const size_t before = delta[e] * leaf, after = (last - delta[e]) * leaf;
+        const size_t before = delta[e] * leaf, after = (each - 1 - delta[e]) * leaf;
         memcpy(out, leaves, before);
         memcpy(out + before, leaves + before + leaf, after);
-        leaves += (last + 1) * leaf;
+        leaves += each * leaf;
         out += before + after;
     }
     return 1;

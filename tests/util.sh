@@ -60,7 +60,7 @@ fault "a key that is cut" 's/ || key_len != MQ_KEY_SIZE(s.n, s.m, s.tau, s.t, 8)
 fault "the leaf at delta" 's/leaves + before + leaf, after/leaves + before, after/'
 fault "opened leaves that are too short" 's/|| out_len != MQ_OPENED_SIZE(s.n, s.m, s.tau, s.t, degree)/|| out_len == 0/'
 fault "a degree that is not served" 's/degree != 8 \&\& degree != 4/degree == 0/'
-fault "a delta that is no element" 's/delta\[e\] > last/delta[e] > last + 1/'
+fault "a delta that is no element" '/delta\[e\] >= each/{n;s/return 0/return 1/;}'
 fault "a place past the last equation" 's/places = MQ_MAX_EQUATIONS;/places = 65536;/'
 fault "a place where there is none" 's/places = 1;/places = 2;/'
 fault "a number that is not published" \
