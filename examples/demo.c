@@ -14,18 +14,24 @@
 #include "solfadrus.h"
 #include "solfadrus_util.h"
 
-/* The sizes of the key: variables, equations, repetitions, hash rows. */
-enum { N = 150, M = 150, TAU = 19, T = 144, ROW = MQ_STRING_SIZE(N) };
+/* The degree of the field: 8, or 4 with -DDEGREE=4. */
+#ifndef DEGREE
+#define DEGREE 8
+#endif
 
-static uint8_t key[MQ_KEY_SIZE(N, M, TAU, T)];
-static uint8_t witness[MQ_WITNESS_SIZE(N, M, TAU, T)];
-static uint8_t leaves[MQ_LEAVES_SIZE(N, M, TAU, T)];
-static uint8_t hash_matrix[MQ_HASH_MATRIX_SIZE(N, M, TAU, T)];
-static uint8_t batching[MQ_BATCHING_SIZE(N, M, TAU, T)];
-static uint8_t delta[MQ_DELTA_SIZE(N, M, TAU, T)];
-static uint8_t opened[MQ_OPENED_SIZE(N, M, TAU, T)];
-static uint8_t steps[MQ_PROOF_SIZE(N, M, TAU, T)];
-static uint8_t whole[MQ_PROOF_SIZE(N, M, TAU, T)];
+/* The sizes of the key: variables, equations, repetitions, hash rows. With 16 leaves in place of 256 a
+ * proof needs more repetitions. */
+enum { N = 150, M = 150, TAU = DEGREE == 4 ? 43 : 19, T = 144, ROW = MQ_STRING_SIZE(N) };
+
+static uint8_t key[MQ_KEY_SIZE(N, M, TAU, T, DEGREE)];
+static uint8_t witness[MQ_WITNESS_SIZE(N, M, TAU, T, DEGREE)];
+static uint8_t leaves[MQ_LEAVES_SIZE(N, M, TAU, T, DEGREE)];
+static uint8_t hash_matrix[MQ_HASH_MATRIX_SIZE(N, M, TAU, T, DEGREE)];
+static uint8_t batching[MQ_BATCHING_SIZE(N, M, TAU, T, DEGREE)];
+static uint8_t delta[MQ_DELTA_SIZE(N, M, TAU, T, DEGREE)];
+static uint8_t opened[MQ_OPENED_SIZE(N, M, TAU, T, DEGREE)];
+static uint8_t steps[MQ_PROOF_SIZE(N, M, TAU, T, DEGREE)];
+static uint8_t whole[MQ_PROOF_SIZE(N, M, TAU, T, DEGREE)];
 
 /* ---- The demo generator: splitmix64 ------------------------------------------------------- */
 
@@ -102,9 +108,9 @@ static void wipe(volatile uint8_t *secret, size_t len)
 /* ---- The key ------------------------------------------------------------------------------ */
 
 /* Where the sections of the key stand, without their counts. */
-static uint8_t *const A = key + MQ_OFFSET_A(N, M, TAU, T);
-static uint8_t *const b = key + MQ_OFFSET_B(N, M, TAU, T);
-static uint8_t *const y = key + MQ_OFFSET_Y(N, M, TAU, T);
+static uint8_t *const A = key + MQ_OFFSET_A(N, M, TAU, T, DEGREE);
+static uint8_t *const b = key + MQ_OFFSET_B(N, M, TAU, T, DEGREE);
+static uint8_t *const y = key + MQ_OFFSET_Y(N, M, TAU, T, DEGREE);
 
 static void put_number(uint8_t *at, size_t number, int bytes)
 {
@@ -133,28 +139,28 @@ static void make_key(void)
 static void prove_in_steps(void)
 {
     uint8_t *out = steps;
-    const size_t commit = mq_commit_size(N, M, TAU, T), hash = mq_hash_size(N, M, TAU, T);
-    const size_t batch = mq_batch_size(N, M, TAU, T);
+    const size_t commit = mq_commit_size(N, M, TAU, T, DEGREE), hash = mq_hash_size(N, M, TAU, T, DEGREE);
+    const size_t batch = mq_batch_size(N, M, TAU, T, DEGREE);
     uint32_t word;
 
     start();
-    word = mq_commit(key, sizeof key, leaves, sizeof leaves, witness, sizeof witness, out, commit);
+    word = mq_commit(key, sizeof key, DEGREE, leaves, sizeof leaves, witness, sizeof witness, out, commit);
     stop();
     show("mq_commit", word, commit, "corrections C and d");
     failures += word != MQ_ACCEPTED;
 
-    draw_strings(hash_matrix, T, MQ_HASH_ROW_BITS(N, M, TAU, T)); /* the verifier's, once it has C and d */
+    draw_strings(hash_matrix, T, MQ_HASH_ROW_BITS(N, M, TAU, T, DEGREE)); /* the verifier's, once it has C and d */
     out += commit;
     start();
-    word = mq_hash(key, sizeof key, leaves, sizeof leaves, hash_matrix, sizeof hash_matrix, out, hash);
+    word = mq_hash(key, sizeof key, DEGREE, leaves, sizeof leaves, hash_matrix, sizeof hash_matrix, out, hash);
     stop();
     show("mq_hash", word, hash, "hashes of u and of each v");
     failures += word != MQ_ACCEPTED;
 
-    draw_strings(batching, TAU * M, 8); /* the verifier's, once it has the hashes */
+    draw_strings(batching, TAU * M, DEGREE); /* the verifier's, once it has the hashes */
     out += hash;
     start();
-    word = mq_batch(key, sizeof key, leaves, sizeof leaves, witness, sizeof witness, batching, sizeof batching,
+    word = mq_batch(key, sizeof key, DEGREE, leaves, sizeof leaves, witness, sizeof witness, batching, sizeof batching,
                     out, batch);
     stop();
     mq_burn_stack(); /* the three have left u there, which with d gives the witness */
@@ -166,7 +172,7 @@ static uint32_t prove(const uint8_t *x, size_t len)
 {
     uint32_t word;
     start();
-    word = mq_prove(key, sizeof key, leaves, sizeof leaves, x, sizeof witness, hash_matrix, sizeof hash_matrix,
+    word = mq_prove(key, sizeof key, DEGREE, leaves, sizeof leaves, x, sizeof witness, hash_matrix, sizeof hash_matrix,
                     batching, sizeof batching, whole, len);
     stop();
     mq_burn_stack();
@@ -185,7 +191,7 @@ static uint32_t verify(const uint8_t *proof)
 {
     uint32_t word;
     start();
-    word = mq_verify(key, sizeof key, delta, sizeof delta, hash_matrix, sizeof hash_matrix, batching,
+    word = mq_verify(key, sizeof key, DEGREE, delta, sizeof delta, hash_matrix, sizeof hash_matrix, batching,
                      sizeof batching, opened, sizeof opened, proof, sizeof whole);
     stop();
     return word;
@@ -197,21 +203,21 @@ static void verify_proofs(void)
     uint32_t word;
     size_t e = TAU / 2;
 
-    draw_strings(delta, TAU, 8); /* the verifier's, once it has the whole proof */
-    delta[e] |= 1;               /* at 0 the byte of QS1 would not count */
-    expect(mq_open_leaves(key, sizeof key, delta, sizeof delta, leaves, sizeof leaves, opened, sizeof opened),
+    draw_strings(delta, TAU, DEGREE); /* the verifier's, once it has the whole proof */
+    delta[e] |= 1;                    /* at 0 the byte of QS1 would not count */
+    expect(mq_open_leaves(key, sizeof key, DEGREE, delta, sizeof delta, leaves, sizeof leaves, opened, sizeof opened),
            "the prover opens all leaves but the one at delta, in each repetition");
     word = verify(whole);
     show("mq_verify", word, 0, "the proof");
     expect(word == MQ_ACCEPTED, "accepted");
 
     memcpy(forged, whole, sizeof whole);
-    forged[MQ_OFFSET_QS1(N, M, TAU, T) + e] ^= 1;
+    forged[MQ_OFFSET_QS1(N, M, TAU, T, DEGREE) + e] ^= 1;
     word = verify(forged);
     show("mq_verify", word, 0, "the proof with one bit of QS1 changed");
     expect(word == MQ_REFUSED_PRODUCT_DIFFERS * 65536 + e, "refused for that, in that repetition");
 
-    forged[MQ_OFFSET_V(N, M, TAU, T) + e * T] ^= 1;
+    forged[MQ_OFFSET_V(N, M, TAU, T, DEGREE) + e * T] ^= 1;
     word = verify(forged);
     show("mq_verify", word, 0, "and one bit of V~ too");
     expect(word == MQ_REFUSED_INCONSISTENT * 65536 + e, "refused for that, which is asked first");
@@ -265,7 +271,7 @@ int main(void)
         return 1;
     }
     printf("Solfadrus: a proof of knowing x that solves %d quadratic equations in %d variables over GF(2),\n", M, N);
-    printf("in %d repetitions with %d hash rows.\n", TAU, T);
+    printf("in %d repetitions with %d hash rows, over GF(%d).\n", TAU, T, MQ_FIELD_SIZE(DEGREE));
     printf("DEMO GENERATOR: leaves, challenges and key come from a small seeded generator, fit for show only.\n");
     printf("NOT PROVED: that a proof keeps the witness. No theorem of this version says it.\n\n");
 
@@ -273,10 +279,10 @@ int main(void)
            (unsigned long)sizeof key, (unsigned long)sizeof leaves, (unsigned long)sizeof opened,
            (unsigned long)sizeof witness);
     make_key();
-    draw_strings(leaves, MQ_FIELD_SIZE * TAU, MQ_LEAF_BITS(N, M, TAU, T));
+    draw_strings(leaves, MQ_FIELD_SIZE(DEGREE) * TAU, MQ_LEAF_BITS(N, M, TAU, T, DEGREE));
 
     start();
-    word = mq_test(key, sizeof key, witness, sizeof witness);
+    word = mq_test(key, sizeof key, DEGREE, witness, sizeof witness);
     stop();
     mq_burn_stack();
     show("mq_test", word, 0, "the witness solves the key");

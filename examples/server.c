@@ -5,8 +5,8 @@
  * output, in the order of the requests. Numbers are four bytes, lowest first.
  *
  *     request   one byte that names the call: 0 mq_test, 1 mq_commit, 2 mq_hash, 3 mq_batch, 4 mq_prove,
- *               5 mq_verify; then its inputs, in the order of its parameters, each after its count; then,
- *               where the call writes, the length of its output
+ *               5 mq_verify; then its inputs, in the order of its parameters, each after its count, with
+ *               the degree, a number, after the key; then, where the call writes, the length of its output
  *     answer    the call's word: 0 accepted, else number * 65536 + place; where an accepted call writes,
  *               its output follows
  *
@@ -48,9 +48,9 @@ static const struct {
     { 6, { KEY, DELTA, HASH_MATRIX, BATCHING, OPENED, PROOF }, 0 },
 };
 
-/* The longest of each input, and one byte more. The longest output is a proof. */
+/* The longest of each input, which is that of degree 8, and one byte more. The longest output is a proof. */
 #define ROOM(NAME) \
-    (MQ_##NAME##_SIZE(MQ_MAX_VARIABLES, MQ_MAX_EQUATIONS, MQ_MAX_REPETITIONS, MQ_MAX_HASH_ROWS) + 1)
+    (MQ_##NAME##_SIZE(MQ_MAX_VARIABLES, MQ_MAX_EQUATIONS, MQ_MAX_REPETITIONS, MQ_MAX_HASH_ROWS, 8) + 1)
 static const size_t rooms[INPUTS] = { ROOM(KEY),      ROOM(LEAVES), ROOM(WITNESS), ROOM(HASH_MATRIX),
                                       ROOM(BATCHING), ROOM(DELTA),  ROOM(OPENED),  ROOM(PROOF) };
 enum {
@@ -63,6 +63,7 @@ struct request {
     uint8_t bytes[ALL_ROOM];
     uint8_t *at[INPUTS];
     size_t len[INPUTS];
+    uint32_t degree;
     uint8_t out[ROOM(PROOF)];
     size_t out_len;
 };
@@ -114,6 +115,11 @@ static enum taken take_request(struct request *request)
         request->at[input] = at;
         request->len[input] = least(number, rooms[input]);
         at += rooms[input];
+        if (input == KEY) {
+            if (!take_number(&number))
+                return CUT;
+            request->degree = (uint32_t)number;
+        }
     }
     if (forms[call].writes) {
         if (!take_number(&number))
@@ -126,19 +132,20 @@ static enum taken take_request(struct request *request)
 /* ---- Calls -------------------------------------------------------------------------------- */
 
 #define LENT(NAME) r->at[NAME], r->len[NAME]
+#define LENT_KEY LENT(KEY), r->degree
 
 static uint32_t make_call(struct request *r)
 {
     switch (r->call) {
-    case TEST: return mq_test(LENT(KEY), LENT(WITNESS));
-    case COMMIT: return mq_commit(LENT(KEY), LENT(LEAVES), LENT(WITNESS), r->out, r->out_len);
-    case HASH: return mq_hash(LENT(KEY), LENT(LEAVES), LENT(HASH_MATRIX), r->out, r->out_len);
-    case BATCH: return mq_batch(LENT(KEY), LENT(LEAVES), LENT(WITNESS), LENT(BATCHING), r->out, r->out_len);
+    case TEST: return mq_test(LENT_KEY, LENT(WITNESS));
+    case COMMIT: return mq_commit(LENT_KEY, LENT(LEAVES), LENT(WITNESS), r->out, r->out_len);
+    case HASH: return mq_hash(LENT_KEY, LENT(LEAVES), LENT(HASH_MATRIX), r->out, r->out_len);
+    case BATCH: return mq_batch(LENT_KEY, LENT(LEAVES), LENT(WITNESS), LENT(BATCHING), r->out, r->out_len);
     case PROVE:
-        return mq_prove(LENT(KEY), LENT(LEAVES), LENT(WITNESS), LENT(HASH_MATRIX), LENT(BATCHING), r->out,
+        return mq_prove(LENT_KEY, LENT(LEAVES), LENT(WITNESS), LENT(HASH_MATRIX), LENT(BATCHING), r->out,
                         r->out_len);
     default:
-        return mq_verify(LENT(KEY), LENT(DELTA), LENT(HASH_MATRIX), LENT(BATCHING), LENT(OPENED), LENT(PROOF));
+        return mq_verify(LENT_KEY, LENT(DELTA), LENT(HASH_MATRIX), LENT(BATCHING), LENT(OPENED), LENT(PROOF));
     }
 }
 

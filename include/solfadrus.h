@@ -11,7 +11,7 @@
  *
  *   1. Conventions        how a call is made, and what it answers
  *   2. Sizes and formats  the bytes of a key, witness, leaves, challenges and proof
- *   3. Answers            the numbers 1 to 15, and what each asks
+ *   3. Answers            the numbers 1 to 18, and what each asks
  *   4. The caller's duty  what the library cannot see, and relies on
  *   5. Size functions and macros
  *   6. The calls          mq_test, mq_commit, mq_hash, mq_batch, mq_prove, mq_verify
@@ -42,15 +42,24 @@
  *     tau   repetitions    1 .. MQ_MAX_REPETITIONS
  *     t     hash rows      1 .. MQ_MAX_HASH_ROWS
  *
- * and from them  k = n + 8 tau  (8 mask coordinates for each repetition: those of repetition e are
- * n + 8e .. n + 8e + 7),  L = k + t  (bits of a leaf),  w = ceil(L / 8)  (bytes of a leaf).
+ * with the degree r of the field, which is no part of the key: it stands beside the key in every call.
+ *
+ *     degree 8   K = GF(256), products modulo X^8 + X^4 + X^3 + X + 1, as in FIPS 197
+ *     degree 4   K = GF(16), products modulo X^4 + X + 1
+ *
+ * A tree has as many leaves as K has elements, 2^r: 256 or 16. So the same key serves at both
+ * degrees, and nothing else does: leaves, challenges and proof are those of one degree. For the same
+ * assurance degree 4 takes more repetitions: SECURITY.md.
+ *
+ * From these  k = n + r tau  (r mask coordinates for each repetition: those of repetition e are
+ * n + re .. n + re + r - 1),  L = k + t  (bits of a leaf),  w = ceil(L / 8)  (bytes of a leaf).
  *
  * A string of c bits takes ceil(c / 8) bytes; coordinate i is bit i mod 8 (bit 0 the lowest) of
  * byte floor(i / 8). The bits past the last coordinate are spare, and must be 0. A count is four
  * bytes, lowest first. A section is its count, and then as many bytes.
  *
- * An element of the field K = GF(256) is a byte; a sum is the exclusive or, and a product is taken
- * modulo X^8 + X^4 + X^3 + X + 1, as in FIPS 197.
+ * An element of K is a byte, bit s for X^s. At degree 4 it is the low half, and the high half must be
+ * 0: no two elements share a byte. A sum is the exclusive or.
  *
  *   key          n, m, tau, t, two bytes each, lowest first; then the sections A, b, y:
  *                A   m matrices of n rows of n bits, matrix 0 row 0 first
@@ -58,12 +67,12 @@
  *                y   m bits
  *                Equation i is  x^T A_i x + b_i x = y_i . A_i need not be symmetric.
  *   witness      x, n bits. SECRET.
- *   leaves       for each repetition e, rising, 256 leaves of L bits, j rising from 0. SECRET.
+ *   leaves       for each repetition e, rising, 2^r leaves of L bits, j rising from 0. SECRET.
  *   hash_matrix  H', t rows of k bits.
  *   batching     chi, for each repetition, rising, m elements of K, one for each equation, rising.
  *   delta        for each repetition one element of K.
- *   opened       for each repetition e, rising, the 255 leaves with j other than delta[e], rising:
- *                leaf j stands at place j below delta[e], and at place j - 1 above it.
+ *   opened       for each repetition e, rising, the 2^r - 1 leaves with j other than delta[e],
+ *                rising: leaf j stands at place j below delta[e], and at place j - 1 above it.
  *   proof        the sections  C, d, u~, V~, QS0, QS1 :
  *                C     for each repetition but the first, rising, L bits   (count 0 at tau = 1)
  *                d     n bits
@@ -80,12 +89,14 @@
  *
  * Each call puts the questions that concern its inputs, in this order. The first no is the answer.
  *
+ *   16  Is the degree 8 or 4?
  *    1  Has the key at least the 8 bytes of its header?
  *    2  Are n, m, tau, t in range?
  *    3  Are all counts and the key's length exact?
  *    4  Are the key's spare bits 0 (in each row of A, each row of b, and y)?
  *    5  Have the challenges that this call uses exact lengths?
  *    6  Are the spare bits of hash_matrix 0?
+ *   17  Are the bytes of delta and batching elements (at degree 4, at most 15)?
  *    7  Have the leaves their exact length?
  *    8  Are the spare bits of each leaf 0?
  *    9  Has the witness ceil(n / 8) bytes, spare bits 0?
@@ -93,11 +104,13 @@
  *   11  Does the witness solve the system?     place: the lowest-numbered equation that fails
  *   12  Are the proof's counts and length exact?
  *   13  Are the spare bits of C, d, u~ 0?
+ *   18  Are the bytes of V~, QS0, QS1 elements (at degree 4, at most 15)?
  *   14  Does consistency hold in every repetition?         place: the first one where not
  *   15  Does the product check hold in every repetition?   place: the first one where not
  *
  * The place is 0 for all numbers but 11, 14 and 15; equations and repetitions count from 0. 12 to 15
- * are questions of mq_verify alone. 14 is put of every repetition before 15 of any.
+ * and 18 are questions of mq_verify alone. 14 is put of every repetition before 15 of any. At degree 8
+ * every byte is an element, so 17 and 18 are answers at degree 4 alone.
  *
  *
  * 4. THE CALLER'S DUTY
@@ -124,13 +137,15 @@
  *              time depends on what it is lent.
  *   Leaves     All bits of all leaves (but the spare ones) are drawn uniformly and independently,
  *              from a generator fit for keys, anew for each proof. A set of leaves serves ONE
- *              proof: one witness, one hash_matrix, one batching, one delta.
+ *              proof: one degree, one witness, one hash_matrix, one batching, one delta.
  *   Opening    Never open the same leaves at two delta. Two openings of a repetition show all of
  *              its leaves, and they and d give the witness away.
  *   Challenges hash_matrix is drawn after the output of mq_commit is fixed, batching after that
  *              of mq_hash, and delta after that of mq_batch; each so that the prover can neither
  *              foresee nor choose it. mq_verify is lent them, and cannot see who drew them, or
  *              when.
+ *   Degree     It is agreed on before the first challenge is drawn, with the repetitions that it
+ *              needs: the one who is to be convinced does not take it from the prover.
  *   Binding    The prover fixes all leaves before the first challenge is drawn. mq_verify takes
  *              opened leaves as they are lent: that they are those is for the caller to see to.
  *   Wiping     Wipe leaves and witness when they have served. The calls work on the stack, and do
@@ -179,10 +194,9 @@ extern "C" {
 /* The stack that a call must find left. */
 #define MQ_STACK_BYTES 262144
 
-/* The field K: its degree over GF(2), its size, and the modulus, bit s for X^s. */
-#define MQ_FIELD_DEGREE 8
-#define MQ_FIELD_SIZE 256
-#define MQ_FIELD_MODULUS 0x11B
+/* The field K of a degree, which is 8 or 4: its size, and the modulus, bit s for X^s. */
+#define MQ_FIELD_SIZE(degree) ((degree) == 4 ? 16 : 256)
+#define MQ_FIELD_MODULUS(degree) ((degree) == 4 ? 0x13 : 0x11B)
 
 /* The word of an accepted call, and the two halves of any word. */
 #define MQ_ACCEPTED 0
@@ -205,16 +219,19 @@ extern "C" {
 #define MQ_REFUSED_PROOF_SPARE_BIT 13
 #define MQ_REFUSED_INCONSISTENT 14    /* place: the first repetition where not */
 #define MQ_REFUSED_PRODUCT_DIFFERS 15 /* place: the first repetition where not */
+#define MQ_REFUSED_DEGREE_UNSERVED 16
+#define MQ_REFUSED_CHALLENGE_ELEMENT 17
+#define MQ_REFUSED_PROOF_ELEMENT 18
 
 /*
  * 5. SIZE FUNCTIONS AND MACROS
  *
  * For each length a macro, which is a constant expression where its arguments are, and a function
- * of the same value. All take the four sizes, in the key's order, whether or not the length
- * depends on each.
+ * of the same value. All take the four sizes, in the key's order, and then the degree, whether or
+ * not the length depends on each.
  *
- * The macros are right for sizes in range, and test nothing. The functions answer 0 where a size
- * is out of range; no length that is in range is 0.
+ * The macros are right for sizes in range and degree 8 or 4, and test nothing. The functions answer
+ * 0 where a size is out of range or the degree is another; no length that is in range is 0.
  *
  *     macro                   function              bytes
  *     MQ_KEY_SIZE             mq_key_size           a key
@@ -229,9 +246,10 @@ extern "C" {
  *     MQ_BATCH_SIZE           mq_batch_size         what mq_batch writes, counts included
  *     MQ_PROOF_SIZE           mq_proof_size         what mq_prove writes, counts included
  *
- * With the largest sizes the key has 4108860 bytes, the leaves 1523712, the opened leaves 1517760
- * and the proof 19848. So every length is far below 2^32, and fits an int of 32 bits: in range no
- * macro can wrap.
+ * With the largest sizes the key has 4108860 bytes; at degree 8 the leaves have 1523712, the opened
+ * leaves 1517760 and the proof 19848; at degree 4 the leaves have 76800, the opened leaves 72000 and
+ * the proof 18720. So every length is far below 2^32, and fits an int of 32 bits: in range no macro
+ * can wrap.
  */
 #define MQ_COUNT_SIZE 4
 #define MQ_HEADER_SIZE 8
@@ -240,42 +258,43 @@ extern "C" {
 #define MQ_STRING_SIZE(bits) (((bits) + 7) / 8)
 
 /* Bits of one row of hash_matrix (k), and of one leaf (L). */
-#define MQ_HASH_ROW_BITS(n, m, tau, t) ((n) + MQ_FIELD_DEGREE * (tau))
-#define MQ_LEAF_BITS(n, m, tau, t) (MQ_HASH_ROW_BITS(n, m, tau, t) + (t))
+#define MQ_HASH_ROW_BITS(n, m, tau, t, degree) ((n) + (degree) * (tau))
+#define MQ_LEAF_BITS(n, m, tau, t, degree) (MQ_HASH_ROW_BITS(n, m, tau, t, degree) + (t))
 
 /* Bytes of one row of hash_matrix, and of one leaf (w). */
-#define MQ_HASH_ROW_SIZE(n, m, tau, t) MQ_STRING_SIZE(MQ_HASH_ROW_BITS(n, m, tau, t))
-#define MQ_LEAF_SIZE(n, m, tau, t) MQ_STRING_SIZE(MQ_LEAF_BITS(n, m, tau, t))
+#define MQ_HASH_ROW_SIZE(n, m, tau, t, degree) MQ_STRING_SIZE(MQ_HASH_ROW_BITS(n, m, tau, t, degree))
+#define MQ_LEAF_SIZE(n, m, tau, t, degree) MQ_STRING_SIZE(MQ_LEAF_BITS(n, m, tau, t, degree))
 
-#define MQ_KEY_SIZE(n, m, tau, t) \
+#define MQ_KEY_SIZE(n, m, tau, t, degree) \
     (MQ_HEADER_SIZE + 3 * MQ_COUNT_SIZE + (m) * (n) * MQ_STRING_SIZE(n) \
      + (m) * MQ_STRING_SIZE(n) + MQ_STRING_SIZE(m))
-#define MQ_WITNESS_SIZE(n, m, tau, t) MQ_STRING_SIZE(n)
-#define MQ_LEAVES_SIZE(n, m, tau, t) \
-    ((tau) * MQ_FIELD_SIZE * MQ_LEAF_SIZE(n, m, tau, t))
-#define MQ_OPENED_SIZE(n, m, tau, t) \
-    ((tau) * (MQ_FIELD_SIZE - 1) * MQ_LEAF_SIZE(n, m, tau, t))
-#define MQ_HASH_MATRIX_SIZE(n, m, tau, t) ((t) * MQ_HASH_ROW_SIZE(n, m, tau, t))
-#define MQ_BATCHING_SIZE(n, m, tau, t) ((tau) * (m))
-#define MQ_DELTA_SIZE(n, m, tau, t) (tau)
-#define MQ_COMMIT_SIZE(n, m, tau, t) \
-    (2 * MQ_COUNT_SIZE + ((tau) - 1) * MQ_LEAF_SIZE(n, m, tau, t) + MQ_STRING_SIZE(n))
-#define MQ_HASH_SIZE(n, m, tau, t) (2 * MQ_COUNT_SIZE + MQ_STRING_SIZE(t) + (tau) * (t))
-#define MQ_BATCH_SIZE(n, m, tau, t) (2 * MQ_COUNT_SIZE + 2 * (tau))
-#define MQ_PROOF_SIZE(n, m, tau, t) \
-    (MQ_COMMIT_SIZE(n, m, tau, t) + MQ_HASH_SIZE(n, m, tau, t) + MQ_BATCH_SIZE(n, m, tau, t))
+#define MQ_WITNESS_SIZE(n, m, tau, t, degree) MQ_STRING_SIZE(n)
+#define MQ_LEAVES_SIZE(n, m, tau, t, degree) \
+    ((tau) * MQ_FIELD_SIZE(degree) * MQ_LEAF_SIZE(n, m, tau, t, degree))
+#define MQ_OPENED_SIZE(n, m, tau, t, degree) \
+    ((tau) * ((degree) == 4 ? 15 : 255) * MQ_LEAF_SIZE(n, m, tau, t, degree))
+#define MQ_HASH_MATRIX_SIZE(n, m, tau, t, degree) ((t) * MQ_HASH_ROW_SIZE(n, m, tau, t, degree))
+#define MQ_BATCHING_SIZE(n, m, tau, t, degree) ((tau) * (m))
+#define MQ_DELTA_SIZE(n, m, tau, t, degree) (tau)
+#define MQ_COMMIT_SIZE(n, m, tau, t, degree) \
+    (2 * MQ_COUNT_SIZE + ((tau) - 1) * MQ_LEAF_SIZE(n, m, tau, t, degree) + MQ_STRING_SIZE(n))
+#define MQ_HASH_SIZE(n, m, tau, t, degree) (2 * MQ_COUNT_SIZE + MQ_STRING_SIZE(t) + (tau) * (t))
+#define MQ_BATCH_SIZE(n, m, tau, t, degree) (2 * MQ_COUNT_SIZE + 2 * (tau))
+#define MQ_PROOF_SIZE(n, m, tau, t, degree) \
+    (MQ_COMMIT_SIZE(n, m, tau, t, degree) + MQ_HASH_SIZE(n, m, tau, t, degree) \
+     + MQ_BATCH_SIZE(n, m, tau, t, degree))
 
-size_t mq_key_size(size_t n, size_t m, size_t tau, size_t t);
-size_t mq_witness_size(size_t n, size_t m, size_t tau, size_t t);
-size_t mq_leaves_size(size_t n, size_t m, size_t tau, size_t t);
-size_t mq_opened_size(size_t n, size_t m, size_t tau, size_t t);
-size_t mq_hash_matrix_size(size_t n, size_t m, size_t tau, size_t t);
-size_t mq_batching_size(size_t n, size_t m, size_t tau, size_t t);
-size_t mq_delta_size(size_t n, size_t m, size_t tau, size_t t);
-size_t mq_commit_size(size_t n, size_t m, size_t tau, size_t t);
-size_t mq_hash_size(size_t n, size_t m, size_t tau, size_t t);
-size_t mq_batch_size(size_t n, size_t m, size_t tau, size_t t);
-size_t mq_proof_size(size_t n, size_t m, size_t tau, size_t t);
+size_t mq_key_size(size_t n, size_t m, size_t tau, size_t t, uint32_t degree);
+size_t mq_witness_size(size_t n, size_t m, size_t tau, size_t t, uint32_t degree);
+size_t mq_leaves_size(size_t n, size_t m, size_t tau, size_t t, uint32_t degree);
+size_t mq_opened_size(size_t n, size_t m, size_t tau, size_t t, uint32_t degree);
+size_t mq_hash_matrix_size(size_t n, size_t m, size_t tau, size_t t, uint32_t degree);
+size_t mq_batching_size(size_t n, size_t m, size_t tau, size_t t, uint32_t degree);
+size_t mq_delta_size(size_t n, size_t m, size_t tau, size_t t, uint32_t degree);
+size_t mq_commit_size(size_t n, size_t m, size_t tau, size_t t, uint32_t degree);
+size_t mq_hash_size(size_t n, size_t m, size_t tau, size_t t, uint32_t degree);
+size_t mq_batch_size(size_t n, size_t m, size_t tau, size_t t, uint32_t degree);
+size_t mq_proof_size(size_t n, size_t m, size_t tau, size_t t, uint32_t degree);
 
 /*
  * The version of the library. Where it is not MQ_VERSION, header and archive do not belong
@@ -287,17 +306,17 @@ uint32_t mq_version(void);
  * 6. THE CALLS
  *
  * Each says what it takes, what it puts into `out`, and which questions it puts, in order.
- * In all of them `x_len` is the length in bytes of `x`.
+ * In all of them `x_len` is the length in bytes of `x`, and `degree` the degree of the field.
  */
 
 /*
  * Tests a key and a witness: is the key of the right form, and does the witness solve it?
  *
- *     questions   1 2 3 4, 9, 11
+ *     questions   16, 1 2 3 4, 9, 11
  *     writes      nothing
  */
 MQ_LOOK_AT_ANSWER
-uint32_t mq_test(const uint8_t *key, size_t key_len,
+uint32_t mq_test(const uint8_t *key, size_t key_len, uint32_t degree,
                  const uint8_t *witness, size_t witness_len);
 
 /*
@@ -307,11 +326,11 @@ uint32_t mq_test(const uint8_t *key, size_t key_len,
  * C_e = u_e + u for e = 1 .. tau - 1, and the section d, which is the witness plus the first n
  * bits of u.
  *
- *     questions   1 2 3 4, 7 8, 9, 10, 11
+ *     questions   16, 1 2 3 4, 7 8, 9, 10, 11
  *     writes      MQ_COMMIT_SIZE bytes
  */
 MQ_LOOK_AT_ANSWER
-uint32_t mq_commit(const uint8_t *key, size_t key_len,
+uint32_t mq_commit(const uint8_t *key, size_t key_len, uint32_t degree,
                    const uint8_t *leaves, size_t leaves_len,
                    const uint8_t *witness, size_t witness_len,
                    uint8_t *out, size_t out_len);
@@ -325,11 +344,11 @@ uint32_t mq_commit(const uint8_t *key, size_t key_len,
  *
  * It takes no witness, so it puts neither 9 nor 11.
  *
- *     questions   1 2 3 4, 5 (hash_matrix), 6, 7 8, 10
+ *     questions   16, 1 2 3 4, 5 (hash_matrix), 6, 7 8, 10
  *     writes      MQ_HASH_SIZE bytes
  */
 MQ_LOOK_AT_ANSWER
-uint32_t mq_hash(const uint8_t *key, size_t key_len,
+uint32_t mq_hash(const uint8_t *key, size_t key_len, uint32_t degree,
                  const uint8_t *leaves, size_t leaves_len,
                  const uint8_t *hash_matrix, size_t hash_matrix_len,
                  uint8_t *out, size_t out_len);
@@ -340,16 +359,16 @@ uint32_t mq_hash(const uint8_t *key, size_t key_len,
  * With a0 = v^T A_i v and a1 = v^T A_i x + x^T A_i v + b_i v, where v is the first n coordinates
  * of v_e, it writes for each repetition
  *
- *     QS0 = sum over i of chi(e, i) a0   + sum over s of alpha^s v_e[n + 8e + s]
- *     QS1 = sum over i of chi(e, i) a1   + sum over s of alpha^s u[n + 8e + s]
+ *     QS0 = sum over i of chi(e, i) a0   + sum over s of alpha^s v_e[n + re + s]
+ *     QS1 = sum over i of chi(e, i) a1   + sum over s of alpha^s u[n + re + s]
  *
- * with s = 0 .. 7 and alpha the element 02.
+ * with s = 0 .. r - 1 and alpha the element 02.
  *
- *     questions   1 2 3 4, 5 (batching), 7 8, 9, 10, 11
+ *     questions   16, 1 2 3 4, 5 (batching), 17 (batching), 7 8, 9, 10, 11
  *     writes      MQ_BATCH_SIZE bytes
  */
 MQ_LOOK_AT_ANSWER
-uint32_t mq_batch(const uint8_t *key, size_t key_len,
+uint32_t mq_batch(const uint8_t *key, size_t key_len, uint32_t degree,
                   const uint8_t *leaves, size_t leaves_len,
                   const uint8_t *witness, size_t witness_len,
                   const uint8_t *batching, size_t batching_len,
@@ -361,11 +380,11 @@ uint32_t mq_batch(const uint8_t *key, size_t key_len,
  * It is for callers who hold both challenges already. Where a prover meets them one by one, the
  * three steps are the calls to make.
  *
- *     questions   1 2 3 4, 5 (hash_matrix and batching), 6, 7 8, 9, 10, 11
+ *     questions   16, 1 2 3 4, 5 (hash_matrix and batching), 6, 17 (batching), 7 8, 9, 10, 11
  *     writes      MQ_PROOF_SIZE bytes
  */
 MQ_LOOK_AT_ANSWER
-uint32_t mq_prove(const uint8_t *key, size_t key_len,
+uint32_t mq_prove(const uint8_t *key, size_t key_len, uint32_t degree,
                   const uint8_t *leaves, size_t leaves_len,
                   const uint8_t *witness, size_t witness_len,
                   const uint8_t *hash_matrix, size_t hash_matrix_len,
@@ -381,19 +400,19 @@ uint32_t mq_prove(const uint8_t *key, size_t key_len,
  *
  *     14   H W_e = V~_e + delta[e] u~
  *     15   sum over i of chi(e, i) (K_e^T A_i K_e + delta[e] b_i K_e + delta[e]^2 y_i)
- *          + sum over s of alpha^s W_e[n + 8e + s]  =  QS0_e + delta[e] QS1_e
+ *          + sum over s of alpha^s W_e[n + re + s]  =  QS0_e + delta[e] QS1_e
  *
- * with s = 0 .. 7 and alpha the element 02. The place is the first repetition where 14 fails; where
+ * with s = 0 .. r - 1 and alpha the element 02. The place is the first repetition where 14 fails; where
  * it fails in none, the first where 15 fails.
  *
  * What mq_prove writes is accepted at every delta. A proof that was changed can be accepted too, at
  * few delta: where delta[e] is 0, for one, neither C_e nor d enters.
  *
- *     questions   1 2 3 4, 5 (delta, hash_matrix and batching), 6, 7 8 (opened), 12, 13, 14, 15
+ *     questions   16, 1 2 3 4, 5 (delta, hash_matrix and batching), 6, 17 (delta and batching), 7 8, 12, 13, 18, 14, 15
  *     writes      nothing
  */
 MQ_LOOK_AT_ANSWER
-uint32_t mq_verify(const uint8_t *key, size_t key_len,
+uint32_t mq_verify(const uint8_t *key, size_t key_len, uint32_t degree,
                    const uint8_t *delta, size_t delta_len,
                    const uint8_t *hash_matrix, size_t hash_matrix_len,
                    const uint8_t *batching, size_t batching_len,

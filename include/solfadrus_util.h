@@ -13,8 +13,8 @@
  *     mq_burn_stack    overwrites what a call left on the stack
  *
  * Formats, names and duties are those of solfadrus.h. A helper that answers an int answers 1 where it has
- * done its job, and 0 where a size or a length does not fit; then it has written nothing. (The library's
- * calls answer words, of which 0 is the good one.)
+ * done its job, and 0 where a size, a length or the degree does not fit; then it has written nothing. (The
+ * library's calls answer words, of which 0 is the good one.)
  */
 
 #ifndef SOLFADRUS_UTIL_H
@@ -53,25 +53,29 @@ static inline int mq_key_sizes(const uint8_t *key, size_t key_len, struct mq_siz
 
 /*
  * Where the contents of each section begin; its count stands MQ_COUNT_SIZE bytes before. They take the four
- * sizes as the macros of lengths do, are right for sizes in range, and test nothing.
+ * sizes and the degree as the macros of lengths do, are right in range, and test nothing. Those of a key are
+ * the same at both degrees.
  */
-#define MQ_OFFSET_A(n, m, tau, t) (MQ_HEADER_SIZE + MQ_COUNT_SIZE)
-#define MQ_OFFSET_B(n, m, tau, t) (MQ_HEADER_SIZE + 2 * MQ_COUNT_SIZE + (m) * (n) * MQ_STRING_SIZE(n))
-#define MQ_OFFSET_Y(n, m, tau, t) (MQ_KEY_SIZE(n, m, tau, t) - MQ_STRING_SIZE(m))
+#define MQ_OFFSET_A(n, m, tau, t, degree) (MQ_HEADER_SIZE + MQ_COUNT_SIZE)
+#define MQ_OFFSET_B(n, m, tau, t, degree) \
+    (MQ_HEADER_SIZE + 2 * MQ_COUNT_SIZE + (m) * (n) * MQ_STRING_SIZE(n))
+#define MQ_OFFSET_Y(n, m, tau, t, degree) (MQ_KEY_SIZE(n, m, tau, t, degree) - MQ_STRING_SIZE(m))
 
-#define MQ_OFFSET_C(n, m, tau, t) (MQ_COUNT_SIZE)
-#define MQ_OFFSET_D(n, m, tau, t) (MQ_COMMIT_SIZE(n, m, tau, t) - MQ_STRING_SIZE(n))
-#define MQ_OFFSET_U(n, m, tau, t) (MQ_COMMIT_SIZE(n, m, tau, t) + MQ_COUNT_SIZE)
-#define MQ_OFFSET_V(n, m, tau, t) \
-    (MQ_COMMIT_SIZE(n, m, tau, t) + MQ_HASH_SIZE(n, m, tau, t) - (tau) * (t))
-#define MQ_OFFSET_QS0(n, m, tau, t) \
-    (MQ_COMMIT_SIZE(n, m, tau, t) + MQ_HASH_SIZE(n, m, tau, t) + MQ_COUNT_SIZE)
-#define MQ_OFFSET_QS1(n, m, tau, t) (MQ_PROOF_SIZE(n, m, tau, t) - (tau))
+#define MQ_OFFSET_C(n, m, tau, t, degree) (MQ_COUNT_SIZE)
+#define MQ_OFFSET_D(n, m, tau, t, degree) (MQ_COMMIT_SIZE(n, m, tau, t, degree) - MQ_STRING_SIZE(n))
+#define MQ_OFFSET_U(n, m, tau, t, degree) (MQ_COMMIT_SIZE(n, m, tau, t, degree) + MQ_COUNT_SIZE)
+#define MQ_OFFSET_V(n, m, tau, t, degree) \
+    (MQ_COMMIT_SIZE(n, m, tau, t, degree) + MQ_HASH_SIZE(n, m, tau, t, degree) - (tau) * (t))
+#define MQ_OFFSET_QS0(n, m, tau, t, degree) \
+    (MQ_COMMIT_SIZE(n, m, tau, t, degree) + MQ_HASH_SIZE(n, m, tau, t, degree) + MQ_COUNT_SIZE)
+#define MQ_OFFSET_QS1(n, m, tau, t, degree) (MQ_PROOF_SIZE(n, m, tau, t, degree) - (tau))
 
 /*
  * Clears the spare bits of so many rows of so many bits, which stand one after the other. For a key's A it
  * is m * n rows of n bits, for b it is m of n, for y 1 of m, for a witness 1 of n, for hash_matrix t of
- * MQ_HASH_ROW_BITS, for leaves 256 * tau of MQ_LEAF_BITS. No branch and no address goes by what the rows hold.
+ * MQ_HASH_ROW_BITS, for leaves MQ_FIELD_SIZE * tau of MQ_LEAF_BITS. An element is a row too: for batching it is
+ * tau * m rows of as many bits as the degree says, for delta tau. No branch and no address goes by what the rows
+ * hold.
  */
 static inline void mq_clear_spare(uint8_t *rows, size_t count, size_t bits)
 {
@@ -104,7 +108,8 @@ static inline unsigned mq_util_parity(unsigned byte)
 
 /*
  * Writes the section y of a key so that the witness solves every equation: y_i = x^T A_i x + b_i x. Header,
- * A and b stand in the key already, and the witness has no spare bit. Counts are neither read nor written.
+ * A and b stand in the key already, and the witness has no spare bit. Counts are neither read nor written. It
+ * takes no degree: a key serves at both.
  *
  * The witness is secret: no branch and no address goes by it, a bit of it selects by a mask. (tests/util.sh
  * tests that of what gcc makes of it.)
@@ -115,12 +120,12 @@ static inline int mq_make_y(uint8_t *key, size_t key_len, const uint8_t *witness
     const uint8_t *a, *b;
     uint8_t *y;
     size_t i, r;
-    if (!mq_key_sizes(key, key_len, &s) || key_len != MQ_KEY_SIZE(s.n, s.m, s.tau, s.t)
-        || witness_len != MQ_WITNESS_SIZE(s.n, s.m, s.tau, s.t))
+    if (!mq_key_sizes(key, key_len, &s) || key_len != MQ_KEY_SIZE(s.n, s.m, s.tau, s.t, 8)
+        || witness_len != MQ_WITNESS_SIZE(s.n, s.m, s.tau, s.t, 8))
         return 0;
-    a = key + MQ_OFFSET_A(s.n, s.m, s.tau, s.t);
-    b = key + MQ_OFFSET_B(s.n, s.m, s.tau, s.t);
-    y = key + MQ_OFFSET_Y(s.n, s.m, s.tau, s.t);
+    a = key + MQ_OFFSET_A(s.n, s.m, s.tau, s.t, 8);
+    b = key + MQ_OFFSET_B(s.n, s.m, s.tau, s.t, 8);
+    y = key + MQ_OFFSET_Y(s.n, s.m, s.tau, s.t, 8);
     memset(y, 0, MQ_STRING_SIZE(s.m));
     for (i = 0; i < s.m; i++, b += witness_len) {
         unsigned sum = mq_util_shared(b, witness, witness_len);
@@ -135,27 +140,34 @@ static inline int mq_make_y(uint8_t *key, size_t key_len, const uint8_t *witness
 
 /*
  * The prover's answer to delta: in each repetition all leaves but the one at delta. `out` has
- * MQ_OPENED_SIZE bytes and overlaps no input. Of the key the sizes are read.
+ * MQ_OPENED_SIZE bytes and overlaps no input. Of the key the sizes are read. Answers 0 also where a byte of
+ * delta is no element, above 15 at degree 4.
  *
  * Leaves are opened at one delta, once (solfadrus.h, section 4).
  */
-static inline int mq_open_leaves(const uint8_t *key, size_t key_len,
+static inline int mq_open_leaves(const uint8_t *key, size_t key_len, uint32_t degree,
                                  const uint8_t *delta, size_t delta_len,
                                  const uint8_t *leaves, size_t leaves_len,
                                  uint8_t *out, size_t out_len)
 {
     struct mq_sizes s;
-    size_t leaf, e;
-    if (!mq_key_sizes(key, key_len, &s) || delta_len != MQ_DELTA_SIZE(s.n, s.m, s.tau, s.t)
-        || leaves_len != MQ_LEAVES_SIZE(s.n, s.m, s.tau, s.t)
-        || out_len != MQ_OPENED_SIZE(s.n, s.m, s.tau, s.t))
+    size_t leaf, each, e;
+    if (degree != 8 && degree != 4)
         return 0;
-    leaf = MQ_LEAF_SIZE(s.n, s.m, s.tau, s.t);
+    if (!mq_key_sizes(key, key_len, &s) || delta_len != MQ_DELTA_SIZE(s.n, s.m, s.tau, s.t, degree)
+        || leaves_len != MQ_LEAVES_SIZE(s.n, s.m, s.tau, s.t, degree)
+        || out_len != MQ_OPENED_SIZE(s.n, s.m, s.tau, s.t, degree))
+        return 0;
+    leaf = MQ_LEAF_SIZE(s.n, s.m, s.tau, s.t, degree);
+    each = MQ_FIELD_SIZE(degree);
+    for (e = 0; e < s.tau; e++)
+        if (delta[e] >= each)
+            return 0;
     for (e = 0; e < s.tau; e++) {
-        const size_t before = delta[e] * leaf, after = (MQ_FIELD_SIZE - 1 - delta[e]) * leaf;
+        const size_t before = delta[e] * leaf, after = (each - 1 - delta[e]) * leaf;
         memcpy(out, leaves, before);
         memcpy(out + before, leaves + before + leaf, after);
-        leaves += MQ_FIELD_SIZE * leaf;
+        leaves += each * leaf;
         out += before + after;
     }
     return 1;
@@ -183,7 +195,10 @@ static inline const char *mq_message(uint32_t word)
         "a count of the proof, or its length, is not exact",
         "a spare bit of the proof is not 0",
         "consistency does not hold",
-        "the product check does not hold"
+        "the product check does not hold",
+        "the degree is neither 8 nor 4",
+        "a byte of a challenge is no element of the field",
+        "a byte of the proof is no element of the field"
     };
     const uint32_t number = MQ_NUMBER(word);
     uint32_t places = 1;

@@ -20,7 +20,8 @@ enum {
     FRAMES = 1024 /* at the top: the caller's frame, and that of the burn */
 };
 
-static const struct sizes usual = { 150, 150, 19, 144 };
+static const struct sizes sets[] = { { 150, 150, 19, 144, 8 }, { 150, 150, 43, 144, 4 } };
+static struct sizes usual;
 static struct made made;
 static uint8_t *stack, *out;
 static uint32_t word;
@@ -35,36 +36,37 @@ static struct {
 
 /* ---- Calls on the stack ------------------------------------------------------------------- */
 
-static size_t size_of(size_t (*size)(size_t, size_t, size_t, size_t))
+static size_t size_of(size_t (*size)(size_t, size_t, size_t, size_t, uint32_t))
 {
-    return size(usual.n, usual.m, usual.tau, usual.t);
+    return size(usual.n, usual.m, usual.tau, usual.t, usual.degree);
 }
 
 #define LENT(NAME) made.NAME.at, made.NAME.len
+#define KEY LENT(key), made.sizes.degree
 
 static void test(void)
 {
-    word = mq_test(LENT(key), LENT(witness));
+    word = mq_test(KEY, LENT(witness));
 }
 
 static void commit(void)
 {
-    word = mq_commit(LENT(key), LENT(leaves), LENT(witness), out, size_of(mq_commit_size));
+    word = mq_commit(KEY, LENT(leaves), LENT(witness), out, size_of(mq_commit_size));
 }
 
 static void hash(void)
 {
-    word = mq_hash(LENT(key), LENT(leaves), LENT(hash_matrix), out, size_of(mq_hash_size));
+    word = mq_hash(KEY, LENT(leaves), LENT(hash_matrix), out, size_of(mq_hash_size));
 }
 
 static void batch(void)
 {
-    word = mq_batch(LENT(key), LENT(leaves), LENT(witness), LENT(batching), out, size_of(mq_batch_size));
+    word = mq_batch(KEY, LENT(leaves), LENT(witness), LENT(batching), out, size_of(mq_batch_size));
 }
 
 static void prove(void)
 {
-    word = mq_prove(LENT(key), LENT(leaves), LENT(witness), LENT(hash_matrix), LENT(batching), out,
+    word = mq_prove(KEY, LENT(leaves), LENT(witness), LENT(hash_matrix), LENT(batching), out,
                     size_of(mq_proof_size));
 }
 
@@ -170,7 +172,7 @@ static size_t depth(void)
 /* The witness from u, as it was found, and the section d of the proof. */
 static int gives_witness(const uint8_t *u)
 {
-    const uint8_t *const d = out + MQ_OFFSET_D(usual.n, usual.m, usual.tau, usual.t);
+    const uint8_t *const d = out + MQ_OFFSET_D(usual.n, usual.m, usual.tau, usual.t, usual.degree);
     for (size_t c = 0; u && c < usual.n; c++)
         if ((bit(d, c) ^ bit(u, c)) != bit(made.witness.at, c))
             return 0;
@@ -189,12 +191,12 @@ static void wrong(const char *name, const char *what, size_t count)
 
 static void make_secrets(void)
 {
-    const size_t leaf = MQ_LEAF_SIZE(usual.n, usual.m, usual.tau, usual.t);
+    const size_t leaf = MQ_LEAF_SIZE(usual.n, usual.m, usual.tau, usual.t, usual.degree);
     made = make_case(1, usual);
     secrets[U].lent = lend(leaf);
     secrets[WITNESS].lent = made.witness;
     secrets[BITS].lent = lend(usual.n);
-    for (size_t i = 0; i < MQ_FIELD_SIZE * leaf; i++)
+    for (size_t i = 0; i < tree_leaves(usual) * leaf; i++)
         secrets[U].lent.at[i % leaf] ^= made.leaves.at[i];
     for (size_t c = 0; c < usual.n; c++)
         secrets[BITS].lent.at[c] = (uint8_t)bit(made.witness.at, c);
@@ -225,10 +227,12 @@ static void test_burnt(size_t i)
         wrong(calls[i].name, "the burn goes to another depth", depth());
 }
 
-int main(void)
+/* At the sizes that are in use at each degree. */
+static void test_set(struct sizes sizes)
 {
-    stack = lend(STACK).at;
+    usual = sizes;
     make_secrets();
+    printf("n = %zu, tau = %zu, degree %u\n", usual.n, usual.tau, (unsigned)usual.degree);
     out = lend(made.proof.len).at;
     for (size_t i = 0; i < CALLS; i++) {
         test_bare(i);
@@ -237,12 +241,19 @@ int main(void)
     run(PROVE, half_burnt);
     if (!written())
         wrong("the control", "half a burn is not seen", 0);
-    if (right)
-        printf("after mq_burn_stack there is nothing of these\n");
-    free(stack);
     free(out);
     free(secrets[U].lent.at);
     free(secrets[BITS].lent.at);
     drop_case(&made);
+}
+
+int main(void)
+{
+    stack = lend(STACK).at;
+    for (size_t i = 0; i < sizeof sets / sizeof sets[0]; i++)
+        test_set(sets[i]);
+    if (right)
+        printf("after mq_burn_stack there is nothing of these\n");
+    free(stack);
     return !right;
 }

@@ -19,16 +19,22 @@ struct lent {
 
 struct sizes {
     size_t n, m, tau, t;
+    uint32_t degree;
 };
 
 static inline size_t hash_row_bits(struct sizes s)
 {
-    return MQ_HASH_ROW_BITS(s.n, s.m, s.tau, s.t);
+    return MQ_HASH_ROW_BITS(s.n, s.m, s.tau, s.t, s.degree);
 }
 
 static inline size_t leaf_bits(struct sizes s)
 {
-    return MQ_LEAF_BITS(s.n, s.m, s.tau, s.t);
+    return MQ_LEAF_BITS(s.n, s.m, s.tau, s.t, s.degree);
+}
+
+static inline size_t tree_leaves(struct sizes s)
+{
+    return MQ_FIELD_SIZE(s.degree);
 }
 
 struct made {
@@ -118,16 +124,17 @@ static void make_key(uint64_t *state, struct made *made)
 static struct made lend_case(struct sizes sizes)
 {
     const size_t n = sizes.n, m = sizes.m, tau = sizes.tau, t = sizes.t;
+    const uint32_t degree = sizes.degree;
     const struct made made = {
         sizes,
-        lend(MQ_KEY_SIZE(n, m, tau, t)),
-        lend(MQ_WITNESS_SIZE(n, m, tau, t)),
-        lend(MQ_LEAVES_SIZE(n, m, tau, t)),
-        lend(MQ_HASH_MATRIX_SIZE(n, m, tau, t)),
-        lend(MQ_BATCHING_SIZE(n, m, tau, t)),
-        lend(MQ_DELTA_SIZE(n, m, tau, t)),
-        lend(MQ_OPENED_SIZE(n, m, tau, t)),
-        lend(MQ_PROOF_SIZE(n, m, tau, t)),
+        lend(MQ_KEY_SIZE(n, m, tau, t, degree)),
+        lend(MQ_WITNESS_SIZE(n, m, tau, t, degree)),
+        lend(MQ_LEAVES_SIZE(n, m, tau, t, degree)),
+        lend(MQ_HASH_MATRIX_SIZE(n, m, tau, t, degree)),
+        lend(MQ_BATCHING_SIZE(n, m, tau, t, degree)),
+        lend(MQ_DELTA_SIZE(n, m, tau, t, degree)),
+        lend(MQ_OPENED_SIZE(n, m, tau, t, degree)),
+        lend(MQ_PROOF_SIZE(n, m, tau, t, degree)),
     };
     return made;
 }
@@ -135,11 +142,11 @@ static struct made lend_case(struct sizes sizes)
 /* All leaves but the one at delta, in each repetition. */
 static void open_leaves(struct made *made)
 {
-    const size_t w = MQ_LEAF_SIZE(made->sizes.n, made->sizes.m, made->sizes.tau, made->sizes.t);
+    const size_t w = MQ_STRING_SIZE(leaf_bits(made->sizes));
     const uint8_t *leaf = made->leaves.at;
     uint8_t *at = made->opened.at;
     for (size_t e = 0; e < made->sizes.tau; e++)
-        for (size_t j = 0; j < MQ_FIELD_SIZE; j++, leaf += w)
+        for (size_t j = 0; j < tree_leaves(made->sizes); j++, leaf += w)
             if (j != made->delta.at[e]) {
                 memcpy(at, leaf, w);
                 at += w;
@@ -151,10 +158,10 @@ static struct made make_case(uint64_t seed, struct sizes sizes)
     struct made made = lend_case(sizes);
     draw_strings(&seed, made.witness.at, 1, sizes.n);
     make_key(&seed, &made);
-    draw_strings(&seed, made.leaves.at, MQ_FIELD_SIZE * sizes.tau, leaf_bits(sizes));
+    draw_strings(&seed, made.leaves.at, tree_leaves(sizes) * sizes.tau, leaf_bits(sizes));
     draw_strings(&seed, made.hash_matrix.at, sizes.t, hash_row_bits(sizes));
-    draw_strings(&seed, made.batching.at, sizes.tau * sizes.m, 8);
-    draw_strings(&seed, made.delta.at, sizes.tau, 8);
+    draw_strings(&seed, made.batching.at, sizes.tau * sizes.m, sizes.degree);
+    draw_strings(&seed, made.delta.at, sizes.tau, sizes.degree);
     open_leaves(&made);
     return made;
 }

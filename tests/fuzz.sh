@@ -43,24 +43,41 @@ byte() {
 
 # A file for each seed. The fuzzer puts what it finds into the first directory that it is given, so that is another.
 seeds=$work/seeds
-rm -rf "$seeds" "$work/new"
-mkdir "$seeds" "$work/new"
-grep -v '^#' tests/fuzz/seeds.txt | while read -r name bytes; do
-    for hex in $bytes; do
-        byte "0x$hex"
-    done >"$seeds/$name"
-done
-# One for each case as it is, by its number; and the last case, of long leaves, opened at other challenges.
+started=$work/cases
+rm -rf "$seeds" "$started" "$work/new"
+mkdir "$seeds" "$started" "$work/new"
 cargo build --quiet --release --offline -j1 --manifest-path tests/shapes/Cargo.toml --target-dir "$work/shapes"
 cases=$("$work/shapes/release/shapes" | wc -l)
-[ "$cases" -gt 1 ] || { echo "no shapes" >&2 && exit 1; }
+# Those of degree 8 come first: this is the number of the first case of degree 4.
+four=$("$work/shapes/release/shapes" | grep -c ' 8$')
+[ "$four" -gt 1 ] && [ "$cases" -gt $((four + 1)) ] || { echo "no shapes" >&2 && exit 1; }
+# seed NAME HEX...: a file of these bytes.
+seed() {
+    name=$1
+    shift
+    for hex; do
+        byte "0x$hex"
+    done >"$seeds/$name"
+}
+# Bytes are words.
+# shellcheck disable=SC2086
+grep -v '^#' tests/fuzz/seeds.txt | while read -r name bytes; do
+    seed "$name" $bytes
+    case $bytes in
+    00*) seed "$name-at-4" "$(printf %02X "$four")" ${bytes#00} ;;
+    esac
+done
+# One for each case as it is, by its number; and the last of each degree, of long leaves, opened at other challenges.
 case=0
 while [ $case -lt "$cases" ]; do
-    byte $case >"$seeds/case-$case"
+    byte $case >"$started/case-$case"
     case=$((case + 1))
 done
-for delta in $("$work/shapes/release/shapes" challenges); do
-    byte $((cases - 1)) 0x2F 0 0 "$delta" >"$seeds/opened-at-$delta"
+for delta in $("$work/shapes/release/shapes" challenges 8); do
+    byte $((four - 1)) 0x2F 0 0 "$delta" >"$started/opened-at-$delta"
+done
+for delta in $("$work/shapes/release/shapes" challenges 4); do
+    byte $((cases - 1)) 0x2F 0 0 "$delta" >"$started/opened-at-$delta-of-16"
 done
 
 # fuzz CALL WORDS...: what it says goes into a file. Leaks are not looked for: only the rendering allocates.
@@ -71,7 +88,8 @@ fuzz() {
         >"$work/$target.log" 2>&1
 }
 
-# planted FAULT CALL PATTERN: the run must fail, and say so in these words.
+# planted FAULT CALL PATTERN: the run must fail, and say so in these words. It starts from the edits alone, which are of
+# the small case: the rendering takes its time for the others.
 planted() {
     if (export FUZZ_PLANT="$1" && fuzz "$2" -seed=1 -runs=2000 -exact_artifact_path=/dev/null "$work/new" "$seeds") ||
         ! grep -q "$3" "$work/$2.log"; then
@@ -84,6 +102,7 @@ planted() {
 found=0
 for call in $calls; do
     planted word "$call" 'DIFFERS: .* another word'
+    planted degree "$call" 'DIFFERS: .* the rendering 16 place 0'
     planted read-after "$call" 'SEGV on unknown address'
     planted read-before "$call" 'SEGV on unknown address'
     planted write-input "$call" 'SEGV on unknown address'
@@ -92,6 +111,9 @@ for call in test commit batch prove; do
     planted place "$call" 'DIFFERS: .* another word'
     planted last-equation "$call" 'DIFFERS: .* answers 11 place .*, the rendering 11 place'
     planted second-equation "$call" 'DIFFERS: .* answers 11 place .*, the rendering 11 place'
+done
+for call in batch prove verify; do
+    planted element "$call" 'DIFFERS: .* answers 0 place 0, the rendering 1[78] place 0'
 done
 for call in commit hash batch prove; do
     planted output "$call" 'DIFFERS: .* not the rendering'
@@ -104,10 +126,10 @@ echo "planted faults: $found, each found"
 for call in $calls; do
     if [ -n "$seconds" ]; then
         mkdir -p "$work/corpus/$call"
-        set -- -max_total_time="$seconds" "$work/corpus/$call" "$seeds"
+        set -- -max_total_time="$seconds" "$work/corpus/$call" "$seeds" "$started"
     else
         rm -rf "$work/new" && mkdir "$work/new"
-        set -- -seed=1 -runs=3000 "$work/new" "$seeds"
+        set -- -seed=1 -runs=3000 "$work/new" "$seeds" "$started"
     fi
     if ! fuzz "$call" "$@"; then
         grep -E 'DIFFERS|FAILED|ERROR|SUMMARY|Test unit' "$work/$call.log" || tail -n 20 "$work/$call.log"

@@ -4,7 +4,8 @@
 # prose repeats: limits, the stack, the check program's most bytes.
 #
 # The table has a line for each number: the constant of C, the variant of Rust and of the code, what the place is, for
-# each call whether it puts the question (in 5 the challenges that it asks of), a short text, and the question.
+# each call whether it puts the question (in 5 and 17 the challenges that it asks of), a short text, and the question.
+# The lines are in the order in which the questions are put.
 set -eu
 cd "$(dirname "$0")/.."
 work=$(mktemp -d)
@@ -19,7 +20,7 @@ format=crates/format
 
 # in_ascii: the list's signs as the others write them.
 in_ascii() {
-    sed 's/τ/tau/g; s/H′/hash_matrix/g; s/χ/batching/g; s/Δ/delta/g; s/ũ/u~/g; s|⌈n/8⌉|ceil(n / 8)|g; s/ *●/ ●/g'
+    sed 's/τ/tau/g; s/H′/hash_matrix/g; s/χ/batching/g; s/Δ/delta/g; s/ũ/u~/g; s/Ṽ/V~/g; s|⌈n/8⌉|ceil(n / 8)|g; s/ *●/ ●/g'
 }
 
 # of_table WHAT TABLE: what the others must have, from the table, one line each.
@@ -32,8 +33,8 @@ of_table() {
         what == "texts" { print $3, $11 }
         what == "messages" { print $1, $11 }
         what == "numbers" { for (i = 5; i <= 10; i++) if ($i != "-") line[i] = line[i] " " $1 }
-        what == "challenges" && $1 == 5 {
-            for (i = 5; i <= 10; i++) if ($i != "-") { gsub(",", " ", $i); line[i] = " " $i }
+        what == "challenges" && ($1 == 5 || $1 == 17) {
+            for (i = 5; i <= 10; i++) if ($i != "-") { gsub(",", " ", $i); line[i] = line[i] " " $1 " " $i }
         }
         END { for (i = 5; i <= 10; i++) if (i in line) print name[i] ":" line[i] }' "$2"
 }
@@ -56,7 +57,7 @@ questions_of_list() {
     in_ascii <"$1" | awk -F' *[|] *' '$2 ~ /^[0-9]+$/ { print $2, $3 ($4 == "0" ? "" : " place") }'
 }
 
-# Calls, one line each: name, and its numbers, those of question 5 with the challenges in brackets.
+# Calls, one line each: name, and its numbers, those of questions 5 and 17 with the challenges in brackets.
 calls_of_header() {
     awk '$2 == "questions" { sub(/.*questions */, ""); text = $0 }
          /^uint32_t mq_/ && text { name = substr($2, 4); sub(/\(.*/, "", name); print name, text; text = "" }' "$1"
@@ -84,7 +85,7 @@ calls_of_vectors() {
         sed -E 's/BITS\(([0-9]+), \1\)/\1/g; s/BITS\(([0-9]+), ([0-9]+)\)/\1 to \2/g; s/ \|//g; s/ 0 to / 1 to /'
 }
 
-# numbers, challenges: such lines with each number written out; and what question 5 asks of.
+# numbers, challenges: such lines with each number written out; and what questions 5 and 17 ask of.
 numbers() {
     sed 's/([^)]*)//g; s/,/ /g' | awk '{
         text = $1 ":"
@@ -94,13 +95,17 @@ numbers() {
         print text }'
 }
 challenges() {
-    awk 'match($0, / 5 \([^)]*\)/) {
-        asked = substr($0, RSTART, RLENGTH)
+    awk '{
         text = $1 ":"
-        if (asked ~ /delta/) text = text " delta"
-        if (asked ~ /hash_matrix/) text = text " hash_matrix"
-        if (asked ~ /batching/) text = text " batching"
-        print text }'
+        while (match($0, / (5|17) \([^)]*\)/)) {
+            asked = substr($0, RSTART, RLENGTH)
+            $0 = substr($0, RSTART + RLENGTH)
+            text = text (asked ~ /^ 5/ ? " 5" : " 17")
+            if (asked ~ /delta/) text = text " delta"
+            if (asked ~ /hash_matrix/) text = text " hash_matrix"
+            if (asked ~ /batching/) text = text " batching"
+        }
+        if (text !~ /:$/) print text }'
 }
 
 # Names of the numbers, one line each: number and name.
@@ -143,10 +148,22 @@ numbers_of_specs() {
     sed -nE 's/^numberFor ([A-Za-z]+) = ([0-9]+)$/\2 \1/p' "$1"
 }
 
-# held WHAT COMMAND FILE: what the command prints of the file is what the table has.
+# rising: the numbers of each line, rising.
+rising() {
+    while read -r name all; do
+        # shellcheck disable=SC2086 # numbers are words
+        echo "$name $(printf '%s\n' $all | sort -n | xargs)"
+    done
+}
+
+# held WHAT COMMAND FILE: what the command prints of the file is what the table has. Questions must be in its order.
 held() {
     of_table "$1" "$work/at/$table" >"$work/expected"
     "$2" "$work/at/$3" >"$work/found"
+    case $1 in
+    variants | messages) sort -n -o "$work/expected" "$work/expected" ;;
+    constants | texts) sort -o "$work/expected" "$work/expected" && sort -o "$work/found" "$work/found" ;;
+    esac
     diff "$work/expected" "$work/found" >"$work/diff" || {
         echo "$3, by $2, is not $table:"
         cat "$work/diff"
@@ -157,15 +174,22 @@ held() {
 calls() {
     "$1" "$work/at/$2" >"$work/calls"
     numbers <"$work/calls" >"$work/numbers"
-    of_table numbers "$work/at/$table" | diff - "$work/numbers" || { echo "the calls of $2"; return 1; }
+    of_table numbers "$work/at/$table" >"$work/expected"
+    case $1 in
+    # The degree is an enum there, so that 16 cannot come up.
+    calls_of_wrapper) sed 's/: 16 /: /' "$work/expected" | diff - "$work/numbers" ;;
+    # Sets, which have no order.
+    calls_of_vectors) rising <"$work/expected" | diff - "$work/numbers" ;;
+    *) diff "$work/expected" "$work/numbers" ;;
+    esac || { echo "the calls of $2"; return 1; }
     [ "$1" != calls_of_vectors ] || return 0
     challenges <"$work/calls" >"$work/challenges"
     of_table challenges "$work/at/$table" | diff - "$work/challenges" || { echo "the challenges of $2"; return 1; }
 }
 
-# same: everything, as it stands below $work/at. Fewer than 15 lines would mean that the table was not read.
+# same: everything, as it stands below $work/at. Fewer than 18 lines would mean that the table was not read.
 same() {
-    if [ "$(of_table variants "$work/at/$table" | wc -l)" != 15 ] ||
+    if [ "$(of_table variants "$work/at/$table" | wc -l)" != 18 ] ||
         [ "$(of_table numbers "$work/at/$table" | wc -l)" != 6 ]; then
         echo "$table was not read"
         return 1
@@ -202,12 +226,17 @@ other "a question in other words" $list 's/Has the output exactly/Has the output
 other "a place that is missing" $list '/^| 14 /s/| the first[^|]*|/| 0 |/'
 other "a number that a call does not put" $list '/^| 9 /s/| |/| ● |/'
 other "a challenge that a call does not take" $list '/^| 5 /s/H′, χ/H′/'
+other "elements of a challenge that a call does not ask of" $list '/^| 17 /s/Δ, χ/χ/'
+other "a question that is put later" $list '/^| 16 /{h;d};/^| 1 /G'
+other "a question of the header that is put later" $header '/^ \*   17  /{h;d};/^ \*    7  /G'
+other "a question of a call that is put later" $header '/questions .*12, 13, 18, 14/s/13, 18, 14/13, 14, 18/'
+other "a degree that is neither" $list 's/Is the degree 8 or 4/Is the degree 8/'
 other "a question of the page in other words" $page 's/^Has the key at least/Has the key more than/'
-other "a number of the page" $page 's/^12 to 15\.$/12 to 14./'
+other "a number of the page" $page 's/^7, 8, 12, 13, 18, 14, 15\.$/7, 8, 12, 13, 14, 15./'
 other "a constant of the page" $page 's/^\.It 14 Dv/.It 13 Dv/'
-other "a number of the header" $header '/questions  *1 2 3 4, 7 8, 9/s/10, 11/11/'
+other "a number of the header" $header '/questions  *16, 1 2 3 4, 7 8, 9/s/10, 11/11/'
 other "a constant of the header" $header 's/^#define MQ_REFUSED_LEAF_LENGTH 7/#define MQ_REFUSED_LEAF_LENGTH 8/'
-other "a constant that the table has not" $header '/^#define MQ_REFUSED_PRODUCT_DIFFERS/a #define MQ_REFUSED_MORE 16'
+other "a constant that the table has not" $header '/^#define MQ_REFUSED_PRODUCT_DIFFERS/a #define MQ_REFUSED_MORE 19'
 other "a text of the wrapper" $wrapper/refusal.rs 's/"a spare bit of a leaf is not 0"/"a bit of a leaf is not 0"/'
 other "a number of the wrapper" $wrapper/refusal.rs 's/Reason::KeyLength => 3,/Reason::KeyLength => 4,/'
 other "the order of the published reasons" $wrapper/refusal.rs '/^const PUBLISHED/,/^];/s/KeyLength/KeySpareBit/'
@@ -221,7 +250,7 @@ other "a line of the table" $table '/^12\t/d'
 other "a call of the table" $table '/^9\t/s/\tyes\t/\t-\t/'
 copied
 same
-echo "15 refusals: numbers, names, questions, places, calls and texts are those of $table in the header, the page," \
+echo "18 refusals: numbers, names, questions, places, calls and texts are those of $table in the header, the page," \
     "REFUSALS.md, the Rust wrapper, vectors.c and the crate format"
 
 # defined NAME: a number of the header.

@@ -26,14 +26,18 @@
 #include "case.h"
 
 static const struct sizes shapes[] = {
-    { 1, 1, 1, 1 },    { 9, 3, 2, 5 },   { 16, 9, 3, 8 },       { 33, 4, 17, 12 },
-    { 150, 2, 4, 20 }, { 24, 5, 48, 3 }, { 150, 150, 19, 144 }, { 161, 161, 1, 161 },
-    { 256, 1, 2, 5 },  { 257, 3, 1, 9 }, { 319, 1, 1, 161 },    { 320, 1, 2, 288 },
-    { 1, 256, 1, 1 },  { 3, 257, 1, 2 }, { 1, 319, 1, 161 },    { 1, 320, 2, 288 },
-    { 224, 224, 28, 208 }, { 320, 320, 48, 288 },
+    { 1, 1, 1, 1, 8 },    { 9, 3, 2, 5, 8 },   { 16, 9, 3, 8, 8 },       { 33, 4, 17, 12, 8 },
+    { 150, 2, 4, 20, 8 }, { 24, 5, 48, 3, 8 }, { 150, 150, 19, 144, 8 }, { 161, 161, 1, 161, 8 },
+    { 256, 1, 2, 5, 8 },  { 257, 3, 1, 9, 8 }, { 319, 1, 1, 161, 8 },    { 320, 1, 2, 288, 8 },
+    { 1, 256, 1, 1, 8 },  { 3, 257, 1, 2, 8 }, { 1, 319, 1, 161, 8 },    { 1, 320, 2, 288, 8 },
+    { 224, 224, 28, 208, 8 }, { 320, 320, 48, 288, 8 },
+    { 1, 1, 1, 1, 4 },    { 9, 3, 2, 5, 4 },   { 16, 9, 3, 8, 4 },       { 33, 4, 17, 12, 4 },
+    { 24, 5, 48, 3, 4 },  { 257, 3, 1, 9, 4 }, { 320, 1, 2, 288, 4 },    { 3, 257, 1, 2, 4 },
+    { 1, 320, 2, 288, 4 }, { 150, 150, 43, 144, 4 }, { 320, 320, 48, 288, 4 },
 };
 
-/* The shapes of the traces, which are long: small ones, and four at which every kernel has more than one round.
+/* The shapes of the traces, which are long: small ones, and four at which every kernel has more than one round, the
+ * first and the third of them at degree 4 too.
  * The first has leaves of a chunk of sixteen bytes and a part of one, a second set of four panels of sixteen columns,
  * rows of more than one word of eight bytes, and equations in more than one word of ten fives. The second has three
  * chunks, a third set, and columns past the first sixteen bytes of a row. The third has matrices in more than one piece
@@ -43,22 +47,25 @@ enum { KERNEL_N = 65, KERNEL_M = 53, KERNEL_TAU = 2, KERNEL_T = 57 };
 enum { WIDE_N = 145, WIDE_M = 6, WIDE_TAU = 1, WIDE_T = 104 };
 enum { PIECES_N = 257, PIECES_M = 1, PIECES_TAU = 1, PIECES_T = 3 };
 enum { BLOCKS_N = 2, BLOCKS_M = 161, BLOCKS_TAU = 1, BLOCKS_T = 1 };
-_Static_assert(MQ_LEAF_SIZE(KERNEL_N, KERNEL_M, KERNEL_TAU, KERNEL_T) > 16, "more than a chunk of a leaf");
+_Static_assert(MQ_LEAF_SIZE(KERNEL_N, KERNEL_M, KERNEL_TAU, KERNEL_T, 4) > 16, "more than a chunk of a leaf");
 _Static_assert(KERNEL_N > 4 * 16, "more than a set of panels");
 _Static_assert(KERNEL_M > 51, "more than a word of fives");
-_Static_assert(MQ_LEAF_SIZE(WIDE_N, WIDE_M, WIDE_TAU, WIDE_T) > 2 * 16, "more than two chunks of a leaf");
+_Static_assert(MQ_LEAF_SIZE(WIDE_N, WIDE_M, WIDE_TAU, WIDE_T, 8) > 2 * 16, "more than two chunks of a leaf");
 _Static_assert(WIDE_N > 144, "a panel whose rows lie past the first sixteen bytes");
 _Static_assert(PIECES_N > 256, "more than a piece, and lines of more than a chunk");
-_Static_assert(MQ_HASH_ROW_SIZE(PIECES_N, PIECES_M, PIECES_TAU, PIECES_T) > 21, "more than a block of a row of H'");
+_Static_assert(MQ_HASH_ROW_SIZE(PIECES_N, PIECES_M, PIECES_TAU, PIECES_T, 4) > 21, "more than a block of a row of H'");
 _Static_assert(BLOCKS_M > 160, "more than a block of equations");
 static const struct sizes traced[] = {
-    { 1, 1, 1, 1 },
-    { 9, 3, 2, 5 },
-    { 16, 9, 3, 8 },
-    { KERNEL_N, KERNEL_M, KERNEL_TAU, KERNEL_T },
-    { WIDE_N, WIDE_M, WIDE_TAU, WIDE_T },
-    { PIECES_N, PIECES_M, PIECES_TAU, PIECES_T },
-    { BLOCKS_N, BLOCKS_M, BLOCKS_TAU, BLOCKS_T },
+    { 1, 1, 1, 1, 8 },
+    { 9, 3, 2, 5, 8 },
+    { 16, 9, 3, 8, 4 },
+    { KERNEL_N, KERNEL_M, KERNEL_TAU, KERNEL_T, 8 },
+    { WIDE_N, WIDE_M, WIDE_TAU, WIDE_T, 8 },
+    { PIECES_N, PIECES_M, PIECES_TAU, PIECES_T, 8 },
+    { BLOCKS_N, BLOCKS_M, BLOCKS_TAU, BLOCKS_T, 8 },
+    { 9, 3, 2, 5, 4 },
+    { KERNEL_N, KERNEL_M, KERNEL_TAU, KERNEL_T, 4 },
+    { PIECES_N, PIECES_M, PIECES_TAU, PIECES_T, 4 },
 };
 enum { SHAPES = sizeof shapes / sizeof shapes[0], TRACED = sizeof traced / sizeof traced[0], SMALL = 3 };
 
@@ -106,7 +113,7 @@ static struct made make_variant(struct sizes sizes, unsigned variant)
     if (variant)
         memcpy(c.witness.at, other.at, other.len);
     state = 3 + variant;
-    draw_strings(&state, c.leaves.at, MQ_FIELD_SIZE * sizes.tau, leaf_bits(sizes));
+    draw_strings(&state, c.leaves.at, tree_leaves(sizes) * sizes.tau, leaf_bits(sizes));
     free(other.at);
     return c;
 }
@@ -147,12 +154,12 @@ struct section {
 static struct section section_of(struct sizes s, int which)
 {
     const struct section sections[] = {
-        { s.tau - 1, leaf_bits(s) },      /* C */
-        { 1, s.n },                       /* d */
-        { 1, s.t },                       /* u~ */
-        { s.tau * s.t, MQ_FIELD_DEGREE }, /* V~ */
-        { s.tau, MQ_FIELD_DEGREE },       /* QS0 */
-        { s.tau, MQ_FIELD_DEGREE },       /* QS1 */
+        { s.tau - 1, leaf_bits(s) }, /* C */
+        { 1, s.n },                  /* d */
+        { 1, s.t },                  /* u~ */
+        { s.tau * s.t, s.degree },   /* V~, an element to a byte */
+        { s.tau, s.degree },         /* QS0 */
+        { s.tau, s.degree },         /* QS1 */
     };
     return sections[which];
 }
@@ -180,31 +187,32 @@ static int section_marked(const uint8_t *at, struct section section)
 /* ---- Calls -------------------------------------------------------------------------------- */
 
 #define LENT(which) c->which.at, c->which.len
+#define LENT_KEY LENT(key), c->sizes.degree
 
 static uint32_t call_test(const struct made *c, uint8_t *out, size_t len)
 {
     (void)out, (void)len;
-    return mq_test(LENT(key), LENT(witness));
+    return mq_test(LENT_KEY, LENT(witness));
 }
 
 static uint32_t call_commit(const struct made *c, uint8_t *out, size_t len)
 {
-    return mq_commit(LENT(key), LENT(leaves), LENT(witness), out, len);
+    return mq_commit(LENT_KEY, LENT(leaves), LENT(witness), out, len);
 }
 
 static uint32_t call_hash(const struct made *c, uint8_t *out, size_t len)
 {
-    return mq_hash(LENT(key), LENT(leaves), LENT(hash_matrix), out, len);
+    return mq_hash(LENT_KEY, LENT(leaves), LENT(hash_matrix), out, len);
 }
 
 static uint32_t call_batch(const struct made *c, uint8_t *out, size_t len)
 {
-    return mq_batch(LENT(key), LENT(leaves), LENT(witness), LENT(batching), out, len);
+    return mq_batch(LENT_KEY, LENT(leaves), LENT(witness), LENT(batching), out, len);
 }
 
 static uint32_t call_prove(const struct made *c, uint8_t *out, size_t len)
 {
-    return mq_prove(LENT(key), LENT(leaves), LENT(witness), LENT(hash_matrix), LENT(batching), out, len);
+    return mq_prove(LENT_KEY, LENT(leaves), LENT(witness), LENT(hash_matrix), LENT(batching), out, len);
 }
 
 /* Each call, and the sections of a proof that it writes. */
@@ -266,11 +274,12 @@ static uint32_t call_all(const struct made *c, int leaves_marked)
     for (const struct call *call = calls; call < calls + CALLS; call++) {
         if (only && only != call)
             continue;
-        struct lent out = lend(MQ_PROOF_SIZE(s.n, s.m, s.tau, s.t));
+        struct lent out = lend(MQ_PROOF_SIZE(s.n, s.m, s.tau, s.t, s.degree));
         const uint32_t word = told(call->make(c, out.at, output_length(s, call)));
         words |= word;
         if (leaves_marked && !word && !output_marked(s, call, out.at)) {
-            printf("mq_%s at n = %zu, tau = %zu: the output is not marked throughout\n", call->name, s.n, s.tau);
+            printf("mq_%s at n = %zu, tau = %zu, degree %u: the output is not marked throughout\n", call->name, s.n,
+                   s.tau, (unsigned)s.degree);
             words = UINT32_MAX;
         }
         free(out.at);
@@ -333,7 +342,7 @@ static int mark_and_call(struct sizes s, struct words words, int fails)
     if (fails)
         section_y(&c)[(s.m - 1) / 8] ^= (uint8_t)(1 << (s.m - 1) % 8);
     if (words.leaves)
-        mark(c.leaves.at, MQ_FIELD_SIZE * s.tau, leaf_bits(s));
+        mark(c.leaves.at, tree_leaves(s) * s.tau, leaf_bits(s));
     if (words.witness)
         mark(c.witness.at, 1, s.n);
     if (words.y)

@@ -1,6 +1,7 @@
 /*
  * Tests what the header says of the stack: each call takes less than MQ_STACK_BYTES of it, at the largest sizes, the
- * usual ones and the least (buffers are those of the largest at all sizes). A control takes more, and must be seen.
+ * usual ones and the least, at both degrees (buffers are those of the largest at all sizes). A control takes more, and
+ * must be seen.
  */
 #define _XOPEN_SOURCE 700
 #include <stdio.h>
@@ -9,18 +10,21 @@
 #include "depth.h"
 
 static const struct sizes shapes[] = {
-    { MQ_MAX_VARIABLES, MQ_MAX_EQUATIONS, MQ_MAX_REPETITIONS, MQ_MAX_HASH_ROWS },
-    { 150, 150, 19, 144 },
-    { 1, 1, 1, 1 },
+    { MQ_MAX_VARIABLES, MQ_MAX_EQUATIONS, MQ_MAX_REPETITIONS, MQ_MAX_HASH_ROWS, 8 },
+    { MQ_MAX_VARIABLES, MQ_MAX_EQUATIONS, MQ_MAX_REPETITIONS, MQ_MAX_HASH_ROWS, 4 },
+    { 150, 150, 19, 144, 8 },
+    { 150, 150, 43, 144, 4 },
+    { 1, 1, 1, 1, 8 },
+    { 1, 1, 1, 1, 4 },
 };
 
 static struct made made;
 static uint8_t *out;
 static uint32_t word;
 
-static size_t size_of(size_t (*size)(size_t, size_t, size_t, size_t))
+static size_t size_of(size_t (*size)(size_t, size_t, size_t, size_t, uint32_t))
 {
-    return size(made.sizes.n, made.sizes.m, made.sizes.tau, made.sizes.t);
+    return size(made.sizes.n, made.sizes.m, made.sizes.tau, made.sizes.t, made.sizes.degree);
 }
 
 static void nothing(void)
@@ -35,41 +39,37 @@ static void control(void)
     word = (uint32_t)(room[0] - 1);
 }
 
+#define LENT(NAME) made.NAME.at, made.NAME.len
+#define KEY LENT(key), made.sizes.degree
+
 static void test(void)
 {
-    word = mq_test(made.key.at, made.key.len, made.witness.at, made.witness.len);
+    word = mq_test(KEY, LENT(witness));
 }
 
 static void commit(void)
 {
-    word = mq_commit(made.key.at, made.key.len, made.leaves.at, made.leaves.len, made.witness.at, made.witness.len,
-                     out, size_of(mq_commit_size));
+    word = mq_commit(KEY, LENT(leaves), LENT(witness), out, size_of(mq_commit_size));
 }
 
 static void hash(void)
 {
-    word = mq_hash(made.key.at, made.key.len, made.leaves.at, made.leaves.len, made.hash_matrix.at,
-                   made.hash_matrix.len, out, size_of(mq_hash_size));
+    word = mq_hash(KEY, LENT(leaves), LENT(hash_matrix), out, size_of(mq_hash_size));
 }
 
 static void batch(void)
 {
-    word = mq_batch(made.key.at, made.key.len, made.leaves.at, made.leaves.len, made.witness.at, made.witness.len,
-                    made.batching.at, made.batching.len, out, size_of(mq_batch_size));
+    word = mq_batch(KEY, LENT(leaves), LENT(witness), LENT(batching), out, size_of(mq_batch_size));
 }
 
 static void prove(void)
 {
-    word = mq_prove(made.key.at, made.key.len, made.leaves.at, made.leaves.len, made.witness.at, made.witness.len,
-                    made.hash_matrix.at, made.hash_matrix.len, made.batching.at, made.batching.len, made.proof.at,
-                    made.proof.len);
+    word = mq_prove(KEY, LENT(leaves), LENT(witness), LENT(hash_matrix), LENT(batching), LENT(proof));
 }
 
 static void verify(void)
 {
-    word = mq_verify(made.key.at, made.key.len, made.delta.at, made.delta.len, made.hash_matrix.at,
-                     made.hash_matrix.len, made.batching.at, made.batching.len, made.opened.at, made.opened.len,
-                     made.proof.at, made.proof.len);
+    word = mq_verify(KEY, LENT(delta), LENT(hash_matrix), LENT(batching), LENT(opened), LENT(proof));
 }
 
 static const struct {
@@ -89,7 +89,8 @@ static int holds(struct sizes sizes, size_t bare)
     for (size_t i = 0; i < sizeof calls / sizeof calls[0]; i++) {
         const size_t depth = depth_of(calls[i].run) - bare;
         const char *fault = word ? ": refused" : depth >= MQ_STACK_BYTES ? ": more than the header says" : "";
-        printf("n = %zu, %s: %zu bytes of stack%s\n", sizes.n, calls[i].name, depth, fault);
+        printf("n = %zu, degree %u, %s: %zu bytes of stack%s\n", sizes.n, (unsigned)sizes.degree, calls[i].name, depth,
+               fault);
         right &= !*fault;
     }
     free(out);

@@ -2,7 +2,7 @@
  * Tests the helpers of solfadrus_util.h against the archive: cases are made by them, and the library judges.
  *
  *     util            all of them; says what is wrong, and fails
- *     util small      the same without the largest shape, which is slow where nothing is optimised
+ *     util small      the same without the largest shapes, which are slow where nothing is optimised
  *     util messages   prints number and message, one line each, for tests/util.sh
  *     util mark       the helpers that touch secrets, these marked undefined, for valgrind
  *     util mark-leak  a control: a branch on the witness
@@ -14,9 +14,13 @@
 #include "solfadrus_util.h"
 
 static const struct sizes shapes[] = {
-    { 1, 1, 1, 1 },    { 2, 1, 1, 1 },   { 7, 9, 3, 8 },   { 8, 8, 2, 8 },         { 9, 7, 5, 17 },
-    { 33, 20, 4, 12 }, { 64, 3, 2, 65 }, { 24, 5, 48, 3 }, { 150, 150, 19, 144 }, { 160, 160, 48, 160 },
-    { 320, 2, 1, 3 },  { 2, 320, 1, 3 }, { 320, 320, 48, 288 },
+    { 1, 1, 1, 1, 8 },      { 1, 1, 1, 1, 4 },      { 2, 1, 1, 1, 8 },      { 2, 1, 1, 1, 4 },
+    { 7, 9, 3, 8, 8 },      { 7, 9, 3, 8, 4 },      { 8, 8, 2, 8, 8 },      { 8, 8, 2, 8, 4 },
+    { 9, 7, 5, 17, 8 },     { 9, 7, 5, 17, 4 },     { 33, 20, 4, 12, 8 },   { 33, 20, 4, 12, 4 },
+    { 64, 3, 2, 65, 8 },    { 64, 3, 2, 65, 4 },    { 24, 5, 48, 3, 8 },    { 24, 5, 48, 3, 4 },
+    { 150, 150, 19, 144, 8 }, { 150, 150, 43, 144, 4 }, { 160, 160, 48, 160, 8 },
+    { 320, 2, 1, 3, 8 },    { 320, 2, 1, 3, 4 },    { 2, 320, 1, 3, 8 },    { 2, 320, 1, 3, 4 },
+    { 320, 320, 48, 288, 4 }, { 320, 320, 48, 288, 8 },
 };
 enum { SHAPES = sizeof shapes / sizeof shapes[0] };
 
@@ -26,13 +30,13 @@ static void check(int yes, const char *what, struct sizes s)
 {
     if (yes)
         return;
-    printf("n = %zu, m = %zu, tau = %zu, t = %zu: %s\n", s.n, s.m, s.tau, s.t, what);
+    printf("n = %zu, m = %zu, tau = %zu, t = %zu, degree %u: %s\n", s.n, s.m, s.tau, s.t, (unsigned)s.degree, what);
     failures++;
 }
 
 /* Of the shape s. */
-#define AT(NAME) MQ_OFFSET_##NAME(s.n, s.m, s.tau, s.t)
-#define SIZE(NAME) MQ_##NAME##_SIZE(s.n, s.m, s.tau, s.t)
+#define AT(NAME) MQ_OFFSET_##NAME(s.n, s.m, s.tau, s.t, s.degree)
+#define SIZE(NAME) MQ_##NAME##_SIZE(s.n, s.m, s.tau, s.t, s.degree)
 
 /* ---- A case made by the helpers ----------------------------------------------------------- */
 
@@ -78,11 +82,11 @@ static struct made draw_case(uint64_t seed, struct sizes s)
     draw_rows(&seed, key + AT(B), s.m, s.n, s);
     draw_rows(&seed, key + AT(Y), 1, s.m, s); /* to be written over */
     draw_rows(&seed, made.witness.at, 1, s.n, s);
-    draw_rows(&seed, made.leaves.at, MQ_FIELD_SIZE * s.tau, leaf_bits(s), s);
+    draw_rows(&seed, made.leaves.at, tree_leaves(s) * s.tau, leaf_bits(s), s);
     draw_rows(&seed, made.hash_matrix.at, s.t, hash_row_bits(s), s);
-    draw_bytes(&seed, made.batching);
-    draw_bytes(&seed, made.delta);
-    made.delta.at[0] = 0xFF; /* the edges, where there is a second repetition both */
+    draw_rows(&seed, made.batching.at, s.tau * s.m, s.degree, s); /* an element is a row */
+    draw_rows(&seed, made.delta.at, s.tau, s.degree, s);
+    made.delta.at[0] = (uint8_t)(tree_leaves(s) - 1); /* the edges, where there is a second repetition both */
     if (s.tau > 1)
         made.delta.at[1] = 0;
     return made;
@@ -104,7 +108,7 @@ static void test_sizes(struct made *made)
         for (size_t k = 0; k < 3; k++) {
             put(header + 2 * i, wrong[k], 2);
             check(!mq_key_sizes(header, sizeof header, &got), "mq_key_sizes takes a size out of range", s);
-            check(mq_test(header, sizeof header, NULL, 0) == MQ_REFUSED_SIZE_OUT_OF_RANGE * 65536,
+            check(mq_test(header, sizeof header, s.degree, NULL, 0) == MQ_REFUSED_SIZE_OUT_OF_RANGE * 65536,
                   "mq_test takes a size out of range", s);
         }
     }
@@ -115,7 +119,7 @@ static void test_sizes(struct made *made)
 
 static uint32_t test_witness(const struct made *made)
 {
-    return mq_test(made->key.at, made->key.len, made->witness.at, made->witness.len);
+    return mq_test(made->key.at, made->key.len, made->sizes.degree, made->witness.at, made->witness.len);
 }
 
 /* Each bit of y decides its equation: with it flipped that one fails, and no other. */
@@ -206,10 +210,11 @@ static void test_same_y(uint64_t seed, struct sizes s)
 /* ---- Proofs ------------------------------------------------------------------------------- */
 
 #define LENT(NAME) made->NAME.at, made->NAME.len
+#define LENT_KEY LENT(key), made->sizes.degree
 
 static uint32_t verify(const struct made *made)
 {
-    return mq_verify(LENT(key), LENT(delta), LENT(hash_matrix), LENT(batching), LENT(opened), LENT(proof));
+    return mq_verify(LENT_KEY, LENT(delta), LENT(hash_matrix), LENT(batching), LENT(opened), LENT(proof));
 }
 
 /* With a bit of the proof flipped. */
@@ -228,14 +233,32 @@ static void prove(struct made *made)
     const struct sizes s = made->sizes;
     const size_t commit = SIZE(COMMIT), hash = SIZE(HASH), batch = SIZE(BATCH);
     struct lent steps = lend(made->proof.len);
-    check(mq_commit(LENT(key), LENT(leaves), LENT(witness), steps.at, commit) == MQ_ACCEPTED, "mq_commit", s);
-    check(mq_hash(LENT(key), LENT(leaves), LENT(hash_matrix), steps.at + commit, hash) == MQ_ACCEPTED, "mq_hash", s);
-    check(mq_batch(LENT(key), LENT(leaves), LENT(witness), LENT(batching), steps.at + commit + hash, batch)
+    check(mq_commit(LENT_KEY, LENT(leaves), LENT(witness), steps.at, commit) == MQ_ACCEPTED, "mq_commit", s);
+    check(mq_hash(LENT_KEY, LENT(leaves), LENT(hash_matrix), steps.at + commit, hash) == MQ_ACCEPTED, "mq_hash", s);
+    check(mq_batch(LENT_KEY, LENT(leaves), LENT(witness), LENT(batching), steps.at + commit + hash, batch)
               == MQ_ACCEPTED, "mq_batch", s);
-    check(mq_prove(LENT(key), LENT(leaves), LENT(witness), LENT(hash_matrix), LENT(batching), LENT(proof))
+    check(mq_prove(LENT_KEY, LENT(leaves), LENT(witness), LENT(hash_matrix), LENT(batching), LENT(proof))
               == MQ_ACCEPTED, "mq_prove", s);
     check(memcmp(steps.at, made->proof.at, steps.len) == 0, "the steps write other bytes", s);
     free(steps.at);
+}
+
+/* Another degree, and at degree 4 a byte of delta that is no element. */
+static void test_open_refused(const struct made *made)
+{
+    const struct sizes s = made->sizes;
+    const uint32_t degrees[] = { 0, 5, 12, 260, UINT32_MAX, 12 - s.degree };
+    uint8_t *const last = made->delta.at + s.tau - 1;
+    const uint8_t kept = *last;
+    for (size_t i = 0; i < sizeof degrees / sizeof degrees[0]; i++)
+        check(!mq_open_leaves(LENT(key), degrees[i], LENT(delta), LENT(leaves), LENT(opened)),
+              "mq_open_leaves takes another degree", s);
+    for (unsigned byte = 16; s.degree == 4 && byte < 256; byte++) {
+        *last = (uint8_t)byte;
+        check(!mq_open_leaves(LENT_KEY, LENT(delta), LENT(leaves), LENT(opened)),
+              "mq_open_leaves takes a byte that is no element", s);
+    }
+    *last = kept;
 }
 
 static void test_opened(struct made *made)
@@ -244,13 +267,14 @@ static void test_opened(struct made *made)
     struct lent expected = made->opened, zero = lend(expected.len);
     open_leaves(made); /* by the test's own loop, leaf by leaf */
     made->opened = lend(expected.len);
-    check(!mq_open_leaves(made->key.at, 7, LENT(delta), LENT(leaves), LENT(opened))
-              && !mq_open_leaves(LENT(key), made->delta.at, s.tau + 1, LENT(leaves), LENT(opened))
-              && !mq_open_leaves(LENT(key), LENT(delta), made->leaves.at, made->leaves.len - 1, LENT(opened))
-              && !mq_open_leaves(LENT(key), LENT(delta), LENT(leaves), made->opened.at, made->opened.len - 1),
+    check(!mq_open_leaves(made->key.at, 7, s.degree, LENT(delta), LENT(leaves), LENT(opened))
+              && !mq_open_leaves(LENT_KEY, made->delta.at, s.tau + 1, LENT(leaves), LENT(opened))
+              && !mq_open_leaves(LENT_KEY, LENT(delta), made->leaves.at, made->leaves.len - 1, LENT(opened))
+              && !mq_open_leaves(LENT_KEY, LENT(delta), LENT(leaves), made->opened.at, made->opened.len - 1),
           "mq_open_leaves takes a wrong length", s);
+    test_open_refused(made);
     check(memcmp(made->opened.at, zero.at, zero.len) == 0, "mq_open_leaves writes where it answers 0", s);
-    check(mq_open_leaves(LENT(key), LENT(delta), LENT(leaves), LENT(opened)), "mq_open_leaves refuses its case", s);
+    check(mq_open_leaves(LENT_KEY, LENT(delta), LENT(leaves), LENT(opened)), "mq_open_leaves refuses its case", s);
     check(memcmp(made->opened.at, expected.at, expected.len) == 0, "mq_open_leaves", s);
     check(verify(made) == MQ_ACCEPTED, "mq_verify refuses leaves that were opened", s);
     free(expected.at);
@@ -277,8 +301,8 @@ static void test_corrections(const struct made *made)
     struct lent u = lend(s.tau * w);
     int right = 1;
     for (size_t e = 0; e < s.tau; e++)
-        for (size_t i = 0; i < MQ_FIELD_SIZE * w; i++)
-            u.at[e * w + i % w] ^= made->leaves.at[e * MQ_FIELD_SIZE * w + i];
+        for (size_t i = 0; i < tree_leaves(s) * w; i++)
+            u.at[e * w + i % w] ^= made->leaves.at[e * tree_leaves(s) * w + i];
     for (size_t i = w; i < u.len; i++)
         right &= made->proof.at[AT(C) + i - w] == (u.at[i] ^ u.at[i % w]);
     check(right, "MQ_OFFSET_C", s);
@@ -304,7 +328,7 @@ static void test_checks(const struct made *made)
     check(v, "MQ_OFFSET_V", s);
     check(qs0, "MQ_OFFSET_QS0", s);
     check(qs1, "MQ_OFFSET_QS1", s);
-    /* u~ counts in every repetition where delta is not 0: the first has 255. */
+    /* u~ counts in every repetition where delta is not 0: the first has the last element. */
     check(verify_flipped(made, AT(U)) == MQ_REFUSED_INCONSISTENT * 65536, "MQ_OFFSET_U", s);
 }
 
@@ -321,15 +345,16 @@ static void test_spare(struct made *made)
         { made->key.at + AT(B), s.m, s.n, MQ_REFUSED_KEY_SPARE_BIT },
         { made->key.at + AT(Y), 1, s.m, MQ_REFUSED_KEY_SPARE_BIT },
         { made->hash_matrix.at, s.t, hash_row_bits(s), MQ_REFUSED_HASH_SPARE_BIT },
-        { made->leaves.at, MQ_FIELD_SIZE * s.tau, leaf_bits(s), MQ_REFUSED_LEAF_SPARE_BIT },
+        { made->leaves.at, tree_leaves(s) * s.tau, leaf_bits(s), MQ_REFUSED_LEAF_SPARE_BIT },
         { made->witness.at, 1, s.n, MQ_REFUSED_WITNESS_FORM },
+        { made->batching.at, s.tau * s.m, s.degree, MQ_REFUSED_CHALLENGE_ELEMENT },
     };
     for (size_t i = 0; i < sizeof all / sizeof all[0]; i++) {
         const size_t len = MQ_STRING_SIZE(all[i].bits);
         for (size_t c = all[i].bits; c < 8 * len; c++) {
             const size_t row = all[i].count - 1;
             all[i].rows[row * len + len - 1] |= (uint8_t)(1 << c % 8);
-            check(mq_prove(LENT(key), LENT(leaves), LENT(witness), LENT(hash_matrix), LENT(batching), LENT(proof))
+            check(mq_prove(LENT_KEY, LENT(leaves), LENT(witness), LENT(hash_matrix), LENT(batching), LENT(proof))
                       == all[i].number * 65536, "a spare bit is not refused", s);
             mq_clear_spare(all[i].rows, all[i].count, all[i].bits);
         }
@@ -339,7 +364,7 @@ static void test_spare(struct made *made)
 
 /* ---- Messages ----------------------------------------------------------------------------- */
 
-enum { NUMBERS = 15 };
+enum { NUMBERS = 18 };
 
 static size_t places_of(uint32_t number)
 {
@@ -352,7 +377,7 @@ static size_t places_of(uint32_t number)
 static void test_messages(void)
 {
     const char *const unknown = mq_message(UINT32_MAX);
-    const struct sizes s = { 0, 0, 0, 0 };
+    const struct sizes s = { 0, 0, 0, 0, 0 };
     check(strcmp(mq_message(MQ_ACCEPTED), "accepted") == 0, "mq_message of 0", s);
     for (uint32_t number = 0; number < 65536; number++)
         for (uint32_t place = 0; place < 65536; place += place < 256 || number <= NUMBERS ? 1 : 997) {
@@ -391,11 +416,11 @@ static int run_marked(void)
         const struct sizes s = shapes[i];
         struct made made = draw_case(i, s);
         mark(made.witness.at, 1, s.n);
-        mark(made.leaves.at, MQ_FIELD_SIZE * s.tau, leaf_bits(s));
+        mark(made.leaves.at, tree_leaves(s) * s.tau, leaf_bits(s));
         mq_clear_spare(made.witness.at, 1, s.n);
-        mq_clear_spare(made.leaves.at, MQ_FIELD_SIZE * s.tau, leaf_bits(s));
+        mq_clear_spare(made.leaves.at, tree_leaves(s) * s.tau, leaf_bits(s));
         right &= mq_make_y(made.key.at, made.key.len, made.witness.at, made.witness.len);
-        right &= mq_open_leaves(made.key.at, made.key.len, made.delta.at, made.delta.len, made.leaves.at,
+        right &= mq_open_leaves(made.key.at, made.key.len, s.degree, made.delta.at, made.delta.len, made.leaves.at,
                                 made.leaves.len, made.opened.at, made.opened.len);
         VALGRIND_DISABLE_ERROR_REPORTING;
         right &= marked(made.key.at + AT(Y), MQ_STRING_SIZE(s.m));
@@ -427,7 +452,7 @@ int main(int argc, char **argv)
     const int small = argc > 1 && strcmp(argv[1], "small") == 0;
     if (argc > 1 && !small)
         return strcmp(argv[1], "mark") == 0 ? !run_marked() : !run_leak();
-    for (size_t i = 0; i < (small ? SHAPES - 1 : SHAPES); i++) {
+    for (size_t i = 0; i < (small ? SHAPES - 2 : SHAPES); i++) {
         struct made made = draw_case(i, shapes[i]);
         test_sizes(&made);
         test_y(&made);
@@ -442,6 +467,6 @@ int main(int argc, char **argv)
     }
     test_messages();
     if (!failures)
-        printf("%d shapes: keys, proofs and opened leaves made by the helpers are accepted\n", SHAPES);
+        printf("%d shapes at both degrees: keys, proofs and opened leaves made by the helpers are accepted\n", SHAPES);
     return failures != 0;
 }

@@ -48,7 +48,7 @@ fault "no variable" 's/n < 1 || //'
 fault "a header that is not there whole" 's/key_len < MQ_HEADER_SIZE/key_len < MQ_HEADER_SIZE - 1/'
 fault "the high byte of a size" 's/key\[0\] | (size_t)key\[1\] << 8/key[0]/'
 for name in A B Y C D U V QS0 QS1; do
-    fault "MQ_OFFSET_$name" "/MQ_OFFSET_$name(/,/)\$/s/MQ_OFFSET_$name(n, m, tau, t)/& -1 +/"
+    fault "MQ_OFFSET_$name" "/MQ_OFFSET_$name(/,/)\$/s/MQ_OFFSET_$name(n, m, tau, t, degree)/& -1 +/"
 done
 fault "spare bits that are kept" 's/0xFF >> (8 \* len - bits)/0xFF/'
 fault "one spare bit that is kept" 's/0xFF >> (8 \* len - bits)/0x1FF >> (8 * len - bits)/'
@@ -56,13 +56,15 @@ fault "the last row alone is cleared" 's/for (i = 0; i < count; i++)/for (i = co
 fault "y without its linear part" 's/= mq_util_shared(b, witness, witness_len)/= 0/'
 fault "y of every row" 's/= 0u - (witness\[r \/ 8\] >> r % 8 & 1u)/= ~0u/'
 fault "half a parity" '/byte ^= byte >> 4/d'
-fault "a key that is cut" 's/ || key_len != MQ_KEY_SIZE(s.n, s.m, s.tau, s.t)//'
+fault "a key that is cut" 's/ || key_len != MQ_KEY_SIZE(s.n, s.m, s.tau, s.t, 8)//'
 fault "the leaf at delta" 's/leaves + before + leaf, after/leaves + before, after/'
-fault "opened leaves that are too short" 's/|| out_len != MQ_OPENED_SIZE(s.n, s.m, s.tau, s.t)/|| out_len == 0/'
+fault "opened leaves that are too short" 's/|| out_len != MQ_OPENED_SIZE(s.n, s.m, s.tau, s.t, degree)/|| out_len == 0/'
+fault "a degree that is not served" 's/degree != 8 \&\& degree != 4/degree == 0/'
+fault "a delta that is no element" '/delta\[e\] >= each/{n;s/return 0/return 1/;}'
 fault "a place past the last equation" 's/places = MQ_MAX_EQUATIONS;/places = 65536;/'
 fault "a place where there is none" 's/places = 1;/places = 2;/'
 fault "a number that is not published" \
-    's/number >= sizeof messages \/ sizeof messages\[0\]/number > 16/; s/messages\[number\]/messages[number % 16]/'
+    's/number >= sizeof messages \/ sizeof messages\[0\]/number > 19/; s/messages\[number\]/messages[number % 19]/'
 echo "$faults faults in the header: all found out"
 
 built include "$work/util" -O2

@@ -3,7 +3,7 @@
  *
  * The form of the files is that of vectors/README.md. Every word must be the file's; an accepted call must have
  * written exactly the file's bytes, or bytes of the file's digest, and a refused call none. Over all files together,
- * every number that a call can answer must have come up.
+ * every number that a call can answer must have come up at each degree.
  *
  * With --selftest one thing is changed at a time after the library has returned, the word or a byte of the output,
  * and each change must be reported.
@@ -24,8 +24,10 @@ static const char *const string_names[STRINGS] = {
     "key", "witness", "leaves", "hash_matrix", "batching", "delta", "opened", "commit", "hash", "batch", "proof", "out",
 };
 
-enum { N, M, TAU, T, COUNT, OUT_LEN, NUMBER, PLACE, SEED, NUMBERS };
-static const char *const number_names[NUMBERS] = { "n", "m", "tau", "t", "COUNT", "out_len", "number", "place", "seed" };
+enum { N, M, TAU, T, DEGREE, COUNT, OUT_LEN, NUMBER, PLACE, SEED, NUMBERS };
+static const char *const number_names[NUMBERS] = {
+    "n", "m", "tau", "t", "degree", "COUNT", "out_len", "number", "place", "seed",
+};
 
 struct string {
     uint8_t *at; /* NULL where the length is 0 */
@@ -68,37 +70,38 @@ static size_t number(int which)
 /* ---- The calls ---------------------------------------------------------------------------- */
 
 #define LENT(which) string(which)->at, string(which)->len
+#define KEY_AND_DEGREE LENT(KEY), (uint32_t)number(DEGREE)
 
 static uint32_t call_test(uint8_t *out, size_t len)
 {
     (void)out, (void)len;
-    return mq_test(LENT(KEY), LENT(WITNESS));
+    return mq_test(KEY_AND_DEGREE, LENT(WITNESS));
 }
 
 static uint32_t call_commit(uint8_t *out, size_t len)
 {
-    return mq_commit(LENT(KEY), LENT(LEAVES), LENT(WITNESS), out, len);
+    return mq_commit(KEY_AND_DEGREE, LENT(LEAVES), LENT(WITNESS), out, len);
 }
 
 static uint32_t call_hash(uint8_t *out, size_t len)
 {
-    return mq_hash(LENT(KEY), LENT(LEAVES), LENT(HASH_MATRIX), out, len);
+    return mq_hash(KEY_AND_DEGREE, LENT(LEAVES), LENT(HASH_MATRIX), out, len);
 }
 
 static uint32_t call_batch(uint8_t *out, size_t len)
 {
-    return mq_batch(LENT(KEY), LENT(LEAVES), LENT(WITNESS), LENT(BATCHING), out, len);
+    return mq_batch(KEY_AND_DEGREE, LENT(LEAVES), LENT(WITNESS), LENT(BATCHING), out, len);
 }
 
 static uint32_t call_prove(uint8_t *out, size_t len)
 {
-    return mq_prove(LENT(KEY), LENT(LEAVES), LENT(WITNESS), LENT(HASH_MATRIX), LENT(BATCHING), out, len);
+    return mq_prove(KEY_AND_DEGREE, LENT(LEAVES), LENT(WITNESS), LENT(HASH_MATRIX), LENT(BATCHING), out, len);
 }
 
 static uint32_t call_verify(uint8_t *out, size_t len)
 {
     (void)out, (void)len;
-    return mq_verify(LENT(KEY), LENT(DELTA), LENT(HASH_MATRIX), LENT(BATCHING), LENT(OPENED), LENT(PROOF));
+    return mq_verify(KEY_AND_DEGREE, LENT(DELTA), LENT(HASH_MATRIX), LENT(BATCHING), LENT(OPENED), LENT(PROOF));
 }
 
 /* Each call, the string of a proof case that has its output, and the numbers that it can answer, bit by bit. */
@@ -109,15 +112,31 @@ static const struct call {
     int output;
     unsigned long answers;
 } calls[] = {
-    { "test", call_test, -1, BITS(0, 4) | BITS(9, 9) | BITS(11, 11) },
-    { "commit", call_commit, COMMIT, BITS(0, 4) | BITS(7, 11) },
-    { "hash", call_hash, HASH, BITS(0, 8) | BITS(10, 10) },
-    { "batch", call_batch, BATCH, BITS(0, 5) | BITS(7, 11) },
-    { "prove", call_prove, PROOF, BITS(0, 11) },
-    { "verify", call_verify, -1, BITS(0, 8) | BITS(12, 15) },
+    { "test", call_test, -1, BITS(0, 4) | BITS(9, 9) | BITS(11, 11) | BITS(16, 16) },
+    { "commit", call_commit, COMMIT, BITS(0, 4) | BITS(7, 11) | BITS(16, 16) },
+    { "hash", call_hash, HASH, BITS(0, 8) | BITS(10, 10) | BITS(16, 16) },
+    { "batch", call_batch, BATCH, BITS(0, 5) | BITS(7, 11) | BITS(16, 17) },
+    { "prove", call_prove, PROOF, BITS(0, 11) | BITS(16, 17) },
+    { "verify", call_verify, -1, BITS(0, 8) | BITS(12, 18) },
 };
-enum { CALLS = sizeof calls / sizeof calls[0] };
-static unsigned long met[CALLS];
+enum { CALLS = sizeof calls / sizeof calls[0], LAST_NUMBER = 18 };
+
+/* The numbers that have come up, at degree 8 and at degree 4. At 8 every byte is an element, so not 17 and 18. */
+enum { EIGHT, FOUR, DEGREES };
+static const unsigned long can_come[DEGREES] = { BITS(0, 16), BITS(0, 18) };
+static unsigned long met[CALLS][DEGREES];
+
+/* 16 comes up at neither degree, and is counted at both. */
+static void meet(size_t call, uint32_t answer)
+{
+    const size_t degree = number(DEGREE);
+    if (answer > LAST_NUMBER)
+        return;
+    if (degree != 4)
+        met[call][EIGHT] |= 1ul << answer;
+    if (degree != 8)
+        met[call][FOUR] |= 1ul << answer;
+}
 
 /* ---- One call against what the file says -------------------------------------------------- */
 
@@ -193,8 +212,7 @@ static void check(const struct call *call, uint32_t word, size_t len, const stru
     if (expected && expected->len != len)
         stop("the length of the expected bytes is not that of the output", "");
     made++;
-    if (MQ_NUMBER(word) < 16)
-        met[call - calls] |= 1ul << MQ_NUMBER(word);
+    meet((size_t)(call - calls), MQ_NUMBER(word));
     wrong = judge(call, word, len, expected, NOTHING);
     if (wrong) {
         differing++;
@@ -215,7 +233,7 @@ static void check_sizes(void)
 {
     static const struct {
         int which;
-        size_t (*function)(size_t, size_t, size_t, size_t);
+        size_t (*function)(size_t, size_t, size_t, size_t, uint32_t);
     } sizes[] = {
         { KEY, mq_key_size }, { WITNESS, mq_witness_size }, { LEAVES, mq_leaves_size },
         { HASH_MATRIX, mq_hash_matrix_size }, { BATCHING, mq_batching_size }, { DELTA, mq_delta_size },
@@ -224,7 +242,8 @@ static void check_sizes(void)
     };
     size_t i;
     for (i = 0; i < sizeof sizes / sizeof sizes[0]; i++)
-        if (sizes[i].function(number(N), number(M), number(TAU), number(T)) != string(sizes[i].which)->len) {
+        if (sizes[i].function(number(N), number(M), number(TAU), number(T), (uint32_t)number(DEGREE))
+            != string(sizes[i].which)->len) {
             differing++;
             printf("%s, COUNT %zu: the length of %s differs\n", file_name, now.numbers[COUNT],
                    string_names[sizes[i].which]);
@@ -275,11 +294,13 @@ static void put_expanded(int which, struct lent bytes)
  * digest that is given. The verifier is lent the library's own proof. */
 static void run_digest(void)
 {
-    const struct sizes s = { number(N), number(M), number(TAU), number(T) };
+    const struct sizes s = { number(N), number(M), number(TAU), number(T), (uint32_t)number(DEGREE) };
     struct made c = make_case(number(SEED), s);
     const struct lent inputs[] = { c.key, c.witness, c.leaves, c.hash_matrix, c.batching, c.delta, c.opened };
-    const size_t lengths[] = { mq_commit_size(s.n, s.m, s.tau, s.t), mq_hash_size(s.n, s.m, s.tau, s.t),
-                               mq_batch_size(s.n, s.m, s.tau, s.t), mq_proof_size(s.n, s.m, s.tau, s.t) };
+    const size_t lengths[] = {
+        mq_commit_size(s.n, s.m, s.tau, s.t, s.degree), mq_hash_size(s.n, s.m, s.tau, s.t, s.degree),
+        mq_batch_size(s.n, s.m, s.tau, s.t, s.degree), mq_proof_size(s.n, s.m, s.tau, s.t, s.degree),
+    };
     size_t i;
     int which;
     for (which = KEY; which <= OPENED; which++)
@@ -440,17 +461,20 @@ static void run_file(void)
         stop("no case", "");
 }
 
-/* Every number that a call can answer must have come up. */
+/* Every number that a call can answer must have come up at each degree. */
 static int all_met(void)
 {
-    int all = 1, answer;
+    int all = 1, answer, degree;
     size_t i;
-    for (i = 0; i < CALLS; i++)
-        for (answer = 0; answer < 16; answer++)
-            if (calls[i].answers & ~met[i] & 1ul << answer) {
-                printf("no case in which mq_%s answers %d\n", calls[i].name, answer);
+    for (i = 0; i < CALLS * DEGREES; i++) {
+        const struct call *const call = &calls[i / DEGREES];
+        degree = (int)(i % DEGREES);
+        for (answer = 0; answer <= LAST_NUMBER; answer++)
+            if (call->answers & can_come[degree] & ~met[i / DEGREES][degree] & 1ul << answer) {
+                printf("no case in which mq_%s answers %d at degree %d\n", call->name, answer, degree == EIGHT ? 8 : 4);
                 all = 0;
             }
+    }
     return all;
 }
 

@@ -45,7 +45,8 @@ void make_cases(void)
 static struct made *case_of(size_t number)
 {
     struct made *const c = &cases[number];
-    if (!proved[number] && rendering_prove(c->key, c->leaves, c->witness, c->hash_matrix, c->batching, c->proof) != 0) {
+    if (!proved[number] && rendering_prove(c->key, c->sizes.degree, c->leaves, c->witness, c->hash_matrix,
+                                             c->batching, c->proof) != 0) {
         fprintf(stderr, "the rendering refuses honest inputs\n");
         exit(2);
     }
@@ -96,7 +97,7 @@ static void open_anew(struct edited *now, struct made *start, size_t place, uint
     struct made view = *start;
     if (start->delta.len == 0 || now->in[DELTA].len != start->delta.len)
         return;
-    now->in[DELTA].at[place % start->delta.len] = value;
+    now->in[DELTA].at[place % start->delta.len] = (uint8_t)(value % tree_leaves(start->sizes));
     now->in[OPENED].len = start->opened.len;
     view.delta = now->in[DELTA];
     view.opened = now->in[OPENED];
@@ -149,6 +150,19 @@ static void edit_output(struct edited *now, const uint8_t *edit)
         now->out_len = LONGEST;
 }
 
+static void edit_degree(struct edited *now, const uint8_t *edit)
+{
+    const unsigned shift = 8u * (edit[1] % 4);
+    if (edit[0] % 8 == EDIT_SET)
+        now->degree = (now->degree & ~(UINT32_C(0xFF) << shift)) | (uint32_t)edit[3] << shift;
+    else if (edit[0] % 8 == EDIT_FLIP)
+        now->degree ^= UINT32_C(1) << edit[3] % 32;
+    else if (edit[0] % 8 == EDIT_OTHER)
+        now->degree = 12 - now->made_for;
+    else
+        now->degree = edit[3];
+}
+
 /* The string that an edit names. One that the call does not take stands for one that it takes. */
 static enum input named(unsigned number)
 {
@@ -172,14 +186,17 @@ struct edited edited(const uint8_t *bytes, size_t len)
             memcpy(space[i], string.at, string.len);
     }
     now.out_len = first == NOTHING ? 0 : the_call.writes(start->sizes);
+    now.degree = now.made_for = first == NOTHING ? 8 : start->sizes.degree;
     if (rest.left)
         rest.at++, rest.left--;
     while (rest.left >= 4) {
         const uint8_t *const edit = rest.at;
-        const unsigned number = edit[0] / 8 % (INPUTS + 1);
+        const unsigned number = edit[0] / 8 % (INPUTS + 2);
         rest.at += 4;
         rest.left -= 4;
-        if (number == INPUTS && the_call.writes(cases[0].sizes) > 0)
+        if (number == INPUTS + 1)
+            edit_degree(&now, edit);
+        else if (number == INPUTS && the_call.writes(cases[0].sizes) > 0)
             edit_output(&now, edit);
         else
             edit_string(&now, start, named(number), edit, &rest);

@@ -13,12 +13,13 @@
 #include "edits.h"
 #include "lend.h"
 
-enum { NUMBERS = 16, PLACES = MQ_MAX_EQUATIONS, WATCHED = 64 /* bytes beside the output, which must stay */ };
+enum { NUMBERS = 19, PLACES = MQ_MAX_EQUATIONS, WATCHED = 64 /* bytes beside the output, which must stay */ };
+enum { EIGHT, FOUR, DEGREES };
 
 /* libFuzzer looks at these as at its own counters. */
 __attribute__((section("__libfuzzer_extra_counters"))) static uint8_t words_met[NUMBERS * PLACES];
 
-static unsigned long cases_tried, with_number[NUMBERS], words[NUMBERS * PLACES];
+static unsigned long cases_tried, with_number[DEGREES][NUMBERS], words[NUMBERS * PLACES];
 static struct arena inputs[INPUTS], output;
 static const char *planted;
 
@@ -68,16 +69,22 @@ static uint32_t planted_place(const struct lent *in, uint32_t word)
 }
 
 /* The library, or what a faulty one would do. */
-static uint32_t ask_library(const struct lent *in, struct lent out, int upper)
+static uint32_t ask_library(const struct lent *in, uint32_t degree, struct lent out, int upper)
 {
     const struct lent key = in[KEY];
-    uint32_t word = the_call.library(in, out);
+    uint32_t word;
+    if (degree > 255 && (degree % 256 == 8 || degree % 256 == 4) && plant("degree"))
+        degree %= 256;
+    word = the_call.library(in, degree, out);
     if (upper && plant("read-after"))
         word += ((volatile uint8_t *)key.at)[key.len] & 1;
     if (!upper && key.len && plant("read-before"))
         word += ((volatile uint8_t *)key.at)[-1] & 1;
     if (key.len && plant("write-input"))
         ((volatile uint8_t *)key.at)[0] = key.at[0];
+    if ((MQ_NUMBER(word) == MQ_REFUSED_CHALLENGE_ELEMENT || MQ_NUMBER(word) == MQ_REFUSED_PROOF_ELEMENT)
+        && plant("element"))
+        word = MQ_ACCEPTED;
     if (plant("word"))
         word ^= 1u << 16;
     if (planted && MQ_NUMBER(word) == MQ_REFUSED_EQUATION_FAILS)
@@ -141,36 +148,38 @@ static void try_lent(const struct edited *now, int upper, const uint8_t *expecte
     fill(out.len, upper);
     if (out.len || upper)
         out.at = output.lent + place_in(out.len, upper);
-    word = ask_library(lent, out, upper);
+    word = ask_library(lent, now->degree, out, upper);
     if (word != right)
         differs("another word", word, right);
     judge_output(out.len, upper, expected, word, right);
 }
 
-static void count(uint32_t word)
+static void count(uint32_t word, uint32_t made_for)
 {
     const size_t at = MQ_NUMBER(word) % NUMBERS * PLACES + MQ_PLACE(word) % PLACES;
     cases_tried++;
-    with_number[MQ_NUMBER(word) % NUMBERS]++;
+    with_number[made_for == 4 ? FOUR : EIGHT][MQ_NUMBER(word) % NUMBERS]++;
     words[at]++;
     words_met[at] = 1;
 }
 
 /* ---- What libFuzzer calls ----------------------------------------------------------------- */
 
-/* Cases, words, and how often each number came up. A number that the call can answer and did not is a failure: the
- * fuzzer would have missed that question. (Not where it runs a few files again.) */
+/* Cases, words, and how often each number came up from a case of degree 8, and from one of degree 4. A number that the
+ * call can answer and did not is a failure: the fuzzer would have missed that question. (Not where it runs a few files
+ * again.) A case of degree 8 need not come to 17 and 18. */
 static void tell(void)
 {
     size_t different = 0;
     int missed = 0;
     for (size_t i = 0; i < NUMBERS * PLACES; i++)
         different += words[i] > 0;
-    printf("%s: %lu cases, each lent in two ways, %zu different words; by number", the_call.name, cases_tried,
-           different);
+    printf("%s: %lu cases, each lent in two ways, %zu different words; by number, at degrees 8+4", the_call.name,
+           cases_tried, different);
     for (const int *number = the_call.answers; *number >= 0; number++) {
-        printf(" %d: %lu", *number, with_number[*number]);
-        missed |= with_number[*number] == 0;
+        printf(" %d: %lu+%lu", *number, with_number[EIGHT][*number], with_number[FOUR][*number]);
+        missed |= with_number[FOUR][*number] == 0;
+        missed |= with_number[EIGHT][*number] == 0 && *number < MQ_REFUSED_CHALLENGE_ELEMENT;
     }
     printf("\n");
     if (missed && cases_tried >= 100)
@@ -204,9 +213,9 @@ int LLVMFuzzerTestOneInput(const uint8_t *bytes, size_t len)
     uint32_t right;
     for (size_t i = 0; i < out.len; i++)
         expected[i] = filling(i);
-    right = the_call.rendering(now.in, out);
+    right = the_call.rendering(now.in, now.degree, out);
     try_lent(&now, 1, expected, right);
     try_lent(&now, 0, expected, right);
-    count(right);
+    count(right, now.made_for);
     return 0;
 }

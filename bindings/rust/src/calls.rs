@@ -1,9 +1,11 @@
-//! The six calls on slices, and the version.
+//! The six calls on slices, and the version. 16, which is asked of the degree first of all, no call here answers: a
+//! [`Degree`] is 8 or 4.
 //!
 //! SAFETY, of each call below: every pointer comes from a slice, and is valid for its length, an input for reading and
 //! `out` for writing; `out` is borrowed alone, so it overlaps no input, and nobody else touches any of them until the
 //! call returns. An empty slice is lent with a pointer that points nowhere, which length 0 allows.
 
+use crate::degree::Degree;
 use crate::ffi;
 use crate::refusal::Refusal;
 
@@ -15,10 +17,16 @@ type Answer = Result<(), Refusal>;
 /// # Errors
 ///
 /// Refusals 1 to 4, 9, 11.
-pub fn test(key: &[u8], witness: &[u8]) -> Answer {
+pub fn test(key: &[u8], degree: Degree, witness: &[u8]) -> Answer {
     // SAFETY: see the head of this file.
     Refusal::from_word(unsafe {
-        ffi::mq_test(key.as_ptr(), key.len(), witness.as_ptr(), witness.len())
+        ffi::mq_test(
+            key.as_ptr(),
+            key.len(),
+            degree.number(),
+            witness.as_ptr(),
+            witness.len(),
+        )
     })
 }
 
@@ -28,12 +36,13 @@ pub fn test(key: &[u8], witness: &[u8]) -> Answer {
 /// # Errors
 ///
 /// Refusals 1 to 4, 7 to 11. `out` is then as it was.
-pub fn commit(key: &[u8], leaves: &[u8], witness: &[u8], out: &mut [u8]) -> Answer {
+pub fn commit(key: &[u8], degree: Degree, leaves: &[u8], witness: &[u8], out: &mut [u8]) -> Answer {
     // SAFETY: see the head of this file.
     Refusal::from_word(unsafe {
         ffi::mq_commit(
             key.as_ptr(),
             key.len(),
+            degree.number(),
             leaves.as_ptr(),
             leaves.len(),
             witness.as_ptr(),
@@ -50,12 +59,19 @@ pub fn commit(key: &[u8], leaves: &[u8], witness: &[u8], out: &mut [u8]) -> Answ
 /// # Errors
 ///
 /// Refusals 1 to 4, 5 (`hash_matrix`), 6 to 8, 10. `out` is then as it was.
-pub fn hash(key: &[u8], leaves: &[u8], hash_matrix: &[u8], out: &mut [u8]) -> Answer {
+pub fn hash(
+    key: &[u8],
+    degree: Degree,
+    leaves: &[u8],
+    hash_matrix: &[u8],
+    out: &mut [u8],
+) -> Answer {
     // SAFETY: see the head of this file.
     Refusal::from_word(unsafe {
         ffi::mq_hash(
             key.as_ptr(),
             key.len(),
+            degree.number(),
             leaves.as_ptr(),
             leaves.len(),
             hash_matrix.as_ptr(),
@@ -71,13 +87,21 @@ pub fn hash(key: &[u8], leaves: &[u8], hash_matrix: &[u8], out: &mut [u8]) -> An
 ///
 /// # Errors
 ///
-/// Refusals 1 to 4, 5 (`batching`), 7 to 11. `out` is then as it was.
-pub fn batch(key: &[u8], leaves: &[u8], witness: &[u8], batching: &[u8], out: &mut [u8]) -> Answer {
+/// Refusals 1 to 4, 5 (`batching`), 17 (`batching`), 7 to 11. `out` is then as it was.
+pub fn batch(
+    key: &[u8],
+    degree: Degree,
+    leaves: &[u8],
+    witness: &[u8],
+    batching: &[u8],
+    out: &mut [u8],
+) -> Answer {
     // SAFETY: see the head of this file.
     Refusal::from_word(unsafe {
         ffi::mq_batch(
             key.as_ptr(),
             key.len(),
+            degree.number(),
             leaves.as_ptr(),
             leaves.len(),
             witness.as_ptr(),
@@ -95,9 +119,10 @@ pub fn batch(key: &[u8], leaves: &[u8], witness: &[u8], batching: &[u8], out: &m
 ///
 /// # Errors
 ///
-/// Refusals 1 to 4, 5 (`hash_matrix` and `batching`), 6 to 11. `out` is then as it was.
+/// Refusals 1 to 4, 5 (`hash_matrix` and `batching`), 6, 17 (`batching`), 7 to 11. `out` is then as it was.
 pub fn prove(
     key: &[u8],
+    degree: Degree,
     leaves: &[u8],
     witness: &[u8],
     hash_matrix: &[u8],
@@ -109,6 +134,7 @@ pub fn prove(
         ffi::mq_prove(
             key.as_ptr(),
             key.len(),
+            degree.number(),
             leaves.as_ptr(),
             leaves.len(),
             witness.as_ptr(),
@@ -127,9 +153,10 @@ pub fn prove(
 ///
 /// # Errors
 ///
-/// Refusals 1 to 4, 5 (`delta`, `hash_matrix` and `batching`), 6 to 8 (`opened`), 12 to 15.
+/// Refusals 1 to 4, 5 (`delta`, `hash_matrix` and `batching`), 6, 17 (`delta`, `batching`), 7, 8, 12, 13, 18, 14, 15.
 pub fn verify(
     key: &[u8],
+    degree: Degree,
     delta: &[u8],
     hash_matrix: &[u8],
     batching: &[u8],
@@ -141,6 +168,7 @@ pub fn verify(
         ffi::mq_verify(
             key.as_ptr(),
             key.len(),
+            degree.number(),
             delta.as_ptr(),
             delta.len(),
             hash_matrix.as_ptr(),

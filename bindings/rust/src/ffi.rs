@@ -1,25 +1,32 @@
 //! The declarations of `solfadrus.h`, in its order.
 
 extern "C" {
-    pub fn mq_key_size(n: usize, m: usize, tau: usize, t: usize) -> usize;
-    pub fn mq_witness_size(n: usize, m: usize, tau: usize, t: usize) -> usize;
-    pub fn mq_leaves_size(n: usize, m: usize, tau: usize, t: usize) -> usize;
-    pub fn mq_opened_size(n: usize, m: usize, tau: usize, t: usize) -> usize;
-    pub fn mq_hash_matrix_size(n: usize, m: usize, tau: usize, t: usize) -> usize;
-    pub fn mq_batching_size(n: usize, m: usize, tau: usize, t: usize) -> usize;
-    pub fn mq_delta_size(n: usize, m: usize, tau: usize, t: usize) -> usize;
-    pub fn mq_commit_size(n: usize, m: usize, tau: usize, t: usize) -> usize;
-    pub fn mq_hash_size(n: usize, m: usize, tau: usize, t: usize) -> usize;
-    pub fn mq_batch_size(n: usize, m: usize, tau: usize, t: usize) -> usize;
-    pub fn mq_proof_size(n: usize, m: usize, tau: usize, t: usize) -> usize;
+    pub fn mq_key_size(n: usize, m: usize, tau: usize, t: usize, degree: u32) -> usize;
+    pub fn mq_witness_size(n: usize, m: usize, tau: usize, t: usize, degree: u32) -> usize;
+    pub fn mq_leaves_size(n: usize, m: usize, tau: usize, t: usize, degree: u32) -> usize;
+    pub fn mq_opened_size(n: usize, m: usize, tau: usize, t: usize, degree: u32) -> usize;
+    pub fn mq_hash_matrix_size(n: usize, m: usize, tau: usize, t: usize, degree: u32) -> usize;
+    pub fn mq_batching_size(n: usize, m: usize, tau: usize, t: usize, degree: u32) -> usize;
+    pub fn mq_delta_size(n: usize, m: usize, tau: usize, t: usize, degree: u32) -> usize;
+    pub fn mq_commit_size(n: usize, m: usize, tau: usize, t: usize, degree: u32) -> usize;
+    pub fn mq_hash_size(n: usize, m: usize, tau: usize, t: usize, degree: u32) -> usize;
+    pub fn mq_batch_size(n: usize, m: usize, tau: usize, t: usize, degree: u32) -> usize;
+    pub fn mq_proof_size(n: usize, m: usize, tau: usize, t: usize, degree: u32) -> usize;
 
     pub fn mq_version() -> u32;
 
-    pub fn mq_test(key: *const u8, key_len: usize, witness: *const u8, witness_len: usize) -> u32;
+    pub fn mq_test(
+        key: *const u8,
+        key_len: usize,
+        degree: u32,
+        witness: *const u8,
+        witness_len: usize,
+    ) -> u32;
 
     pub fn mq_commit(
         key: *const u8,
         key_len: usize,
+        degree: u32,
         leaves: *const u8,
         leaves_len: usize,
         witness: *const u8,
@@ -31,6 +38,7 @@ extern "C" {
     pub fn mq_hash(
         key: *const u8,
         key_len: usize,
+        degree: u32,
         leaves: *const u8,
         leaves_len: usize,
         hash_matrix: *const u8,
@@ -42,6 +50,7 @@ extern "C" {
     pub fn mq_batch(
         key: *const u8,
         key_len: usize,
+        degree: u32,
         leaves: *const u8,
         leaves_len: usize,
         witness: *const u8,
@@ -55,6 +64,7 @@ extern "C" {
     pub fn mq_prove(
         key: *const u8,
         key_len: usize,
+        degree: u32,
         leaves: *const u8,
         leaves_len: usize,
         witness: *const u8,
@@ -70,6 +80,7 @@ extern "C" {
     pub fn mq_verify(
         key: *const u8,
         key_len: usize,
+        degree: u32,
         delta: *const u8,
         delta_len: usize,
         hash_matrix: *const u8,

@@ -3,8 +3,8 @@
 use std::error::Error;
 use std::fmt;
 
-/// Why a call refused: the question that got a no. The questions are put in the order of their numbers, to each call
-/// those that concern its inputs, and the first no is the answer.
+/// Why a call refused: the question that got a no. The questions are put in the order of their numbers, but 16 first,
+/// 17 after 6 and 18 after 13; to each call those that concern its inputs. The first no is the answer.
 #[derive(Clone, Copy, Debug, PartialEq, Eq, Hash)]
 #[non_exhaustive]
 pub enum Reason {
@@ -39,13 +39,19 @@ pub enum Reason {
     Inconsistent,
     /// 15: the product check does not hold. The place is the first repetition where not.
     ProductDiffers,
+    /// 16: the degree is neither 8 nor 4. No call of this crate answers it: [`Degree`](crate::Degree) has these two.
+    DegreeUnserved,
+    /// 17: a byte of `delta` or `batching` is no element, above 15 at degree 4.
+    ChallengeElement,
+    /// 18: a byte of V~, QS0 or QS1 is no element, above 15 at degree 4.
+    ProofElement,
     /// A number that is not published, as it stands. The library is proved to answer none; it would come from an
     /// archive of another version. It counts as a refusal: only the word 0 is an acceptance.
     Unpublished(u16),
 }
 
 /// The published reasons, by their numbers from 1.
-const PUBLISHED: [Reason; 15] = [
+const PUBLISHED: [Reason; 18] = [
     Reason::ShortHeader,
     Reason::SizeOutOfRange,
     Reason::KeyLength,
@@ -61,6 +67,9 @@ const PUBLISHED: [Reason; 15] = [
     Reason::ProofSpareBit,
     Reason::Inconsistent,
     Reason::ProductDiffers,
+    Reason::DegreeUnserved,
+    Reason::ChallengeElement,
+    Reason::ProofElement,
 ];
 
 impl Reason {
@@ -90,6 +99,9 @@ impl Reason {
             Reason::ProofSpareBit => 13,
             Reason::Inconsistent => 14,
             Reason::ProductDiffers => 15,
+            Reason::DegreeUnserved => 16,
+            Reason::ChallengeElement => 17,
+            Reason::ProofElement => 18,
             Reason::Unpublished(number) => number,
         }
     }
@@ -113,6 +125,9 @@ impl fmt::Display for Reason {
             Reason::ProofSpareBit => "a spare bit of the proof is not 0",
             Reason::Inconsistent => "consistency does not hold",
             Reason::ProductDiffers => "the product check does not hold",
+            Reason::DegreeUnserved => "the degree is neither 8 nor 4",
+            Reason::ChallengeElement => "a byte of a challenge is no element of the field",
+            Reason::ProofElement => "a byte of the proof is no element of the field",
             Reason::Unpublished(_) => "a number that is not published",
         })
     }
@@ -121,13 +136,13 @@ impl fmt::Display for Reason {
 /// A refused call. It has written nothing: its output is as it was.
 ///
 /// ```
-/// use solfadrus::{Reason, Refusal};
+/// use solfadrus::{Degree, Reason, Refusal};
 ///
 /// // x0·x1 + x0 = 1, which x = 0 does not solve.
 /// let key = [
 ///     2, 0, 1, 0, 1, 0, 1, 0, 2, 0, 0, 0, 0x02, 0x00, 1, 0, 0, 0, 0x01, 1, 0, 0, 0, 0x01,
 /// ];
-/// let refusal = solfadrus::test(&key, &[0x00]).unwrap_err();
+/// let refusal = solfadrus::test(&key, Degree::Eight, &[0x00]).unwrap_err();
 /// assert_eq!((refusal.reason, refusal.place), (Reason::EquationFails, 0));
 /// assert_eq!(refusal.to_string(), "refused 11 place 0: the witness does not solve the system");
 ///
@@ -191,7 +206,7 @@ mod tests {
     #[test]
     fn words_come_apart_and_together() {
         assert_eq!(Refusal::from_word(0), Ok(()));
-        for number in 1..=15 {
+        for number in 1..=18 {
             for place in [0, 1, 47, 319, 65_535] {
                 let word = number * 65_536 + place;
                 let refusal = Refusal::from_word(word).unwrap_err();
@@ -204,7 +219,7 @@ mod tests {
 
     #[test]
     fn an_unpublished_word_is_a_refusal() {
-        for word in [1, 65_535, 16 * 65_536, 65_535 * 65_536, u32::MAX] {
+        for word in [1, 65_535, 19 * 65_536, 65_535 * 65_536, u32::MAX] {
             let refusal = Refusal::from_word(word).unwrap_err();
             assert_eq!(refusal.reason, Reason::Unpublished((word >> 16) as u16));
             assert_eq!(refusal.word(), word);

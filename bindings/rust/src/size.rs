@@ -1,17 +1,20 @@
-//! The lengths in bytes of what is lent and written, as functions of the four sizes, in the key's order.
+//! The lengths in bytes of what is lent and written, as functions of the four sizes, in the key's order, and of the
+//! degree.
 //!
-//! Each takes n variables, m equations, tau repetitions and t hash rows, whether or not the length depends on each, and
-//! answers 0 where a size is out of range (n, m: 1 to 320; tau: 1 to 48; t: 1 to 288). No length that is in range is 0.
+//! Each takes n variables, m equations, tau repetitions, t hash rows and the degree, whether or not the length depends
+//! on each, and answers 0 where a size is out of range (n, m: 1 to 320; tau: 1 to 48; t: 1 to 288). No
+//! length that is in range is 0.
 
+use crate::degree::Degree;
 use crate::ffi;
 
 macro_rules! lengths {
     ($($(#[doc = $doc:literal])+ $name:ident = $function:ident;)+) => {$(
         $(#[doc = $doc])+
         #[must_use]
-        pub fn $name(n: usize, m: usize, tau: usize, t: usize) -> usize {
+        pub fn $name(n: usize, m: usize, tau: usize, t: usize, degree: Degree) -> usize {
             // SAFETY: takes numbers alone, and answers for all of them.
-            unsafe { ffi::$function(n, m, tau, t) }
+            unsafe { ffi::$function(n, m, tau, t, degree.number()) }
         }
     )+};
 }

@@ -3,7 +3,7 @@
 use std::ptr::null_mut;
 use std::sync::OnceLock;
 
-use solfadrus::{burn_stack, size, STACK_BYTES};
+use solfadrus::{burn_stack, size, Degree, STACK_BYTES};
 
 /// `ucontext_t` of the C library on x86-64: the fields that are set, and room for the others.
 #[repr(C)]
@@ -68,7 +68,7 @@ fn case() -> &'static Case {
         key.extend([0; 512]);
         key.extend([8, 0, 0, 0, 0, 0, 0, 0, 0, 0, 0, 0, 1, 0, 0, 0, 0]);
         let mut state = 1u64;
-        let leaves = (0..size::leaves(64, 1, 1, 64)).map(|_| {
+        let leaves = (0..size::leaves(64, 1, 1, 64, Degree::Eight)).map(|_| {
             state = state
                 .wrapping_mul(6_364_136_223_846_793_005)
                 .wrapping_add(1);
@@ -84,7 +84,14 @@ fn case() -> &'static Case {
 #[inline(never)]
 fn commit() {
     let mut out = [0; 16];
-    solfadrus::commit(&case().key, &case().leaves, &WITNESS, &mut out).unwrap();
+    solfadrus::commit(
+        &case().key,
+        Degree::Eight,
+        &case().leaves,
+        &WITNESS,
+        &mut out,
+    )
+    .unwrap();
 }
 
 extern "C" fn bare() {

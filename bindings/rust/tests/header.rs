@@ -24,6 +24,7 @@ fn in_rust(c: &str) -> String {
         ("const uint8_t *", "*const u8"),
         ("uint8_t *", "*mut u8"),
         ("size_t ", "usize"),
+        ("uint32_t ", "u32"),
     ] {
         if let Some(name) = c.strip_prefix(from) {
             return format!("{name}: {to}");

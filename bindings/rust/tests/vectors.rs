@@ -1,12 +1,13 @@
 //! The test vectors of the repository, through the safe calls. Their form is that of vectors/README.md.
 
-use solfadrus::{batch, commit, hash, prove, size, test, verify, Refusal};
+use solfadrus::{batch, commit, hash, prove, size, test, verify, Degree, Refusal};
 use std::collections::HashMap;
 
 /// A case: its lines, and the sizes that stand before it.
 struct Case {
     lines: HashMap<String, String>,
     sizes: [usize; 4],
+    degree: u32,
 }
 
 impl Case {
@@ -30,16 +31,23 @@ impl Case {
             .collect()
     }
 
+    /// The degree: of the case, or of those that follow a head.
+    fn degree(&self) -> Result<Degree, Refusal> {
+        Degree::try_from(self.degree)
+    }
+
     /// Makes a call of this case on an output.
     fn call(&self, name: &str, out: &mut [u8]) -> Result<(), Refusal> {
         let lent = |name| self.bytes(name);
         let key = &lent("key");
+        let degree = self.degree()?;
         match name {
-            "test" => test(key, &lent("witness")),
-            "commit" => commit(key, &lent("leaves"), &lent("witness"), out),
-            "hash" => hash(key, &lent("leaves"), &lent("hash_matrix"), out),
+            "test" => test(key, degree, &lent("witness")),
+            "commit" => commit(key, degree, &lent("leaves"), &lent("witness"), out),
+            "hash" => hash(key, degree, &lent("leaves"), &lent("hash_matrix"), out),
             "batch" => batch(
                 key,
+                degree,
                 &lent("leaves"),
                 &lent("witness"),
                 &lent("batching"),
@@ -47,6 +55,7 @@ impl Case {
             ),
             "prove" => prove(
                 key,
+                degree,
                 &lent("leaves"),
                 &lent("witness"),
                 &lent("hash_matrix"),
@@ -55,6 +64,7 @@ impl Case {
             ),
             "verify" => verify(
                 key,
+                degree,
                 &lent("delta"),
                 &lent("hash_matrix"),
                 &lent("batching"),
@@ -71,19 +81,28 @@ fn cases(file: &str) -> Vec<Case> {
     let text = std::fs::read_to_string(&path).unwrap_or_else(|error| panic!("{path}: {error}"));
     let mut cases = Vec::new();
     let mut sizes = [0; 4];
+    let mut degree = 0;
     for block in text.split("\n\n") {
         let mut lines = HashMap::new();
         for line in block.lines().filter(|line| !line.starts_with('#')) {
             let line = line.trim_matches(&['[', ']'][..]);
             let (name, value) = line.split_once(" =").unwrap();
             let value = value.trim_start().to_string();
+            if name == "degree" {
+                degree = value.parse().unwrap();
+                continue;
+            }
             match ["n", "m", "tau", "t"].iter().position(|size| *size == name) {
                 Some(which) => sizes[which] = value.parse().unwrap(),
                 None => assert!(lines.insert(name.to_string(), value).is_none()),
             }
         }
         if !lines.is_empty() {
-            cases.push(Case { lines, sizes });
+            cases.push(Case {
+                lines,
+                sizes,
+                degree,
+            });
         }
     }
     assert!(!cases.is_empty());
@@ -94,11 +113,12 @@ fn cases(file: &str) -> Vec<Case> {
 fn honest_proofs() {
     for case in cases("proofs.rsp") {
         let [n, m, tau, t] = case.sizes;
+        let degree = case.degree().unwrap();
         for (name, expected, length) in [
-            ("commit", "commit", size::commit(n, m, tau, t)),
-            ("hash", "hash", size::hash(n, m, tau, t)),
-            ("batch", "batch", size::batch(n, m, tau, t)),
-            ("prove", "proof", size::proof(n, m, tau, t)),
+            ("commit", "commit", size::commit(n, m, tau, t, degree)),
+            ("hash", "hash", size::hash(n, m, tau, t, degree)),
+            ("batch", "batch", size::batch(n, m, tau, t, degree)),
+            ("prove", "proof", size::proof(n, m, tau, t, degree)),
         ] {
             let mut out = vec![0; length];
             assert_eq!(case.call(name, &mut out), Ok(()), "{name} {:?}", case.sizes);
@@ -107,13 +127,13 @@ fn honest_proofs() {
         assert_eq!(case.call("test", &mut []), Ok(()));
         assert_eq!(case.call("verify", &mut []), Ok(()));
         for (name, length) in [
-            ("key", size::key(n, m, tau, t)),
-            ("witness", size::witness(n, m, tau, t)),
-            ("leaves", size::leaves(n, m, tau, t)),
-            ("opened", size::opened(n, m, tau, t)),
-            ("hash_matrix", size::hash_matrix(n, m, tau, t)),
-            ("batching", size::batching(n, m, tau, t)),
-            ("delta", size::delta(n, m, tau, t)),
+            ("key", size::key(n, m, tau, t, degree)),
+            ("witness", size::witness(n, m, tau, t, degree)),
+            ("leaves", size::leaves(n, m, tau, t, degree)),
+            ("opened", size::opened(n, m, tau, t, degree)),
+            ("hash_matrix", size::hash_matrix(n, m, tau, t, degree)),
+            ("batching", size::batching(n, m, tau, t, degree)),
+            ("delta", size::delta(n, m, tau, t, degree)),
         ] {
             assert_eq!(case.bytes(name).len(), length, "{name} {:?}", case.sizes);
         }

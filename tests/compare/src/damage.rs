@@ -59,14 +59,20 @@ pub enum Damage {
     Flipped(Name, usize),
     /// All coordinates of a section 0 or 1: the form stays.
     Filled(Name, usize, bool),
+    /// Another degree beside the key.
+    Degree(u32),
     Output(Output),
 }
+
+/// Both that are served, so that one of them is the other; and of those that are not some which a narrower type, or a
+/// test of fewer bits, would take. `edits` has them all.
+const DEGREES: [u32; 8] = [8, 4, 0, 1, 5, 12, 260, u32::MAX];
 
 /// The limits of n, m, τ, t, in the header's order.
 const LIMITS: [usize; 4] = shapes::LIMITS;
 
 impl Damage {
-    /// The input that it damages; none for the output.
+    /// The input that it damages; none for the output, the key for the degree beside it.
     pub fn input(self) -> Option<Name> {
         match self {
             Damage::Empty(name)
@@ -83,7 +89,7 @@ impl Damage {
             | Damage::Spare(name, _, _)
             | Damage::Flipped(name, _)
             | Damage::Filled(name, _, _) => Some(name),
-            Damage::Size(_, _) => Some(Name::Key),
+            Damage::Size(_, _) | Damage::Degree(_) => Some(Name::Key),
             Damage::Output(_) => None,
         }
     }
@@ -131,6 +137,11 @@ impl Damage {
             }
             Damage::Flipped(name, section) => return flip(inputs, name, section, random),
             Damage::Filled(name, section, ones) => return fill(inputs, name, section, ones),
+            Damage::Degree(degree) => {
+                let other = inputs.degree != degree;
+                inputs.degree = degree;
+                return other;
+            }
             Damage::Output(output) => inputs.output = output,
         }
         true
@@ -149,6 +160,7 @@ pub fn all(names: &[Name], lengths: &[usize], shape: &Shape) -> Vec<Damage> {
             damages.extend(of_section(*name, index, shape));
         }
     }
+    damages.extend(DEGREES.map(Damage::Degree));
     for output in [
         Output::Empty,
         Output::Less(1),

@@ -1,4 +1,4 @@
-//! Doctored proofs: for one repetition all 256 values of its Δ are put to the library. It must accept at exactly the
+//! Doctored proofs: for one repetition all values of its Δ are put to the library. It must accept at exactly the
 //! values that the rendering counts in that repetition's factor.
 
 use crate::calls::VERIFY;
@@ -6,7 +6,7 @@ use crate::groups::{add_proof, open_at, Run, Sizes};
 use crate::inputs::{section_start, Inputs, Name};
 use crate::judge::describe;
 use reference::factors::passing;
-use reference::key::{header, sections as key_sections};
+use reference::key::{header, sections as key_sections, Shape};
 use reference::verifier::sections as proof_sections;
 
 /// What is changed, in the proof of repetition e or in the key.
@@ -52,7 +52,7 @@ const FORGERIES: [Forgery; 15] = [
 ];
 
 impl Run<'_> {
-    /// Every forgery of every repetition. The factors 0, 1, 2 and 256 must all come up.
+    /// Every forgery of every repetition. The factors 0, 1, 2 and the field's size must all come up.
     pub fn forged(&mut self, sizes: Sizes) -> Result<(), String> {
         let mut honest = self.inputs(sizes);
         add_proof(&mut honest)?;
@@ -63,29 +63,15 @@ impl Run<'_> {
                 self.forge(&mut inputs, forgery, e);
                 let factor = self.count(&mut inputs, e)?;
                 met.push(factor);
-                if !self.explained(forgery, factor) {
+                if !explained(forgery, factor, honest.shape.field.size) {
                     return Err(format!("{forgery:?} in repetition {e} has factor {factor}"));
                 }
             }
         }
-        match [0, 1, 2, 256].iter().find(|factor| !met.contains(factor)) {
+        let all = [0, 1, 2, honest.shape.field.size];
+        match all.iter().find(|factor| !met.contains(factor)) {
             None => Ok(()),
             Some(factor) => Err(format!("no forgery with the factor {factor}")),
-        }
-    }
-
-    /// What the equations give, where that can be said beforehand.
-    fn explained(&self, forgery: Forgery, factor: usize) -> bool {
-        match forgery {
-            Forgery::Honest | Forgery::YHidden => factor == 256,
-            Forgery::Qs0 | Forgery::VTilde => factor == 0,
-            Forgery::Qs1 | Forgery::BothQs | Forgery::UTilde | Forgery::BothTilde => factor == 1,
-            Forgery::Y | Forgery::YAndQs0 => factor == 1,
-            Forgery::YAndQs1 => factor == 2,
-            Forgery::YAndBothQs => factor == 0 || factor == 2,
-            Forgery::Correction | Forgery::D | Forgery::AllRandom => {
-                [0, 1, 2, 256].contains(&factor)
-            }
         }
     }
 
@@ -134,7 +120,13 @@ impl Run<'_> {
     /// Another byte at this place of a section of the proof.
     fn change(&mut self, inputs: &mut Inputs, section: usize, at: usize) {
         let start = section_start(Name::Proof, &inputs.shape, section) + 4;
-        inputs.get_mut(Name::Proof)[start + at] ^= 1 + self.random.below(255) as u8;
+        let change = self.other_than_0(inputs);
+        inputs.get_mut(Name::Proof)[start + at] ^= change;
+    }
+
+    /// An element other than 0.
+    pub fn other_than_0(&mut self, inputs: &Inputs) -> u8 {
+        1 + self.random.below(inputs.shape.field.size - 1) as u8
     }
 
     /// Changes y in one equation, whose batching bytes are then 0 or not 0.
@@ -147,11 +139,7 @@ impl Run<'_> {
         let key = inputs.get(Name::Key).to_vec();
         inputs.get_mut(Name::Key)[y + i / 8] ^= 1 << (i % 8);
         for e in 0..tau {
-            let byte = if hidden {
-                0
-            } else {
-                1 + self.random.below(255) as u8
-            };
+            let byte = if hidden { 0 } else { self.other_than_0(inputs) };
             inputs.get_mut(Name::Batching)[e * m + i] = byte;
         }
         add_proof(inputs).expect("the witness solves the first key");
@@ -174,7 +162,7 @@ impl Run<'_> {
         let sets = passing_sets(inputs);
         let mut delta: Vec<u8> = Vec::new();
         for set in &sets {
-            let any = self.random.number() as u8;
+            let any = self.random.below(inputs.shape.field.size) as u8;
             delta.push(if set.is_empty() {
                 any
             } else {
@@ -183,7 +171,7 @@ impl Run<'_> {
         }
         let others = (0..sets.len()).all(|other| other == e || !sets[other].is_empty());
         let mut accepted = Vec::new();
-        for value in 0..=0xFF {
+        for value in elements(&inputs.shape) {
             delta[e] = value;
             open_at(inputs, delta.clone());
             self.put(&VERIFY, inputs, &[], None)?;
@@ -198,6 +186,24 @@ impl Run<'_> {
         }
         Ok(sets[e].len())
     }
+}
+
+/// What the equations give, where that can be said beforehand.
+fn explained(forgery: Forgery, factor: usize, size: usize) -> bool {
+    match forgery {
+        Forgery::Honest | Forgery::YHidden => factor == size,
+        Forgery::Qs0 | Forgery::VTilde => factor == 0,
+        Forgery::Qs1 | Forgery::BothQs | Forgery::UTilde | Forgery::BothTilde => factor == 1,
+        Forgery::Y | Forgery::YAndQs0 => factor == 1,
+        Forgery::YAndQs1 => factor == 2,
+        Forgery::YAndBothQs => factor == 0 || factor == 2,
+        Forgery::Correction | Forgery::D | Forgery::AllRandom => [0, 1, 2, size].contains(&factor),
+    }
+}
+
+/// Every element of the field.
+fn elements(shape: &Shape) -> impl Iterator<Item = u8> {
+    (0..shape.field.size).map(|value| value as u8)
 }
 
 /// Changes a coordinate below k of C_e, and the identity part of H so that every row's sum stays.

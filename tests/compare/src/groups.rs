@@ -10,6 +10,10 @@ use reference::key::Shape;
 use reference::{open_leaves, Answer};
 
 pub use shapes::Sizes;
+use shapes::{edits, DEGREES};
+
+/// n, m, τ, t, to be tried at each degree.
+type Four = (usize, usize, usize, usize);
 
 #[derive(Clone, Copy, Debug, PartialEq, Eq)]
 pub enum Group {
@@ -25,49 +29,52 @@ pub enum Group {
     Kernels(Sizes),
     /// Honest proofs, the rendering's and the library's, at many Δ.
     Challenges(Sizes),
-    /// Doctored proofs, at all 256 values of one repetition's Δ: see `forged`.
+    /// Doctored proofs, at all values of one repetition's Δ: see `forged`.
     Forged(Sizes),
     /// Each repetition's mask, and the refusals that name it: see `repetitions`.
     Repetitions(Sizes),
     /// Equations that fail: each of them the first, alone and with others after it.
     Equations(Sizes),
+    /// Degrees that are not served, and bytes that are no elements: see `shapes::edits`.
+    Edits(Sizes),
     /// A shape and damages at random.
     Random,
 }
 
+/// Those of `shapes::small`.
+const SMALL: Four = (9, 3, 2, 5);
+
 /// Small, and with spare bits in every section.
-const PAIRED: [Sizes; 2] = [shapes::SMALL, (3, 9, 1, 2)];
+const PAIRED: [Four; 2] = [SMALL, (3, 9, 1, 2)];
 
 /// With leaves of less and of more than 16 bytes, and repetitions to 1, 16, 17 and 48.
-const CHALLENGED: [Sizes; 5] = [
-    shapes::SMALL,
+const CHALLENGED: [Four; 5] = [
+    SMALL,
     (1, 2, 1, 1),
     (65, 4, 16, 63),
     (12, 5, 17, 20),
     (7, 3, 48, 9),
 ];
 
-const FORGED: [Sizes; 3] = [shapes::SMALL, (3, 2, 3, 2), (66, 1, 1, 60)];
+const FORGED: [Four; 3] = [SMALL, (3, 2, 3, 2), (66, 1, 1, 60)];
 
 /// Two, three, a register of sixteen and one more, and the most.
-const REPEATED: [Sizes; 4] = [shapes::SMALL, (5, 2, 3, 4), (3, 2, 17, 2), (1, 1, 48, 1)];
+const REPEATED: [Four; 4] = [SMALL, (5, 2, 3, 4), (3, 2, 17, 2), (1, 1, 48, 1)];
 
 /// With several bytes of y, and the most.
-const FAILING: [Sizes; 2] = [(9, 21, 2, 5), (3, 320, 1, 2)];
+const FAILING: [Four; 2] = [(9, 21, 2, 5), (3, 320, 1, 2)];
 
-/// Beside those of the thresholds: the set of 150 variables of 003, the limits of 01 together, and those of today.
-const LARGE: [Sizes; 4] = [
-    (160, 160, 1, 160),
-    (150, 150, 19, 144),
-    (160, 160, 48, 160),
-    (320, 320, 48, 288),
-];
+/// One repetition, two, and more than a register of sixteen.
+const EDITED: [Four; 3] = [SMALL, (3, 2, 1, 1), (5, 4, 17, 3)];
+
+/// Beside those of the thresholds: the set of 150 variables of 003, and the limits of 01 together.
+const LARGE: [Four; 3] = [(160, 160, 1, 160), (150, 150, 19, 144), (160, 160, 48, 160)];
 
 /// The sets of 224 and of 320 variables of 003: t is 16 more than the bits of the level.
-const LONG_LIVED: [Sizes; 2] = [(224, 224, 28, 208), (320, 320, 37, 272)];
+const LONG_LIVED: [Four; 2] = [(224, 224, 28, 208), (320, 320, 37, 272)];
 
 /// n far from m: pieces and lines in two with few equations, and blocks of equations with few variables.
-const FAR: [Sizes; 6] = [
+const FAR: [Four; 6] = [
     (320, 1, 3, 288),
     (1, 320, 2, 161),
     (319, 161, 1, 161),
@@ -76,9 +83,20 @@ const FAR: [Sizes; 6] = [
     (24, 257, 16, 161),
 ];
 
+/// The limits of today together, at both degrees. (At degree 4 `shapes::joint` has the set of 150 variables.)
+const LARGEST: Four = (320, 320, 48, 288);
+
 /// The groups that every run has, before the random ones.
 pub fn fixed() -> Vec<Group> {
     let mut groups = vec![Group::Toy];
+    groups.extend(DEGREES.into_iter().flat_map(at));
+    groups
+}
+
+/// The same at a degree.
+fn at(degree: u32) -> Vec<Group> {
+    let at = |(n, m, tau, t): Four| (n, m, tau, t, degree);
+    let mut groups = Vec::new();
     for which in 0..4 {
         let limit = shapes::LIMITS[which];
         // The limits of 01 too, and where the header's high byte comes in.
@@ -87,19 +105,23 @@ pub fn fixed() -> Vec<Group> {
         for size in within.chain([0, limit, limit + 1]) {
             let mut sizes = [3, 2, 2, 3];
             sizes[which] = size;
-            groups.push(Group::Edge((sizes[0], sizes[1], sizes[2], sizes[3])));
+            groups.push(Group::Edge(at((sizes[0], sizes[1], sizes[2], sizes[3]))));
         }
     }
-    groups.extend(PAIRED.map(Group::Pairs));
-    groups.extend(CHALLENGED.map(Group::Challenges));
-    groups.extend(FORGED.map(Group::Forged));
-    groups.extend(REPEATED.map(Group::Repetitions));
-    groups.extend(FAILING.map(Group::Equations));
-    groups.extend(shapes::single().into_iter().map(Group::Shape));
-    groups.extend(shapes::joint().into_iter().map(Group::Kernels));
-    groups.extend(FAR.map(Group::Kernels));
-    groups.extend(LONG_LIVED.map(Group::Kernels));
-    groups.extend(LARGE.map(Group::Shape));
+    groups.extend(PAIRED.map(at).map(Group::Pairs));
+    groups.extend(CHALLENGED.map(at).map(Group::Challenges));
+    groups.extend(FORGED.map(at).map(Group::Forged));
+    groups.extend(REPEATED.map(at).map(Group::Repetitions));
+    groups.extend(FAILING.map(at).map(Group::Equations));
+    groups.extend(EDITED.map(at).map(Group::Edits));
+    groups.extend(shapes::single(degree).into_iter().map(Group::Shape));
+    groups.extend(shapes::joint(degree).into_iter().map(Group::Kernels));
+    groups.extend(FAR.map(at).map(Group::Kernels));
+    if degree == 8 {
+        groups.extend(LONG_LIVED.map(at).map(Group::Kernels));
+        groups.extend(LARGE.map(at).map(Group::Shape));
+    }
+    groups.push(Group::Shape(at(LARGEST)));
     groups
 }
 
@@ -107,7 +129,7 @@ pub fn fixed() -> Vec<Group> {
 fn cost(shape: &Shape) -> usize {
     let forms = shape.tau * shape.m * shape.n * shape.n * 10;
     let hashes = shape.tau * shape.t * shape.k();
-    let leaves = shape.tau * 256 * shape.l() * 6;
+    let leaves = shape.tau * shape.field.size * shape.l() * 6;
     forms + hashes + leaves
 }
 
@@ -126,7 +148,7 @@ const DEAREST: usize = 2_500_000_000;
 pub fn add_proof(inputs: &mut Inputs) -> Result<(), String> {
     let mut proof = vec![0; PROVE.writes.length(&inputs.shape)];
     let taken: Vec<&[u8]> = PROVE.takes.iter().map(|name| inputs.get(*name)).collect();
-    match (PROVE.rendering)(&taken, &mut proof) {
+    match (PROVE.rendering)(&taken, inputs.degree, &mut proof) {
         Answer::Accepted => *inputs.get_mut(Name::Proof) = proof,
         refused => {
             return Err(format!(
@@ -142,6 +164,12 @@ pub fn open_at(inputs: &mut Inputs, delta: Vec<u8>) {
     let opened = open_leaves(&inputs.shape, inputs.get(Name::Leaves), &delta);
     *inputs.get_mut(Name::Delta) = delta;
     *inputs.get_mut(Name::Opened) = opened;
+}
+
+/// Another byte at a place of an input.
+fn put_byte(inputs: &mut Inputs, name: Name, at: usize, byte: u8) -> Name {
+    inputs.get_mut(name)[at] = byte;
+    name
 }
 
 /// Whether the call takes or writes what is damaged.
@@ -169,13 +197,13 @@ impl Run<'_> {
             Group::Forged(sizes) => self.forged(sizes),
             Group::Repetitions(sizes) => self.repetitions(sizes),
             Group::Equations(sizes) => self.equations(sizes),
+            Group::Edits(sizes) => self.edits(sizes),
             Group::Random => self.random_damages(),
         }
     }
 
     pub fn inputs(&mut self, sizes: Sizes) -> Inputs {
-        let (n, m, tau, t) = sizes;
-        let inputs = Inputs::honest(self.random.number(), n, m, tau, t);
+        let inputs = Inputs::honest(self.random.number(), sizes);
         assert!(layout_agrees(&inputs), "the layout is not the rendering's");
         inputs
     }
@@ -360,6 +388,47 @@ impl Run<'_> {
         Ok(())
     }
 
+    /// Each edit alone: the number is the one that it names, and the rendering's. With a degree that is not served
+    /// nothing else is looked at: neither the key, which may be empty, nor the output.
+    fn edits(&mut self, sizes: Sizes) -> Result<(), String> {
+        let mut honest = self.inputs(sizes);
+        self.honest(&mut honest)?;
+        for edit in edits::edits(sizes) {
+            let mut inputs = honest.clone();
+            let edited = match edit.what {
+                edits::What::Degree(degree) => {
+                    inputs.degree = degree;
+                    Name::Key
+                }
+                edits::What::Delta { at, byte } => put_byte(&mut inputs, Name::Delta, at, byte),
+                edits::What::Chi { at, byte } => put_byte(&mut inputs, Name::Batching, at, byte),
+                edits::What::Proof { at, byte } => put_byte(&mut inputs, Name::Proof, at, byte),
+            };
+            let refused = Expected {
+                answer: Answer::Refused {
+                    number: edit.number,
+                    place: 0,
+                },
+                output: Vec::new(),
+            };
+            for call in CALLS.iter().filter(|call| call.takes.contains(&edited)) {
+                self.put(call, &inputs, &[], None)?;
+                let mut inputs = inputs.clone();
+                inputs.output = Output::Is(0);
+                if edit.number == 16 || call.writes == Writes::Nothing {
+                    self.put(call, &inputs, &[], Some(&refused))?;
+                }
+                for len in [7, 0] {
+                    if edit.number == 16 {
+                        inputs.get_mut(Name::Key).truncate(len);
+                        self.put(call, &inputs, &[], Some(&refused))?;
+                    }
+                }
+            }
+        }
+        Ok(())
+    }
+
     /// Up to three damages of the inputs of one call, to every call that they concern.
     fn random_damages(&mut self) -> Result<(), String> {
         let sizes = self.random_sizes();
@@ -385,7 +454,7 @@ impl Run<'_> {
     /// Draws Δ anew, with a value given for one repetition, and opens the leaves there. The proof must be accepted.
     fn challenge(&mut self, inputs: &mut Inputs, fixed: Option<(usize, u8)>) -> Result<(), String> {
         let mut delta: Vec<u8> = (0..inputs.shape.tau)
-            .map(|_| self.random.number() as u8)
+            .map(|_| self.random.below(inputs.shape.field.size) as u8)
             .collect();
         if let Some((e, value)) = fixed {
             delta[e] = value;
@@ -415,12 +484,17 @@ impl Run<'_> {
         let tau = inputs.shape.tau;
         for proof in [by_rendering, by_library] {
             *inputs.get_mut(Name::Proof) = proof;
-            for all in shapes::challenges().into_iter().chain([0x80]) {
+            let last = (inputs.shape.field.size - 1) as u8;
+            let middle = last / 2 + 1;
+            for all in shapes::challenges(inputs.degree)
+                .into_iter()
+                .chain([middle])
+            {
                 open_at(&mut inputs, vec![all; tau]);
                 self.accepted(&inputs)?;
             }
             for e in 0..tau {
-                for value in [0x00, 0xFF, self.random.number() as u8] {
+                for value in [0, last, self.random.number() as u8 & last] {
                     self.challenge(&mut inputs, Some((e, value)))?;
                 }
             }
@@ -466,7 +540,8 @@ impl Run<'_> {
                 self.random_size(limit)
             })
             .collect();
-        (sizes[0], sizes[1], sizes[2], sizes[3])
+        let degree = DEGREES[self.random.below(2)];
+        (sizes[0], sizes[1], sizes[2], sizes[3], degree)
     }
 
     /// Half of the time a multiple of 8 or beside one.
@@ -519,7 +594,7 @@ impl Run<'_> {
 
     /// "n=2, m=1, τ=1, t=1": bytes and answers as 01 gives them, with no rendering between.
     fn toy(&mut self) -> Result<(), String> {
-        let mut inputs = self.inputs((2, 1, 1, 1));
+        let mut inputs = self.inputs((2, 1, 1, 1, 8));
         let key = [
             2, 0, 1, 0, 1, 0, 1, 0, 2, 0, 0, 0, 2, 0, 1, 0, 0, 0, 1, 1, 0, 0, 0, 1,
         ];

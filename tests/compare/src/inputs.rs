@@ -3,6 +3,7 @@
 use reference::cases::case;
 use reference::key::Shape;
 use reference::strings::bytes_for;
+use shapes::Sizes;
 
 /// A byte string that a call may take.
 #[derive(Clone, Copy, Debug, PartialEq, Eq)]
@@ -83,25 +84,27 @@ pub fn header_length(name: Name) -> usize {
 pub fn sections(name: Name, shape: &Shape) -> Vec<Section> {
     let (n, m, tau, t) = (shape.n, shape.m, shape.tau, shape.t);
     let (k, l) = (shape.k(), shape.l());
+    // An element is a row: at degree 4 the high half of its byte is spare.
+    let (leaves, element) = (shape.field.size, shape.field.degree);
     match name {
         Name::Key => vec![
             Section::counted(m * n, n),
             Section::counted(m, n),
             Section::counted(1, m),
         ],
-        Name::Leaves => vec![Section::bare(256 * tau, l)],
-        Name::Opened => vec![Section::bare(255 * tau, l)],
+        Name::Leaves => vec![Section::bare(leaves * tau, l)],
+        Name::Opened => vec![Section::bare((leaves - 1) * tau, l)],
         Name::Witness => vec![Section::bare(1, n)],
         Name::HashMatrix => vec![Section::bare(t, k)],
-        Name::Batching => vec![Section::bare(tau * m, 8)],
-        Name::Delta => vec![Section::bare(tau, 8)],
+        Name::Batching => vec![Section::bare(tau * m, element)],
+        Name::Delta => vec![Section::bare(tau, element)],
         Name::Proof => vec![
             Section::counted(tau.saturating_sub(1), l),
             Section::counted(1, n),
             Section::counted(1, t),
-            Section::counted(tau * t, 8),
-            Section::counted(tau, 8),
-            Section::counted(tau, 8),
+            Section::counted(tau * t, element),
+            Section::counted(tau, element),
+            Section::counted(tau, element),
         ],
     }
 }
@@ -117,10 +120,12 @@ pub fn length(name: Name, shape: &Shape) -> usize {
     section_start(name, shape, sections(name, shape).len())
 }
 
-/// What is lent to a call: all inputs by name, and how the output's length differs from the one to be written.
+/// What is lent to a call: the degree, all inputs by name, and how the output's length differs from the one to be
+/// written. The shape has the degree that the inputs were made for.
 #[derive(Clone, Debug)]
 pub struct Inputs {
     pub shape: Shape,
+    pub degree: u32,
     bytes: [Vec<u8>; 8],
     pub output: Output,
 }
@@ -149,10 +154,11 @@ impl Output {
 
 impl Inputs {
     /// Honest inputs, at random: the rendering's own cases. There is no proof among them yet.
-    pub fn honest(seed: u64, n: usize, m: usize, tau: usize, t: usize) -> Inputs {
-        let made = case(seed, n, m, tau, t);
+    pub fn honest(seed: u64, (n, m, tau, t, degree): Sizes) -> Inputs {
+        let made = case(seed, n, m, tau, t, degree);
         let mut inputs = Inputs {
             shape: made.shape,
+            degree,
             bytes: Default::default(),
             output: Output::Exact,
         };

@@ -6,6 +6,7 @@ use crate::inputs::Inputs;
 use crate::memory::{read, Memory};
 use reference::cases::Random;
 use reference::{word, Answer};
+use shapes::DEGREES;
 use std::fmt::Write;
 
 /// What the self-test changes after the library has returned, to see that it is reported.
@@ -30,8 +31,11 @@ pub struct Expected {
     pub output: Vec<u8>,
 }
 
-/// How often each call gave each number.
-pub type Tally = Vec<(&'static str, [u64; 16])>;
+/// Numbers of the published list, and 0 for accepted.
+pub const NUMBERS: usize = 19;
+
+/// How often each call gave each number to what was made for each degree.
+pub type Tally = Vec<(&'static str, u32, [u64; NUMBERS])>;
 
 pub struct Judge {
     memory: Memory,
@@ -62,7 +66,10 @@ impl Judge {
             // Twice the longest input of the largest shape, and some: damages double an input.
             memory: Memory::new(8, 9 << 20),
             tamper: None,
-            tally: CALLS.iter().map(|call| (call.name, [0; 16])).collect(),
+            tally: DEGREES
+                .iter()
+                .flat_map(|degree| CALLS.iter().map(|call| (call.name, *degree, [0; NUMBERS])))
+                .collect(),
             shared: None,
             word: 0,
         }
@@ -78,13 +85,13 @@ impl Judge {
     ) -> Result<Vec<u8>, String> {
         let taken: Vec<&[u8]> = call.takes.iter().map(|name| inputs.get(*name)).collect();
         let length = inputs.output.length(call.writes.length(&inputs.shape));
-        let seen = self.ask_library(call, &taken, length, random);
+        let seen = self.ask_library(call, &taken, inputs.degree, length, random);
         let before = &seen.before[seen.output.clone()];
         let expected = match known {
             Some(known) => known.clone(),
-            None => ask_rendering(call, &taken, before),
+            None => ask_rendering(call, &taken, inputs.degree, before),
         };
-        self.count(call, expected.answer);
+        self.count(call, inputs.shape.degree(), expected.answer);
         judge(&seen, &expected)?;
         Ok(seen.after[seen.output].to_vec())
     }
@@ -93,6 +100,7 @@ impl Judge {
         &mut self,
         call: &Call,
         taken: &[&[u8]],
+        degree: u32,
         length: usize,
         random: &mut Random,
     ) -> Seen {
@@ -108,7 +116,7 @@ impl Judge {
         if sealed {
             self.memory.seal(taken.len(), true);
         }
-        let mut word = unsafe { (call.library)(&lent, out) };
+        let mut word = unsafe { (call.library)(&lent, degree, out) };
         if sealed {
             self.memory.seal(taken.len(), false);
         }
@@ -141,30 +149,29 @@ impl Judge {
         word
     }
 
-    fn count(&mut self, call: &Call, answer: Answer) {
+    fn count(&mut self, call: &Call, degree: u32, answer: Answer) {
         let number = match answer {
             Answer::Accepted => 0,
             Answer::Refused { number, .. } => number as usize,
         };
-        for (name, numbers) in &mut self.tally {
-            if *name == call.name {
+        for (name, at, numbers) in &mut self.tally {
+            if (*name, *at) == (call.name, degree) {
                 numbers[number] += 1;
             }
         }
     }
 
-    /// How many answers were compared.
-    pub fn compared(&self) -> u64 {
-        self.tally
-            .iter()
-            .map(|(_, numbers)| numbers.iter().sum::<u64>())
+    /// How many answers were compared, to what was made for a degree.
+    pub fn compared(&self, degree: u32) -> u64 {
+        let made = self.tally.iter().filter(|(_, at, _)| *at == degree);
+        made.map(|(_, _, numbers)| numbers.iter().sum::<u64>())
             .sum()
     }
 }
 
-fn ask_rendering(call: &Call, taken: &[&[u8]], before: &[u8]) -> Expected {
+fn ask_rendering(call: &Call, taken: &[&[u8]], degree: u32, before: &[u8]) -> Expected {
     let mut output = before.to_vec();
-    let answer = (call.rendering)(taken, &mut output);
+    let answer = (call.rendering)(taken, degree, &mut output);
     Expected { answer, output }
 }
 
@@ -202,8 +209,14 @@ pub fn describe(call: &Call, inputs: &Inputs, damages: &[Damage], what: &str) ->
     writeln!(text, "{}: {what}", call.name).unwrap();
     writeln!(
         text,
-        "  n={} m={} tau={} t={}, damages {damages:?}, output {:?}",
-        shape.n, shape.m, shape.tau, shape.t, inputs.output
+        "  n={} m={} tau={} t={} degree={}, lent degree {}, damages {damages:?}, output {:?}",
+        shape.n,
+        shape.m,
+        shape.tau,
+        shape.t,
+        shape.degree(),
+        inputs.degree,
+        inputs.output
     )
     .unwrap();
     for name in call.takes {

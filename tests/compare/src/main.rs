@@ -18,10 +18,10 @@ mod sizes;
 mod watch;
 
 use groups::{fixed, Group, Run};
-use judge::{Judge, Tally};
+use judge::{Judge, Tally, NUMBERS};
 use reference::cases::Random;
-use reference::field::GF256;
 use reference::key::Shape;
+use shapes::DEGREES;
 use std::process::exit;
 use std::time::{SystemTime, UNIX_EPOCH};
 
@@ -80,10 +80,7 @@ fn compared(arguments: &Arguments) -> Result<String, String> {
     let mut judge = Judge::new();
     if let Some(group) = arguments.group {
         one_group(&mut judge, arguments.seed, group)?;
-        return Ok(format!(
-            "group {group}: {} answers, all equal",
-            judge.compared()
-        ));
+        return Ok(format!("group {group}: {}, all equal", answers(&judge)));
     }
     lengths()?;
     let sizes = sizes::compare(&mut Random::new(arguments.seed), 0)?;
@@ -99,9 +96,14 @@ fn compared(arguments: &Arguments) -> Result<String, String> {
     table(&judge.tally);
     unmet(&judge.tally)?;
     Ok(format!(
-        "compared: {group} groups, {} answers, {sizes} sizes; all equal",
-        judge.compared()
+        "compared: {group} groups, {}, {sizes} sizes; all equal",
+        answers(&judge)
     ))
+}
+
+fn answers(judge: &Judge) -> String {
+    let [eight, four] = DEGREES.map(|degree| judge.compared(degree));
+    format!("{eight} answers at degree 8 and {four} at degree 4")
 }
 
 fn one_group(judge: &mut Judge, seed: u64, number: usize) -> Result<(), String> {
@@ -116,41 +118,37 @@ fn one_group(judge: &mut Judge, seed: u64, number: usize) -> Result<(), String> 
 }
 
 fn lengths() -> Result<(), String> {
-    for (n, m, tau, t) in [(1, 1, 1, 1), (9, 3, 2, 5), (320, 320, 48, 288)] {
-        let shape = Shape {
-            field: GF256,
-            n,
-            m,
-            tau,
-            t,
-        };
-        if !sizes::own_lengths_agree(&shape) {
-            return Err("the lengths of this program are not the rendering's".to_string());
+    for degree in DEGREES {
+        for (n, m, tau, t) in [(1, 1, 1, 1), (9, 3, 2, 5), (320, 320, 48, 288)] {
+            if !sizes::own_lengths_agree(&Shape::new(n, m, tau, t, degree)) {
+                return Err("the lengths of this program are not the rendering's".to_string());
+            }
         }
     }
     Ok(())
 }
 
-/// How often each call gave each number.
+/// How often each call gave each number to what was made for each degree.
 fn table(tally: &Tally) {
-    print!("{:12}", "number");
-    (0..16).for_each(|number| print!("{number:>7}"));
+    print!("{:12}{:>7}", "number", "degree");
+    (0..NUMBERS).for_each(|number| print!("{number:>7}"));
     println!();
-    for (name, numbers) in tally {
-        print!("{name:12}");
+    for (name, degree, numbers) in tally {
+        print!("{name:12}{degree:>7}");
         numbers.iter().for_each(|times| print!("{times:>7}"));
         println!();
     }
 }
 
-/// Every number that a call can answer must have come up.
+/// Every number that a call can answer at a degree must have come up.
 fn unmet(tally: &Tally) -> Result<(), String> {
-    for call in calls::CALLS {
-        for number in call.answers {
-            let met =
-                |(name, numbers): &(&str, [u64; 16])| *name == call.name && numbers[*number] > 0;
-            if !tally.iter().any(met) {
-                return Err(format!("no case in which {} answers {number}", call.name));
+    for (name, degree, numbers) in tally {
+        let call = calls::CALLS.iter().find(|call| call.name == *name).unwrap();
+        for number in call.answers_at(*degree) {
+            if numbers[number] == 0 {
+                return Err(format!(
+                    "no case in which {name} answers {number} at degree {degree}"
+                ));
             }
         }
     }

@@ -41,7 +41,7 @@ impl Run<'_> {
     /// No Δ_e is 0, where neither C_e nor QS1_e counts.
     fn open_past_0(&mut self, inputs: &mut Inputs) {
         let delta = (0..inputs.shape.tau)
-            .map(|_| 1 + self.random.below(255) as u8)
+            .map(|_| self.other_than_0(inputs))
             .collect();
         open_at(inputs, delta);
     }
@@ -60,7 +60,11 @@ impl Run<'_> {
         let row = self.random.below(honest.shape.t);
         for (section, byte, number) in [(3, e * honest.shape.t + row, 14), (4, e, 15), (5, e, 15)] {
             let mut inputs = honest.clone();
-            flip(&mut inputs, section, 8 * byte + self.random.below(8));
+            flip(
+                &mut inputs,
+                section,
+                8 * byte + self.random.below(honest.shape.field.degree),
+            );
             let place = e as u32;
             self.answered(&inputs, Answer::Refused { number, place })?;
         }
@@ -92,7 +96,8 @@ impl Run<'_> {
         let mut inputs = honest.clone();
         let c = self.coordinate(honest, of);
         let w = honest.shape.w();
-        let leaf = (e * 256 + self.random.below(256)) * w;
+        let leaves = honest.shape.field.size;
+        let leaf = (e * leaves + self.random.below(leaves)) * w;
         inputs.get_mut(Name::Leaves)[leaf + c / 8] ^= 1 << (c % 8);
         for call in STEPS.iter().chain([&PROVE]) {
             self.put(call, &inputs, &[], None)?;

@@ -12,7 +12,9 @@ pub fn run(seed: u64) -> Result<u64, String> {
     let mut random = Random::new(seed);
     let mut judge = Judge::new();
     let mut reported = 0;
-    for (name, call, inputs, places) in situations(&mut random)? {
+    let mut all = situations(&mut random, 8)?;
+    all.extend(situations(&mut random, 4)?);
+    for (name, call, inputs, places) in all {
         // Untouched, nothing may be reported.
         judge.tamper = None;
         judge
@@ -36,9 +38,9 @@ pub fn run(seed: u64) -> Result<u64, String> {
 /// A call on inputs, what it shows, and other places that must be reported.
 type Situation = (String, &'static Call, Inputs, Vec<u32>);
 
-/// Accepted and refused calls of each kind.
-fn situations(random: &mut Random) -> Result<Vec<Situation>, String> {
-    let mut honest = Inputs::honest(random.number(), 9, 3, 2, 5);
+/// Accepted and refused calls of each kind, at a degree.
+fn situations(random: &mut Random, degree: u32) -> Result<Vec<Situation>, String> {
+    let mut honest = Inputs::honest(random.number(), shapes::small(degree));
     add_proof(&mut honest)?;
     let mut situations = Vec::new();
     for call in CALLS {
@@ -65,11 +67,32 @@ fn situations(random: &mut Random) -> Result<Vec<Situation>, String> {
     // One bit of the last byte of V~, and of QS1: the last repetition fails, at a Δ that is not 0.
     for (section, number) in [(4, 14), (6, 15)] {
         let mut inputs = honest.clone();
-        open_at(&mut inputs, vec![0x35, 0xC2]);
+        open_at(&mut inputs, vec![0x05, 0x0C]);
         let last = section_start(Name::Proof, &inputs.shape, section) - 1;
         inputs.get_mut(Name::Proof)[last] ^= 1;
         let what = format!("mq_verify refused {number}");
         situations.push((what, &VERIFY, inputs, vec![]));
+    }
+    // 16 comes first, and a bit past an element is refused where all else is right.
+    for call in CALLS {
+        let mut inputs = honest.clone();
+        inputs.degree = 260;
+        let what = format!("{} refused 16", call.name);
+        situations.push((what, call, inputs, vec![]));
+    }
+    for (call, input, number) in [
+        (&BATCH, Name::Batching, 17),
+        (&PROVE, Name::Batching, 17),
+        (&VERIFY, Name::Delta, 17),
+        (&VERIFY, Name::Proof, 18),
+    ] {
+        let mut inputs = honest.clone();
+        let last = inputs.get(input).len() - 1;
+        inputs.get_mut(input)[last] ^= 0x10;
+        let what = format!("{} refused {number}", call.name);
+        if degree == 4 {
+            situations.push((what, call, inputs, vec![]));
+        }
     }
     Ok(situations)
 }

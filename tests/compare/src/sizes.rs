@@ -3,24 +3,24 @@
 use crate::calls::{BATCH, COMMIT, HASH, PROVE};
 use crate::inputs::{length, Name};
 use reference::cases::Random;
-use reference::field::GF256;
+use reference::field::Field;
 use reference::key::Shape;
 
-type SizeFunction = unsafe extern "C" fn(usize, usize, usize, usize) -> usize;
+type SizeFunction = unsafe extern "C" fn(usize, usize, usize, usize, u32) -> usize;
 type Length = fn(&Shape) -> usize;
 
 extern "C" {
-    fn mq_key_size(n: usize, m: usize, tau: usize, t: usize) -> usize;
-    fn mq_witness_size(n: usize, m: usize, tau: usize, t: usize) -> usize;
-    fn mq_leaves_size(n: usize, m: usize, tau: usize, t: usize) -> usize;
-    fn mq_opened_size(n: usize, m: usize, tau: usize, t: usize) -> usize;
-    fn mq_hash_matrix_size(n: usize, m: usize, tau: usize, t: usize) -> usize;
-    fn mq_batching_size(n: usize, m: usize, tau: usize, t: usize) -> usize;
-    fn mq_delta_size(n: usize, m: usize, tau: usize, t: usize) -> usize;
-    fn mq_proof_size(n: usize, m: usize, tau: usize, t: usize) -> usize;
-    fn mq_commit_size(n: usize, m: usize, tau: usize, t: usize) -> usize;
-    fn mq_hash_size(n: usize, m: usize, tau: usize, t: usize) -> usize;
-    fn mq_batch_size(n: usize, m: usize, tau: usize, t: usize) -> usize;
+    fn mq_key_size(n: usize, m: usize, tau: usize, t: usize, degree: u32) -> usize;
+    fn mq_witness_size(n: usize, m: usize, tau: usize, t: usize, degree: u32) -> usize;
+    fn mq_leaves_size(n: usize, m: usize, tau: usize, t: usize, degree: u32) -> usize;
+    fn mq_opened_size(n: usize, m: usize, tau: usize, t: usize, degree: u32) -> usize;
+    fn mq_hash_matrix_size(n: usize, m: usize, tau: usize, t: usize, degree: u32) -> usize;
+    fn mq_batching_size(n: usize, m: usize, tau: usize, t: usize, degree: u32) -> usize;
+    fn mq_delta_size(n: usize, m: usize, tau: usize, t: usize, degree: u32) -> usize;
+    fn mq_proof_size(n: usize, m: usize, tau: usize, t: usize, degree: u32) -> usize;
+    fn mq_commit_size(n: usize, m: usize, tau: usize, t: usize, degree: u32) -> usize;
+    fn mq_hash_size(n: usize, m: usize, tau: usize, t: usize, degree: u32) -> usize;
+    fn mq_batch_size(n: usize, m: usize, tau: usize, t: usize, degree: u32) -> usize;
 }
 
 /// Each function, with the length that the rendering uses.
@@ -60,7 +60,9 @@ pub fn compare(random: &mut Random, off: usize) -> Result<u64, String> {
                     let mut sizes = limits.map(|limit| 1 + random.below(limit));
                     sizes[other] = rest;
                     sizes[which] = size;
-                    compared += at(sizes, off)?;
+                    for degree in shapes::DEGREES {
+                        compared += at(sizes, degree, off)?;
+                    }
                 }
             }
         }
@@ -77,30 +79,28 @@ pub fn compare(random: &mut Random, off: usize) -> Result<u64, String> {
         if random.below(16) == 0 {
             sizes[random.below(4)] = random.number() as usize;
         }
-        compared += at(sizes, off)?;
+        let others = shapes::edits::OTHER_DEGREES;
+        let degree = match random.below(4) {
+            0 => others[random.below(others.len())],
+            1 => random.number() as u32,
+            2 => 8,
+            _ => 4,
+        };
+        compared += at(sizes, degree, off)?;
     }
     Ok(compared)
 }
 
-fn at(sizes: [usize; 4], off: usize) -> Result<u64, String> {
+fn at(sizes: [usize; 4], degree: u32, off: usize) -> Result<u64, String> {
     let [n, m, tau, t] = sizes;
-    let shape = Shape {
-        field: GF256,
-        n,
-        m,
-        tau,
-        t,
-    };
+    let shape = Field::of_degree(degree).map(|_| Shape::new(n, m, tau, t, degree));
+    let shape = shape.filter(Shape::in_range);
     for (name, function, rendering) in FUNCTIONS {
-        let answered = unsafe { function(n, m, tau, t) } + off;
-        let expected = if shape.in_range() {
-            rendering(&shape)
-        } else {
-            0
-        };
+        let answered = unsafe { function(n, m, tau, t, degree) } + off;
+        let expected = shape.as_ref().map_or(0, rendering);
         if answered != expected {
             return Err(format!(
-                "{name}({n}, {m}, {tau}, {t}) is {answered}, the rendering uses {expected}\n"
+                "{name}({n}, {m}, {tau}, {t}, {degree}) is {answered}, the rendering uses {expected}\n"
             ));
         }
     }

@@ -25,19 +25,21 @@ impl Lent {
 }
 
 #[no_mangle]
-pub unsafe extern "C" fn rendering_test(key: Lent, witness: Lent) -> u32 {
-    word(reference::test(key.input(), witness.input()))
+pub unsafe extern "C" fn rendering_test(key: Lent, degree: u32, witness: Lent) -> u32 {
+    word(reference::test(key.input(), degree, witness.input()))
 }
 
 #[no_mangle]
 pub unsafe extern "C" fn rendering_commit(
     key: Lent,
+    degree: u32,
     leaves: Lent,
     witness: Lent,
     out: Lent,
 ) -> u32 {
     word(reference::commit(
         key.input(),
+        degree,
         leaves.input(),
         witness.input(),
         out.output(),
@@ -45,9 +47,16 @@ pub unsafe extern "C" fn rendering_commit(
 }
 
 #[no_mangle]
-pub unsafe extern "C" fn rendering_hash(key: Lent, leaves: Lent, h: Lent, out: Lent) -> u32 {
+pub unsafe extern "C" fn rendering_hash(
+    key: Lent,
+    degree: u32,
+    leaves: Lent,
+    h: Lent,
+    out: Lent,
+) -> u32 {
     word(reference::hash(
         key.input(),
+        degree,
         leaves.input(),
         h.input(),
         out.output(),
@@ -57,6 +66,7 @@ pub unsafe extern "C" fn rendering_hash(key: Lent, leaves: Lent, h: Lent, out: L
 #[no_mangle]
 pub unsafe extern "C" fn rendering_batch(
     key: Lent,
+    degree: u32,
     leaves: Lent,
     witness: Lent,
     chi: Lent,
@@ -64,6 +74,7 @@ pub unsafe extern "C" fn rendering_batch(
 ) -> u32 {
     word(reference::batch(
         key.input(),
+        degree,
         leaves.input(),
         witness.input(),
         chi.input(),
@@ -74,6 +85,7 @@ pub unsafe extern "C" fn rendering_batch(
 #[no_mangle]
 pub unsafe extern "C" fn rendering_prove(
     key: Lent,
+    degree: u32,
     leaves: Lent,
     witness: Lent,
     h: Lent,
@@ -82,6 +94,7 @@ pub unsafe extern "C" fn rendering_prove(
 ) -> u32 {
     word(reference::prove(
         key.input(),
+        degree,
         leaves.input(),
         witness.input(),
         h.input(),
@@ -93,6 +106,7 @@ pub unsafe extern "C" fn rendering_prove(
 #[no_mangle]
 pub unsafe extern "C" fn rendering_verify(
     key: Lent,
+    degree: u32,
     delta: Lent,
     h: Lent,
     chi: Lent,
@@ -101,6 +115,7 @@ pub unsafe extern "C" fn rendering_verify(
 ) -> u32 {
     word(reference::verify(
         key.input(),
+        degree,
         delta.input(),
         h.input(),
         chi.input(),
@@ -116,17 +131,30 @@ pub struct Sizes {
     m: usize,
     tau: usize,
     t: usize,
+    degree: u32,
 }
 
-/// How many cases there are to start from: one for each of the light shapes with a size at a kernel's threshold.
+/// The light shapes with a size at a kernel's threshold, at degree 8 and then at degree 4.
+fn light() -> Vec<shapes::Sizes> {
+    let degrees = shapes::DEGREES.into_iter();
+    degrees.flat_map(shapes::light).collect()
+}
+
+/// How many cases there are to start from: one for each of them.
 #[no_mangle]
 pub extern "C" fn shape_count() -> usize {
-    shapes::light().len()
+    light().len()
 }
 
-/// The sizes of one of them. The first is small, with spare bits in every section.
+/// The sizes of one of them. The first of a degree is small, with spare bits in every section.
 #[no_mangle]
 pub extern "C" fn shape_sizes(which: usize) -> Sizes {
-    let (n, m, tau, t) = shapes::light()[which];
-    Sizes { n, m, tau, t }
+    let (n, m, tau, t, degree) = light()[which];
+    Sizes {
+        n,
+        m,
+        tau,
+        t,
+        degree,
+    }
 }

@@ -1,7 +1,7 @@
 //! The inputs: the toy of 01 and its changes, and random honest cases and their changes.
 
 use reference::cases::{case, Case, Random};
-use reference::field::GF256;
+use reference::check::DEGREE;
 use reference::key::Shape;
 use reference::prover::whole;
 use reference::strings::write_section;
@@ -268,7 +268,7 @@ pub fn limits() -> Vec<Input> {
     ]
     .iter()
     .map(|&(n, m, tau, t, line)| {
-        let bytes = framed(&honest(&case(1, n, m, tau, t)));
+        let bytes = framed(&honest(&case(1, n, m, tau, t, DEGREE)));
         assert_eq!(bytes.len() <= MOST, line != "unread 0 0");
         input(
             format!("honest, n = {n}, m = {m}, τ = {tau}, t = {t}"),
@@ -281,13 +281,7 @@ pub fn limits() -> Vec<Input> {
 
 /// The length of an input of these sizes.
 fn total(n: usize, m: usize, tau: usize, t: usize) -> usize {
-    let shape = Shape {
-        field: GF256,
-        n,
-        m,
-        tau,
-        t,
-    };
+    let shape = Shape::new(n, m, tau, t, DEGREE);
     let key = 8 + 12 + shape.key_sections().iter().sum::<usize>();
     let proof = 24 + shape.proof_sections().iter().sum::<usize>();
     let challenges = shape.delta_length() + shape.h_length() + shape.chi_length();
@@ -301,7 +295,7 @@ fn of_length(length: usize) -> Case {
             for t in 1..=288 {
                 for m in 1..=320 {
                     if total(n, m, tau, t) == length {
-                        return case(2, n, m, tau, t);
+                        return case(2, n, m, tau, t, DEGREE);
                     }
                 }
             }
@@ -387,7 +381,7 @@ pub fn random() -> Vec<Input> {
     for seed in 0..60 {
         let (n, m) = (1 + random.below(20), 1 + random.below(12));
         let (tau, t) = (1 + random.below(5), 1 + random.below(20));
-        let case = case(100 + seed, n, m, tau, t);
+        let case = case(100 + seed, n, m, tau, t, DEGREE);
         let sections = honest(&case);
         inputs.push(input(
             format!("random {seed}"),

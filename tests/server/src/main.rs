@@ -87,11 +87,11 @@ fn run(arguments: &Arguments) -> Result<(), String> {
 /// How many requests of the pool get each number, for each call.
 fn table(pool: &[Request]) {
     print!("{:8}", "number");
-    (0..16).for_each(|number| print!("{number:>5}"));
+    (0..19).for_each(|number| print!("{number:>5}"));
     println!();
     for (call, named) in CALLS.iter().enumerate() {
         print!("{:8}", named.name);
-        for number in 0..16 {
+        for number in 0..19 {
             let is = |request: &&Request| request.call == call && request.word >> 16 == number;
             print!("{:>5}", pool.iter().filter(is).count());
         }

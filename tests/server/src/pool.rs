@@ -17,14 +17,18 @@ pub struct Request {
 }
 
 /// The first so many of the pool have megabytes, and are sent once; so many after them are large, and are sent seldom.
-pub const LONGEST: usize = 16;
-pub const LARGE: usize = 9;
+pub const LONGEST: usize = 20;
+pub const LARGE: usize = 11;
 
 /// The longest key, with as few leaves as can be: the rendering is slow by the repetitions.
-const LONGEST_KEY: Sizes = (320, 320, 1, 288);
+const LONGEST_KEY: Sizes = (320, 320, 1, 288, 8);
+const LONGEST_KEY_AT_4: Sizes = (320, 320, 1, 288, 4);
+
+/// Both, and each request is made for one of them.
+const DEGREES: [u32; 2] = [8, 4];
 
 /// n, m, τ, t of the small requests; one far from the other too.
-const SHAPES: [Sizes; 10] = [
+const SHAPES: [(usize, usize, usize, usize); 10] = [
     (1, 1, 1, 1),
     (2, 1, 1, 1),
     (9, 3, 2, 5),
@@ -43,8 +47,9 @@ pub fn pool(random: &mut Random) -> Vec<Request> {
     pool.extend(large(random));
     assert_eq!(pool.len(), LONGEST + LARGE);
     for call in 0..CALLS.len() {
-        for shape in SHAPES {
-            for _ in 0..2 {
+        for (n, m, tau, t) in SHAPES {
+            for degree in DEGREES {
+                let shape = (n, m, tau, t, degree);
                 let inputs = honest(random, shape, &CALLS[call]);
                 pool.push(request(format!("{shape:?} honest"), call, &inputs));
                 for _ in 0..12 {
@@ -57,13 +62,16 @@ pub fn pool(random: &mut Random) -> Vec<Request> {
                 }
             }
         }
-        pool.extend(one_of_each(random, call));
+        for degree in DEGREES {
+            pool.extend(one_of_each(random, call, degree));
+        }
         for _ in 0..20 {
             let mut inputs = Inputs::default();
             for string in &mut inputs.strings {
                 *string = bytes(random, 300);
             }
             inputs.output = random.below(300);
+            inputs.degree = DEGREES[random.below(2)];
             pool.push(request("random bytes".to_string(), call, &inputs));
         }
     }
@@ -85,9 +93,16 @@ fn longest(random: &mut Random) -> Vec<Request> {
         let what = format!("the longest key, input {input} changed");
         pool.push(request(what, call, &damaged));
     }
-    for call in [2, verify] {
-        let inputs = honest(random, (2, 1, 48, 288), &CALLS[call]);
-        pool.push(request("the most leaves".to_string(), call, &inputs));
+    let mut inputs = honest(random, LONGEST_KEY_AT_4, &CALLS[verify]);
+    for call in [verify - 1, verify] {
+        inputs.output = CALLS[call].length(LONGEST_KEY_AT_4);
+        let what = "the longest key at degree 4".to_string();
+        pool.push(request(what, call, &inputs));
+    }
+    for (call, degree) in [(2, 8), (verify, 8), (2, 4), (verify, 4)] {
+        let inputs = honest(random, (2, 1, 48, 288, degree), &CALLS[call]);
+        let what = format!("the most leaves at degree {degree}");
+        pool.push(request(what, call, &inputs));
     }
     for (call, input, len) in [
         (verify, KEY, 4_108_861),
@@ -96,7 +111,7 @@ fn longest(random: &mut Random) -> Vec<Request> {
         (verify, PROOF, 19_849),
         (verify - 1, LEAVES, 1_600_000),
     ] {
-        let mut long = honest(random, (2, 1, 1, 1), &CALLS[call]);
+        let mut long = honest(random, (2, 1, 1, 1, 8), &CALLS[call]);
         long.strings[input].resize(len, 0);
         let what = format!("input {input} of {len} bytes");
         pool.push(request(what, call, &long));
@@ -109,7 +124,7 @@ fn large(random: &mut Random) -> Vec<Request> {
     let mut pool = Vec::new();
     let verify = CALLS.len() - 1;
     for call in 0..CALLS.len() {
-        let real = honest(random, (120, 40, 19, 112), &CALLS[call]);
+        let real = honest(random, (120, 40, 19, 112, 8), &CALLS[call]);
         pool.push(request("large, honest".to_string(), call, &real));
         for input in [KEY, OPENED, PROOF] {
             if call == verify {
@@ -120,12 +135,16 @@ fn large(random: &mut Random) -> Vec<Request> {
             }
         }
     }
+    for call in [verify - 1, verify] {
+        let real = honest(random, (120, 40, 43, 112, 4), &CALLS[call]);
+        pool.push(request("large, at degree 4".to_string(), call, &real));
+    }
     pool
 }
 
-/// Requests for each number that the call can answer; 11 also with several equations that fail. With n=9, m=3, τ=2, t=5
-/// every section has spare bits.
-fn one_of_each(random: &mut Random, call: usize) -> Vec<Request> {
+/// Requests for each number that the call can answer at a degree; 11 also with several equations that fail. With n=9,
+/// m=3, τ=2, t=5 every section has spare bits.
+fn one_of_each(random: &mut Random, call: usize, degree: u32) -> Vec<Request> {
     type Change = fn(&mut Inputs);
     fn spare(string: &mut [u8]) {
         *string.last_mut().unwrap() |= 0x80;
@@ -133,7 +152,7 @@ fn one_of_each(random: &mut Random, call: usize) -> Vec<Request> {
     fn change_y(inputs: &mut Inputs, bits: u8) {
         *inputs.strings[KEY].last_mut().unwrap() ^= bits;
     }
-    let changes: [(u32, Change); 18] = [
+    let changes: [(u32, Change); 24] = [
         (0, |_| {}),
         (1, |inputs| inputs.strings[KEY].truncate(7)),
         (2, |inputs| inputs.strings[KEY][4] = 49),
@@ -161,18 +180,37 @@ fn one_of_each(random: &mut Random, call: usize) -> Vec<Request> {
         (11, |inputs| change_y(inputs, 0b110)),
         (11, |inputs| change_y(inputs, 0b111)),
         (12, |inputs| inputs.strings[PROOF].push(0)),
-        (13, |inputs| inputs.strings[PROOF][13] |= 0x80), // the last byte of d
+        (13, |inputs| {
+            *inputs.strings[PROOF].iter_mut().nth_back(26).unwrap() |= 0x80 // the last byte of ũ
+        }),
         (14, |inputs| {
             *inputs.strings[PROOF].iter_mut().nth_back(12).unwrap() ^= 1 // that of Ṽ
         }),
         (15, |inputs| {
             *inputs.strings[PROOF].iter_mut().nth_back(6).unwrap() ^= 1 // that of QS0
         }),
+        (16, |inputs| inputs.degree = 5),
+        (16, |inputs| inputs.degree += 256),
+        (17, |inputs| {
+            for name in [DELTA, CHI] {
+                *inputs.strings[name].last_mut().unwrap() |= 0x10;
+            }
+        }),
+        (18, |inputs| {
+            *inputs.strings[PROOF].iter_mut().nth_back(12).unwrap() |= 0x10
+        }),
+        (18, |inputs| {
+            *inputs.strings[PROOF].iter_mut().nth_back(6).unwrap() |= 0x10
+        }),
+        (18, |inputs| {
+            *inputs.strings[PROOF].last_mut().unwrap() |= 0x10 // that of QS1
+        }),
     ];
-    let inputs = honest(random, (9, 3, 2, 5), &CALLS[call]);
+    let inputs = honest(random, (9, 3, 2, 5, degree), &CALLS[call]);
     let mut requests = Vec::new();
     for (number, change) in changes {
-        if CALLS[call].answers.contains(&number) {
+        // At degree 8 every byte is an element.
+        if CALLS[call].answers.contains(&number) && (degree == 4 || number < 17) {
             let mut changed = inputs.clone();
             change(&mut changed);
             let made = request(format!("made for {number}"), call, &changed);
@@ -188,6 +226,11 @@ fn damage(inputs: &mut Inputs, call: &Call, random: &mut Random) -> String {
     if call.has_output() && random.below(10) == 0 {
         inputs.output = random.below(inputs.output + 20);
         return ", output of another length".to_string();
+    }
+    if random.below(12) == 0 {
+        let others = [12 - inputs.degree % 12, 0, 1, 5, 12, 260, u32::MAX];
+        inputs.degree = others[random.below(others.len())];
+        return ", another degree".to_string();
     }
     let last = call.takes.len() - 1;
     let which = call.takes[random.below(2 * call.takes.len()).min(last)];
@@ -222,12 +265,19 @@ fn request(what: String, number: usize, inputs: &Inputs) -> Request {
     for name in call.takes {
         bytes.extend_from_slice(&(inputs.strings[*name].len() as u32).to_le_bytes());
         bytes.extend_from_slice(&inputs.strings[*name]);
+        if *name == KEY {
+            bytes.extend_from_slice(&inputs.degree.to_le_bytes());
+        }
     }
     if call.has_output() {
         bytes.extend_from_slice(&(inputs.output as u32).to_le_bytes());
     }
     let mut output = vec![0; inputs.output];
-    let word = word((call.rendering)(&inputs.strings, &mut output));
+    let word = word((call.rendering)(
+        &inputs.strings,
+        inputs.degree,
+        &mut output,
+    ));
     if word != 0 || !call.has_output() {
         output.clear();
     }

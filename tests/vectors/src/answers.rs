@@ -3,7 +3,7 @@
 
 use crate::calls::{Call, CALLS};
 use crate::damages::{change_all_y, change_proof, change_y, spare_in_last, Damage, DAMAGES};
-use crate::lent::{honest, toy, Lent};
+use crate::lent::{honest, toy, toy_at_degree_4, Lent};
 use crate::rsp::File;
 
 pub fn file() -> String {
@@ -11,36 +11,43 @@ pub fn file() -> String {
         "Solfadrus: answers, one call in each case. The form is that of README.md.",
         "Written by tests/vectors; every number below was answered by the Rust rendering, tests/reference.",
     ]);
-    let base = base();
-    for call in CALLS {
-        for damage in damages(call) {
-            let mut lent = base.clone();
-            (damage.make)(&mut lent);
-            let word = damage.number * 65_536 + damage.place;
-            add(&mut file, call, &lent, damage.what, word);
+    for degree in [8, 4] {
+        let base = base(degree);
+        for call in CALLS {
+            for damage in damages(call, degree) {
+                let mut lent = base.clone();
+                (damage.make)(&mut lent);
+                let word = damage.number * 65_536 + damage.place;
+                add(&mut file, call, &lent, damage.what, word);
+            }
+            both(&mut file, call, &base);
         }
-        both(&mut file, call, &base);
+        notes(&mut file, &base);
+        first_equations(&mut file, degree);
+        last_places(&mut file, degree);
     }
-    notes(&mut file, &base);
-    first_equations(&mut file);
-    last_places(&mut file);
     toy_answers(&mut file);
+    toy_answers_at_degree_4(&mut file);
     file.text()
 }
 
 /// The case that is damaged: all its strings have spare bits.
-fn base() -> Lent {
-    let mut lent = honest(2026, 3, 3, 2, 2);
-    lent.open_at(&[0x35, 0xC2]);
+fn base(degree: u32) -> Lent {
+    let mut lent = honest(2026, [3, 3, 2, 2], degree);
+    lent.open_at(if degree == 8 {
+        &[0x35, 0xC2]
+    } else {
+        &[0x05, 0x0C]
+    });
     lent
 }
 
 /// The damages that concern a call.
-fn damages(call: Call) -> impl Iterator<Item = &'static Damage> {
-    let lent = base();
+fn damages(call: Call, degree: u32) -> impl Iterator<Item = &'static Damage> {
+    let lent = base(degree);
     let inputs: Vec<&str> = call.inputs(&lent).iter().map(|(name, _)| *name).collect();
     DAMAGES.iter().filter(move |damage| {
-        call.questions().contains(&damage.number)
+        call.questions(degree).contains(&damage.number)
             && (damage.input == "out" || inputs.contains(&damage.input))
     })
 }
@@ -48,11 +55,11 @@ fn damages(call: Call) -> impl Iterator<Item = &'static Damage> {
 /// Two questions that follow each other both get a no: the answer is the first.
 fn both(file: &mut File, call: Call, base: &Lent) {
     let first = |number| {
-        damages(call)
+        damages(call, base.degree)
             .find(|damage| damage.number == number)
             .unwrap_or_else(|| panic!("no damage for {number} of {}", call.name()))
     };
-    for pair in call.questions().windows(2) {
+    for pair in call.questions(base.degree).windows(2) {
         let (earlier, later) = (first(pair[0]), first(pair[1]));
         let mut lent = base.clone();
         (later.make)(&mut lent);
@@ -82,11 +89,21 @@ fn notes(file: &mut File, base: &Lent) {
         let what = "batching has one byte less, and a spare bit in hash_matrix";
         add(file, call, &lent, what, 5 * 65_536);
     }
+
+    // A key serves at both degrees, and what was made for one is none for the other.
+    let mut lent = base.clone();
+    lent.degree = 12 - base.degree;
+    let batch = if base.degree == 8 { 17 } else { 7 };
+    let numbers = [0, 7, 5, batch, 5, 5];
+    for (call, number) in CALLS.into_iter().zip(numbers) {
+        let what = "the degree is the other one";
+        add(file, call, &lent, what, number * 65_536);
+    }
 }
 
 /// Where several equations fail the lowest is named, in every call that takes a witness. y has three bytes.
-fn first_equations(file: &mut File) {
-    let honest = honest(20, 3, 20, 1, 2);
+fn first_equations(file: &mut File, degree: u32) {
+    let honest = honest(20, [3, 20, 1, 2], degree);
     let all: Vec<usize> = (0..20).collect();
     let cases: [(&[usize], &str); 6] = [
         (&[0, 7, 19], "equations 0, 7 and 19 of 20 fail"),
@@ -98,7 +115,7 @@ fn first_equations(file: &mut File) {
     ];
     for call in CALLS
         .into_iter()
-        .filter(|call| call.questions().contains(&11))
+        .filter(|call| call.questions(degree).contains(&11))
     {
         for (equations, what) in cases {
             let mut lent = honest.clone();
@@ -109,19 +126,23 @@ fn first_equations(file: &mut File) {
     }
 }
 
-/// The highest place of 11; and of 14 and 15 the last of nine repetitions, since more would make the leaves too long.
-fn last_places(file: &mut File) {
-    let mut lent = honest(160, 2, 320, 1, 1);
+/// The highest place of 11; and of 14 and 15 the last repetition: at degree 8 of nine, since more would make the leaves
+/// too long, at degree 4 of 48.
+fn last_places(file: &mut File, degree: u32) {
+    let mut lent = honest(160, [2, 320, 1, 1], degree);
     change_y(&mut lent, 319);
     let what = "equation 319 of 320 fails";
     add(file, Call::Test, &lent, what, 11 * 65_536 + 319);
 
-    let lent = honest(9, 1, 1, 9, 1);
+    let tau = if degree == 8 { 9 } else { 48 };
+    let lent = honest(9, [1, 1, tau, 1], degree);
+    let last = tau - 1;
     for (section, name, number) in [(3, "V~", 14), (4, "QS0", 15)] {
         let mut lent = lent.clone();
-        change_proof(&mut lent, section, 8);
-        let what = format!("{name} of repetition 8 of 9 is changed");
-        add(file, Call::Verify, &lent, &what, number * 65_536 + 8);
+        change_proof(&mut lent, section, last);
+        let what = format!("{name} of repetition {last} of {tau} is changed");
+        let word = number * 65_536 + last as u32;
+        add(file, Call::Verify, &lent, &what, word);
     }
 }
 
@@ -153,6 +174,32 @@ fn toy_answers(file: &mut File) {
     add(file, Call::Test, &other_key, "the toy, y = 0", 11 * 65_536);
 }
 
+/// The toy at degree 4, QS1 changed: with y = 0 it is accepted at 00 and 0B only.
+fn toy_answers_at_degree_4(file: &mut File) {
+    let toy = toy_at_degree_4();
+    let last = toy.proof.len() - 1;
+    let mut forged = toy.clone();
+    forged.proof[last] = 0x0E;
+    let mut other_key = forged.clone();
+    change_y(&mut other_key, 0);
+    let (zero, both) = ("QS1 changed to 0E", "y = 0 and QS1 = 0E");
+    let cases: [(&Lent, &str, u8, u32); 7] = [
+        (&toy, "as it is", 0x03, 0),
+        (&toy, "as it is", 0x0F, 0),
+        (&forged, zero, 0x03, 15 * 65_536),
+        (&forged, zero, 0x00, 0),
+        (&other_key, both, 0x00, 0),
+        (&other_key, both, 0x0B, 0),
+        (&other_key, both, 0x0A, 15 * 65_536),
+    ];
+    for (lent, what, delta, word) in cases {
+        let mut lent = lent.clone();
+        lent.open_at(&[delta]);
+        let what = format!("the toy at degree 4, {what}");
+        add(file, Call::Verify, &lent, &what, word);
+    }
+}
+
 /// Writes a case. What is written is the rendering's answer; `meant` is that of 01, and must be the same.
 fn add(file: &mut File, call: Call, lent: &Lent, what: &str, meant: u32) {
     let (word, out) = call.answer(lent);
@@ -160,6 +207,7 @@ fn add(file: &mut File, call: Call, lent: &Lent, what: &str, meant: u32) {
     file.case();
     file.line("call", call.name());
     file.line("what", what);
+    file.line("degree", &lent.degree.to_string());
     for (name, bytes) in call.inputs(lent) {
         file.bytes(name, bytes);
     }

@@ -36,16 +36,19 @@ impl Call {
         }
     }
 
-    /// The questions that it puts, in order: the columns of docs/REFUSALS.md.
-    pub fn questions(self) -> &'static [u32] {
-        match self {
-            Call::Test => &[1, 2, 3, 4, 9, 11],
-            Call::Commit => &[1, 2, 3, 4, 7, 8, 9, 10, 11],
-            Call::Hash => &[1, 2, 3, 4, 5, 6, 7, 8, 10],
-            Call::Batch => &[1, 2, 3, 4, 5, 7, 8, 9, 10, 11],
-            Call::Prove => &[1, 2, 3, 4, 5, 6, 7, 8, 9, 10, 11],
-            Call::Verify => &[1, 2, 3, 4, 5, 6, 7, 8, 12, 13, 14, 15],
-        }
+    /// The questions that it puts, in order: the columns of docs/REFUSALS.md. At degree 8 every byte is an element, so
+    /// that 17 and 18 get no no.
+    pub fn questions(self, degree: u32) -> Vec<u32> {
+        let all: &[u32] = match self {
+            Call::Test => &[16, 1, 2, 3, 4, 9, 11],
+            Call::Commit => &[16, 1, 2, 3, 4, 7, 8, 9, 10, 11],
+            Call::Hash => &[16, 1, 2, 3, 4, 5, 6, 7, 8, 10],
+            Call::Batch => &[16, 1, 2, 3, 4, 5, 17, 7, 8, 9, 10, 11],
+            Call::Prove => &[16, 1, 2, 3, 4, 5, 6, 17, 7, 8, 9, 10, 11],
+            Call::Verify => &[16, 1, 2, 3, 4, 5, 6, 17, 7, 8, 12, 13, 18, 14, 15],
+        };
+        let put = |number: &u32| degree == 4 || ![17, 18].contains(number);
+        all.iter().copied().filter(put).collect()
     }
 
     /// Its inputs by the header's names, in the header's order.
@@ -95,15 +98,25 @@ impl Call {
             batching,
             ..
         } = lent;
+        let degree = lent.degree;
         let mut out = vec![0; self.out_len(lent)];
         let answer = match self {
-            Call::Test => reference::test(key, witness),
-            Call::Commit => reference::commit(key, leaves, witness, &mut out),
-            Call::Hash => reference::hash(key, leaves, hash_matrix, &mut out),
-            Call::Batch => reference::batch(key, leaves, witness, batching, &mut out),
-            Call::Prove => reference::prove(key, leaves, witness, hash_matrix, batching, &mut out),
+            Call::Test => reference::test(key, degree, witness),
+            Call::Commit => reference::commit(key, degree, leaves, witness, &mut out),
+            Call::Hash => reference::hash(key, degree, leaves, hash_matrix, &mut out),
+            Call::Batch => reference::batch(key, degree, leaves, witness, batching, &mut out),
+            Call::Prove => reference::prove(
+                key,
+                degree,
+                leaves,
+                witness,
+                hash_matrix,
+                batching,
+                &mut out,
+            ),
             Call::Verify => reference::verify(
                 key,
+                degree,
                 &lent.delta,
                 hash_matrix,
                 batching,

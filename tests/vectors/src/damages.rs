@@ -104,9 +104,24 @@ pub fn spare_in_last(strings: &mut [u8]) {
     *strings.last_mut().unwrap() |= 0x80;
 }
 
-/// All damages, by rising number. The first of a number is the one that is joined to others.
+/// A byte that is no element at degree 4, in a section of the proof.
+fn no_element_in_proof(lent: &mut Lent, section: usize, byte: usize, bits: u8) {
+    let at = lent.proof_section(section) + 4 + byte;
+    lent.proof[at] |= bits;
+}
+
+/// All damages, by the order of the questions. The first of a number is the one that is joined to others.
 #[rustfmt::skip]
 pub const DAMAGES: &[Damage] = &[
+    damage(16, "key", "the degree is 5", |l| l.degree = 5),
+    damage(16, "key", "the degree is 0", |l| l.degree = 0),
+    damage(16, "key", "the degree is 1", |l| l.degree = 1),
+    damage(16, "key", "the degree is 12", |l| l.degree = 12),
+    damage(16, "key", "the degree is 260, whose low byte is 4", |l| l.degree = 260),
+    damage(16, "key", "the degree is 264, whose low byte is 8", |l| l.degree = 264),
+    damage(16, "key", "the degree is FFFFFFFF", |l| l.degree = u32::MAX),
+    damage(16, "key", "the degree is 0, and the key is empty", |l| { l.degree = 0; l.key.clear() }),
+
     damage(1, "key", "the key has 7 bytes", |l| l.key.truncate(7)),
     damage(1, "key", "the key is empty", |l| l.key.clear()),
 
@@ -146,6 +161,11 @@ pub const DAMAGES: &[Damage] = &[
 
     damage(6, "hash_matrix", "a spare bit in the first row of hash_matrix", |l| { let k = l.shape.k(); spare_in_first(&mut l.hash_matrix, k) }),
     damage(6, "hash_matrix", "a spare bit in the last row of hash_matrix", |l| spare_in_last(&mut l.hash_matrix)),
+
+    damage(17, "batching", "the first byte of batching is 10 or more", |l| l.batching[0] |= 0x10),
+    damage(17, "batching", "the last byte of batching is 80 or more", |l| *l.batching.last_mut().unwrap() |= 0x80),
+    damage(17, "delta", "the first byte of delta is 10 or more", |l| l.delta[0] |= 0x10),
+    damage(17, "delta", "the last byte of delta is 80 or more", |l| *l.delta.last_mut().unwrap() |= 0x80),
 
     damage(7, "leaves", "the leaves have one byte less", |l| { l.leaves.pop(); }),
     damage(7, "leaves", "the leaves have one byte more", |l| l.leaves.push(0)),
@@ -188,6 +208,13 @@ pub const DAMAGES: &[Damage] = &[
     damage(13, "proof", "a spare bit in C", |l| spare_in_proof(l, 0)),
     damage(13, "proof", "a spare bit in d", |l| spare_in_proof(l, 1)),
     damage(13, "proof", "a spare bit in u~", |l| spare_in_proof(l, 2)),
+
+    damage(18, "proof", "the first byte of V~ is 10 or more", |l| no_element_in_proof(l, 3, 0, 0x10)),
+    damage(18, "proof", "the last byte of V~ is 80 or more", |l| { let last = l.shape.tau * l.shape.t - 1; no_element_in_proof(l, 3, last, 0x80) }),
+    damage(18, "proof", "the first byte of QS0 is 10 or more", |l| no_element_in_proof(l, 4, 0, 0x10)),
+    damage(18, "proof", "the last byte of QS0 is F0 or more", |l| no_element_in_proof(l, 4, 1, 0xF0)),
+    damage(18, "proof", "the first byte of QS1 is 10 or more", |l| no_element_in_proof(l, 5, 0, 0x10)),
+    damage(18, "proof", "the last byte of QS1 is 20 or more", |l| no_element_in_proof(l, 5, 1, 0x20)),
 
     placed(14, 1, "proof", "the first byte of V~ of repetition 1 is changed", |l| { let t = l.shape.t; change_proof(l, 3, t) }),
     placed(14, 0, "proof", "the first byte of V~ of repetition 0 is changed", |l| change_proof(l, 3, 0)),

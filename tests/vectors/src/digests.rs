@@ -6,12 +6,16 @@ use crate::lent::{with_proof, Lent};
 use crate::rsp::File;
 use crate::sha256::sha256;
 use reference::cases::{key_bytes, Case};
-use reference::field::GF256;
 use reference::key::{Key, Shape};
 use reference::strings::{bytes_for, unpack};
 
-/// The sizes in use, and the largest: n, m, tau, t. The seed is the case's number.
-const SHAPES: [[usize; 4]; 2] = [[150, 150, 19, 144], [320, 320, 48, 288]];
+/// The sizes in use, and the largest, at each degree: n, m, tau, t. The seed is the case's number.
+const SHAPES: [([usize; 4], u32); 4] = [
+    ([150, 150, 19, 144], 8),
+    ([320, 320, 48, 288], 8),
+    ([150, 150, 43, 144], 4),
+    ([320, 320, 48, 288], 4),
+];
 
 pub fn file() -> String {
     let mut file = File::new(&[
@@ -19,15 +23,8 @@ pub fn file() -> String {
         "are expanded from the seed. Form and expansion are those of README.md.",
         "Written by tests/vectors; what is hashed was computed by the Rust rendering, tests/reference.",
     ]);
-    for (seed, [n, m, tau, t]) in SHAPES.into_iter().enumerate() {
-        let field = GF256;
-        let shape = Shape {
-            field,
-            n,
-            m,
-            tau,
-            t,
-        };
+    for (seed, ([n, m, tau, t], degree)) in SHAPES.into_iter().enumerate() {
+        let shape = Shape::new(n, m, tau, t, degree);
         add(
             &mut file,
             seed as u64,
@@ -91,10 +88,10 @@ fn expanded(seed: u64, shape: Shape) -> Case {
         shape,
         key: key_bytes(&shape, &a, &b, &y),
         witness,
-        leaves: from.strings(256 * tau, shape.l()),
+        leaves: from.strings(shape.field.size * tau, shape.l()),
         h: from.strings(shape.t, shape.k()),
-        chi: from.strings(tau * m, 8),
-        delta: from.strings(tau, 8),
+        chi: from.strings(tau * m, shape.field.degree),
+        delta: from.strings(tau, shape.field.degree),
     }
 }
 

@@ -1,13 +1,15 @@
 //! What is lent to the calls: the byte strings by the header's names, and the output's length.
 
 use reference::cases::{case, key_bytes, Case};
-use reference::field::GF256;
 use reference::key::Shape;
+use reference::toys::lent_at_degree_4;
 use reference::{open_leaves, prove, Answer};
 
 #[derive(Clone, Debug)]
 pub struct Lent {
     pub shape: Shape,
+    /// Lent beside the key. The strings were made for that of the shape.
+    pub degree: u32,
     pub key: Vec<u8>,
     pub witness: Vec<u8>,
     pub leaves: Vec<u8>,
@@ -21,19 +23,13 @@ pub struct Lent {
 }
 
 /// An honest prover's and verifier's strings, at random: the rendering's own case of this seed, and its proof.
-pub fn honest(seed: u64, n: usize, m: usize, tau: usize, t: usize) -> Lent {
-    with_proof(case(seed, n, m, tau, t))
+pub fn honest(seed: u64, [n, m, tau, t]: [usize; 4], degree: u32) -> Lent {
+    with_proof(case(seed, n, m, tau, t, degree))
 }
 
 /// 01's toy, at Δ = 02.
 pub fn toy() -> Lent {
-    let shape = Shape {
-        field: GF256,
-        n: 2,
-        m: 1,
-        tau: 1,
-        t: 1,
-    };
+    let shape = Shape::new(2, 1, 1, 1, 8);
     let mut leaves = vec![0; 512];
     leaves[4..8].copy_from_slice(&[0x05, 0x00, 0x02, 0x04]);
     with_proof(Case {
@@ -47,11 +43,17 @@ pub fn toy() -> Lent {
     })
 }
 
+/// The toy at degree 4, at Δ = 03.
+pub fn toy_at_degree_4() -> Lent {
+    with_proof(lent_at_degree_4())
+}
+
 /// The rendering's proof added.
 pub fn with_proof(case: Case) -> Lent {
     let mut proof = vec![0; case.proof_length()];
     let answer = prove(
         &case.key,
+        case.degree(),
         &case.leaves,
         &case.witness,
         &case.h,
@@ -61,6 +63,7 @@ pub fn with_proof(case: Case) -> Lent {
     assert_eq!(answer, Answer::Accepted);
     Lent {
         shape: case.shape,
+        degree: case.degree(),
         opened: case.opened(),
         key: case.key,
         witness: case.witness,

@@ -1,17 +1,17 @@
 //! proofs.rsp: honest cases, with the bytes that each step and the whole prover write.
 
 use crate::calls::{Call, CALLS};
-use crate::lent::{honest, toy, Lent};
+use crate::lent::{honest, toy, toy_at_degree_4, Lent};
 use crate::rsp::File;
 
 /// Sizes of n, m and t: the edges of a byte.
 const EDGES: [usize; 4] = [1, 7, 8, 9];
 
-/// Sizes of tau, whose coordinates always fill whole bytes.
+/// Sizes of tau: at degree 8 its coordinates fill whole bytes, at degree 4 half ones too.
 const REPETITIONS: [usize; 4] = [1, 2, 3, 9];
 
-/// Sizes of every case: n, m, tau, t.
-fn shapes() -> Vec<[usize; 4]> {
+/// Sizes of every case at a degree: n, m, tau, t.
+fn shapes(degree: u32) -> Vec<[usize; 4]> {
     let mut shapes = Vec::new();
     // Over the field of four elements (sums are exclusive ors) the columns a, b, a+b, a+2b: in any two of them, each
     // pair of values comes once.
@@ -20,9 +20,15 @@ fn shapes() -> Vec<[usize; 4]> {
             shapes.push([EDGES[a], EDGES[b], REPETITIONS[a ^ b], EDGES[a ^ double]]);
         }
     }
-    // The limits of n, m and t, the other sizes small; of tau only five, since at its limit the leaves would have more
-    // than half a megabyte. And one with several words to each string.
-    shapes.extend([[320, 2, 1, 3], [2, 320, 1, 3], [3, 2, 5, 4], [3, 2, 1, 288]]);
+    // The limits of n, m and t, the other sizes small; of tau at degree 8 only five, since at its limit the leaves would
+    // have more than half a megabyte. And one with several words to each string.
+    let tau = if degree == 8 { 5 } else { 48 };
+    shapes.extend([
+        [320, 2, 1, 3],
+        [2, 320, 1, 3],
+        [3, 2, tau, 4],
+        [3, 2, 1, 288],
+    ]);
     shapes.push([70, 17, 3, 65]);
     shapes
 }
@@ -31,11 +37,13 @@ pub fn file() -> String {
     let mut file = File::new(&[
         "Solfadrus: honest proofs. The form is that of README.md.",
         "Written by tests/vectors; every byte below was computed by the Rust rendering, tests/reference.",
-        "Case 0 is the toy of the scope paper; the others are random, from a fixed seed.",
+        "At each degree the first case is a toy, at 8 that of the scope paper; the others are random, from a fixed seed.",
     ]);
-    add(&mut file, &toy());
-    for (seed, [n, m, tau, t]) in shapes().into_iter().enumerate() {
-        add(&mut file, &honest(seed as u64, n, m, tau, t));
+    for (toy, degree) in [(toy(), 8), (toy_at_degree_4(), 4)] {
+        add(&mut file, &toy);
+        for (seed, sizes) in shapes(degree).into_iter().enumerate() {
+            add(&mut file, &honest(seed as u64, sizes, degree));
+        }
     }
     file.text()
 }

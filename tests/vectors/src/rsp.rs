@@ -19,13 +19,14 @@ impl File {
         File { text, cases: 0 }
     }
 
-    /// The sizes of the cases that follow.
+    /// The sizes of the cases that follow, and their degree.
     pub fn sizes(&mut self, shape: &Shape) {
         let sizes = [
             ("n", shape.n),
             ("m", shape.m),
             ("tau", shape.tau),
             ("t", shape.t),
+            ("degree", shape.field.degree),
         ];
         for (name, size) in sizes {
             self.text += &format!("[{name} = {size}]\n");
