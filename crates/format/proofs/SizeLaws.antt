@@ -17,7 +17,7 @@ use Rattle.protocol.specs.Setting.{Setting, alphabetOf}
 use Rattle.protocol.specs.Frames.{framedLength}
 use Rattle.protocol.specs.Key.{keyLengths}
 use Rattle.protocol.specs.Sections.{lengths, commitLengths, hashLengths, batchLengths}
-use Rattle.protocol.specs.Shape.{Shape, within, mostVariables, mostEquations, mostRepetitions, mostHashRows, limits, kOf, lOf, wOf}
+use Rattle.protocol.specs.Shape.{Shape, within, mostVariables, leastEquations, mostEquations, mostRepetitions, mostHashRows, limits, kOf, lOf, wOf}
 use Rattle.format.specs.Limits.{mostHashed, mostLeaf, mostRow, mostWitness}
 use Rattle.protocol.proofs.TestLaws.{leb-le, all-true}
 use Rattle.protocol.proofs.LimitLaws.{within-le}
@@ -25,30 +25,28 @@ use Rattle.protocol.proofs.LimitLaws.{within-le}
 pub record InLimits (s : Shape) : Type 0 where
   pub n-least : 1 ≤ s .n
   pub n-most : s .n ≤ mostVariables
-  pub m-least : 1 ≤ s .m
   pub m-most : s .m ≤ mostEquations
   pub τ-least : 1 ≤ s .τ
   pub τ-most : s .τ ≤ mostRepetitions
   pub t-least : 1 ≤ s .t
   pub t-most : s .t ≤ mostHashRows
 
-least : (most x : ℕ) → within most x ≡ true → 1 ≤ x
+least : (most x : ℕ) → within 1 most x ≡ true → 1 ≤ x
 unfolding within
 least most x h = leb-le 1 x (and-left (leb 1 x) (leb x most) h)
 
 pub in-limits : (s : Shape) → limits s ≡ true → InLimits s
 unfolding limits
 in-limits s h =
-    let a = all-true (within mostVariables (s .n) ∷ within mostEquations (s .m) ∷ within mostRepetitions (s .τ) ∷ within mostHashRows (s .t) ∷ []) h in
+    let a = all-true (within 1 mostVariables (s .n) ∷ within leastEquations mostEquations (s .m) ∷ within 1 mostRepetitions (s .τ) ∷ within 1 mostHashRows (s .t) ∷ []) h in
     record {
       n-least = least mostVariables (s .n) (a .0);
-      n-most = within-le mostVariables (s .n) (a .0);
-      m-least = least mostEquations (s .m) (a .1 .0);
-      m-most = within-le mostEquations (s .m) (a .1 .0);
+      n-most = within-le 1 mostVariables (s .n) (a .0);
+      m-most = within-le leastEquations mostEquations (s .m) (a .1 .0);
       τ-least = least mostRepetitions (s .τ) (a .1 .1 .0);
-      τ-most = within-le mostRepetitions (s .τ) (a .1 .1 .0);
+      τ-most = within-le 1 mostRepetitions (s .τ) (a .1 .1 .0);
       t-least = least mostHashRows (s .t) (a .1 .1 .1 .0);
-      t-most = within-le mostHashRows (s .t) (a .1 .1 .1 .0);
+      t-most = within-le 1 mostHashRows (s .t) (a .1 .1 .1 .0);
     }
 
 -- the bytes of at most so many bits

@@ -31,6 +31,9 @@ pub const BINARY: usize = 2;
 // The limits of 01, in one place.
 pub const MOST_VARIABLES: usize = 320;
 
+// A key may have no equations (request 12); of everything else it has at least one.
+const LEAST_EQUATIONS: usize = 0;
+
 pub const MOST_EQUATIONS: usize = 320;
 
 pub const MOST_REPETITIONS: usize = 48;
@@ -79,10 +82,10 @@ pub fn degree_served(s: Sizes) -> bool
     (degree == Gf256::DEGREE) | (degree == Gf16::DEGREE)
 }
 
-fn in_range(most: usize, x: usize) -> bool
-    ensures { λ r. ⌜ r ≡ within most x ⌝ }
+fn in_range(least: usize, most: usize, x: usize) -> bool
+    ensures { λ r. ⌜ r ≡ within least most x ⌝ }
 {
-    (1 <= x) & (x <= most)
+    (least <= x) & (x <= most)
 }
 
 // Question 2: are the sizes in range?
@@ -93,10 +96,10 @@ pub fn in_limits(s: Sizes) -> bool
     let m = s.m;
     let tau = s.tau;
     let t = s.t;
-    in_range(MOST_VARIABLES, n)
-        & in_range(MOST_EQUATIONS, m)
-        & in_range(MOST_REPETITIONS, tau)
-        & in_range(MOST_HASH_ROWS, t)
+    in_range(1, MOST_VARIABLES, n)
+        & in_range(LEAST_EQUATIONS, MOST_EQUATIONS, m)
+        & in_range(1, MOST_REPETITIONS, tau)
+        & in_range(1, MOST_HASH_ROWS, t)
 }
 
 // ⌈bits/8⌉, the bytes of a string of bits.

@@ -9,10 +9,9 @@ use Rattle.protocol.proofs.Computing.{computing}
 pub limits-are : Limits
 unfolding computing
 limits-are = record {
-  least = refl;
+  least = refl; one-each = refl;
   most = refl;
   n-none = refl;
-  m-none = refl;
   τ-none = refl;
   t-none = refl;
   n-over = refl;

@@ -28,3 +28,4 @@ pub mod ElementLaws
 pub mod Published
 pub mod Theorems
 pub mod Demands
+pub mod NoEquations

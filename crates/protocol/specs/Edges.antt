@@ -32,10 +32,10 @@ abbrev pub largest : Shape
 largest = record { n = 320; m = 320; τ = 48; t = 288 }
 
 pub record Limits : Type 0 where
-  pub least : allowed 1 1 1 1 ≡ true
+  pub least : allowed 1 0 1 1 ≡ true
+  pub one-each : allowed 1 1 1 1 ≡ true
   pub most : allowed 320 320 48 288 ≡ true
   pub n-none : allowed 0 1 1 1 ≡ false
-  pub m-none : allowed 1 0 1 1 ≡ false
   pub τ-none : allowed 1 1 0 1 ≡ false
   pub t-none : allowed 1 1 1 0 ≡ false
   pub n-over : allowed 321 320 48 288 ≡ false

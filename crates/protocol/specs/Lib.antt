@@ -24,6 +24,7 @@ pub mod Demands
 pub mod SmallExample
 pub mod ThreeRepetitions
 pub mod QuestionNumbers
+pub mod NoEquations
 pub mod Edges
 pub mod Refusals
 pub mod CheckEdges

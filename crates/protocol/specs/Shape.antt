@@ -2,7 +2,8 @@
 --   n variables, m equations, τ repetitions, t hash rows;  shapeOf key == the sizes in the header of a key
 --   mostVariables, mostEquations, mostRepetitions, mostHashRows == the largest n, m, τ, t;  limits s == the sizes are
 --     in range
---   within most x == 1 ≤ x ≤ most
+--   leastEquations == the fewest equations, 0: a practice key (request 12). Of the others at least 1
+--   within least most x == least ≤ x ≤ most
 --   maskAt A s e == the first mask coordinate of repetition e: each repetition has a mask of its own, one after another
 --     from n on (request 4; in 01 one mask serves all)
 --   kOf == k = n + rτ, r mask coordinates for each repetition: the coordinates that H′ covers
@@ -29,11 +30,14 @@ pub record Shape : Type 0 where
 abbrev pub shapeOf : List ℕ → Shape
 shapeOf key = record { n = num2 key 0; m = num2 key 2; τ = num2 key 4; t = num2 key 6 }
 
-unfoldable pub within : ℕ → ℕ → Bool
-within most x = leb 1 x && leb x most
+unfoldable pub within : ℕ → ℕ → ℕ → Bool
+within least most x = leb least x && leb x most
 
 abbrev pub mostVariables : ℕ
 mostVariables = 320
+
+abbrev pub leastEquations : ℕ
+leastEquations = 0
 
 abbrev pub mostEquations : ℕ
 mostEquations = 320
@@ -45,7 +49,7 @@ abbrev pub mostHashRows : ℕ
 mostHashRows = 288
 
 unfoldable pub limits : Shape → Bool
-limits s = allTrue (within mostVariables (s .n) ∷ within mostEquations (s .m) ∷ within mostRepetitions (s .τ) ∷ within mostHashRows (s .t) ∷ [])
+limits s = allTrue (within 1 mostVariables (s .n) ∷ within leastEquations mostEquations (s .m) ∷ within 1 mostRepetitions (s .τ) ∷ within 1 mostHashRows (s .t) ∷ [])
 
 module _ (A : Alphabet) where
   unfoldable pub perTree : ℕ
