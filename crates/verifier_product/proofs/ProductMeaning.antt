@@ -67,7 +67,6 @@ module _ (g : Setting) where
 
   infixl 65 _⊕_
   infixl 70 _⊗_
-
   module _ (s : Shape) (p : Sections) (e δ : ℕ) (small : δ < size) (w : ℕ → F) where
     module _ (key χ : List ℕ) (f : ℕ → ℕ) (front : (c : ℕ) → c < s .n → f c ≡ byte (keyAt A s p (elem δ) w c)) where
       abbrev K : ℕ → F

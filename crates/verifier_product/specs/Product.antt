@@ -1,18 +1,19 @@
--- The product check on bytes, as the code makes it, and what is said of it; d is the degree of the field.
+-- The product check on bytes, as the code makes it, and what is said of it. In SpaceRoom, TableNarrow and
+-- FirstDiffers A is the alphabet, elsewhere a section of the key; g is the setting, and a d that comes first the degree.
 --   KeyLanes n d Δ T T′ == the first n coordinates of T′ are those of T plus δ_e·d, in every lane e
 --   EquationsOf s A b y χ == the sections of a key of sizes s that are in range, and its batching bytes
 --   valueByte m χ y e == Σ_i χ(e, i)·y_i
 --   productByte d n m A b y χ e δ f == the left side of repetition e at its vector f, but for the mask: the batched
 --     f·A·f, plus δ times the batched b·f, plus δ² times the batched y
 --   LeftSides d s A b y χ Δ f left left′ == to byte e of left that of repetition e is added, f e being its vector
---   maskedByte g s A b y χ e δ T f == the whole left side of repetition e: its mask, of the coordinates in lane e of the
---     table T, plus productByte
+--   maskedByte g s A b y χ e δ T f == the whole left side of repetition e: its mask, of the coordinates in lane e of
+--     the table T, plus productByte
 --   firstDiffering d == the first repetition whose left side is not QS0 + QS1·δ, or their number
---   TableNarrow A s T == the first n coordinates of T are elements of the field, in the lane of every repetition
+--   TableNarrow A s T == the first n coordinates in the lane of every repetition are elements of the field
 --   SpaceRoom A s space == the space is no shorter than the table of the W_e, nor than the cells of the forms: it is
---     first the one, and then the other; A is the alphabet
---   FirstDiffers A s key Δ χ proof table r == r is the first repetition whose product differs, or their number, whatever
---     leaves were opened into the table
+--     first the one, and then the other
+--   FirstDiffers A s key Δ χ proof table r == r is the first repetition whose product differs, or their number,
+--     whatever leaves were opened into the table
 -- Assumes nothing.
 use mathlib.Core.Path.{_≡_}
 use mathlib.Core.Bool.{true}

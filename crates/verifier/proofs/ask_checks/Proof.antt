@@ -141,8 +141,10 @@ check-product-requires c κs =
     let long = whole (8 * c .before .before .before .before .before .before .before .before .before .before .before .before .leaf-bytes .result * lanes) (c .before .before .before .before .before .before .before .before .load-opened .last .0) (now (s .args .space)) (begins (c .before .before .before .before .before .before .before .before .before .before .before .before)) (table-long (c .before .before .before .before .before .before .before .before)) in
     let sent = sent-elements (alphabetFor (s .args .s)) (shapeFor (s .args .s)) _ (facts .proof-elements) in (
       (facts .of-key, (facts .of-proof, s .pre .0 .1), facts .of-challenge),
-      ((facts .of-batching, (omega (arith, long, s .pre .1 .0), omega (arith, long, s .pre .1 .1))),
-      (facts .of-elements, facts .χ-elements, sent .1, opened-narrow (settingFor (s .args .s)) (shapeFor (s .args .s)) (now (s .args .delta)) (now (s .args .opened)) (now (s .args .proof)) _ (begun (c .before .before .before .before .before .before .before .before)) (facts .of-elements))),
+      (
+        (facts .of-batching, (omega (arith, long, s .pre .1 .0), omega (arith, long, s .pre .1 .1))),
+        (facts .of-elements, facts .χ-elements, sent .1, opened-narrow (settingFor (s .args .s)) (shapeFor (s .args .s)) (now (s .args .delta)) (now (s .args .opened)) (now (s .args .proof)) _ (begun (c .before .before .before .before .before .before .before .before)) (facts .of-elements)),
+      ),
     )
 
 answer-requires-2 : tie.Need-answer-requires-2

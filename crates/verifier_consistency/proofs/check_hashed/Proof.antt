@@ -7,7 +7,7 @@ use mathlib.Core.List.{List}
 use native.Mathlib.Omega.{arith}
 use denote.Ref.{now}
 use lib.Dec.{lit<}
-use Rattle.protocol.specs.Sections.{lengths, sectionsIn}
+use Rattle.protocol.specs.Sections.{sectionsIn}
 use Rattle.format.specs.Sizes.{settingFor, alphabetFor, shapeFor}
 use Rattle.protocol.proofs.ElementLaws.{element-lt}
 use Rattle.format.proofs.SizeLaws.{in-limits}
@@ -45,7 +45,6 @@ same-length : tie.Need-same-length
 same-length c = search needs
 
 returns : tie.Need-returns
-unfolding lengths
 returns c opened is =
     let s = c .before .before .before .before .before .before .before .before .before .before .before .before .before in
     let a = s .args in

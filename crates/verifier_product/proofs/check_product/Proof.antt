@@ -16,7 +16,7 @@ use Rattle.protocol.specs.Strings.{bytesFor, bit}
 use Rattle.protocol.specs.Key.{sectionA, sectionB}
 use Rattle.protocol.specs.Alphabet.{Alphabet}
 use Rattle.protocol.specs.Shape.{Shape, maskAt}
-use Rattle.protocol.specs.Sections.{lengths, sectionsIn}
+use Rattle.protocol.specs.Sections.{sectionsIn}
 use Rattle.protocol.proofs.ElementLaws.{element-lt}
 use Rattle.strings.specs.Sums.{byteAt}
 use Rattle.lanes.specs.Lanes.{lanes, laneAt, maskLane}
@@ -112,11 +112,17 @@ product-lanes-requires c κs =
         omega (arith, c .before .before .section-y .ensures .1, bytes-enough (shape .m)),
         s .pre .1 .0 .0,
       ),
-      (c .before .before .before .before .before .before .before .before .before .before .before .before .add-masks .kept .0, c .before .before .before .before .before .before .before .before .before .before .before .before .before .before .before .before .before .before .before .before .before .before .load-challenge .kept .0, c .before .before .before .before .before .before .before .before .fill-vectors .kept .0, c .before .before .before .before .before .before .before .before .fill-vectors .ensures .1, omega (arith, c .before .before .before .before .before .before .before .before .before .before .before .before .before .before .before .before .before .add-difference .kept .0, s .pre .1 .0 .1 .1),
-      vectors-narrow (s .args .s .degree) (s .args .s .n) (s .args .s .tau) (c .before .before .before .before .before .before .before .before .before .before .before .before .before .before .before .before .before .add-difference .last .0) (c .before .before .before .before .before .before .before .before .fill-vectors .last .0) (bounds .n-most)
-      (key-narrow (s .args .s .degree) (s .args .s .n) (s .args .s .tau) (now (c .before .before .before .before .before .before .before .before .before .before .before .before .before .before .before .before .before .before .before .proof-section .result)) (c .before .before .before .before .before .before .before .before .before .before .before .before .before .before .before .before .before .before .before .before .before .before .load-challenge .last .0) (now (s .args .space)) (c .before .before .before .before .before .before .before .before .before .before .before .before .before .before .before .before .before .add-difference .last .0) (bounds .τ-most) (c .before .before .before .before .before .before .before .before .before .before .before .before .before .before .before .before .before .add-difference .ensures .0)
-      (λ e l. rw (c .before .before .before .before .before .before .before .before .before .before .before .before .before .before .before .before .before .before .before .before .before .before .load-challenge .ensures e (omega (arith, s .pre .0 .2, l))) (element-lt (alphabetFor (s .args .s)) (now (s .args .delta)) (s .pre .1 .1 .0) e)) (s .pre .1 .1 .3))
-      (c .before .before .before .before .before .before .before .before .fill-vectors .ensures .0)),
+      (
+        c .before .before .before .before .before .before .before .before .before .before .before .before .add-masks .kept .0,
+        c .before .before .before .before .before .before .before .before .before .before .before .before .before .before .before .before .before .before .before .before .before .before .load-challenge .kept .0,
+        c .before .before .before .before .before .before .before .before .fill-vectors .kept .0,
+        c .before .before .before .before .before .before .before .before .fill-vectors .ensures .1,
+        omega (arith, c .before .before .before .before .before .before .before .before .before .before .before .before .before .before .before .before .before .add-difference .kept .0, s .pre .1 .0 .1 .1),
+        vectors-narrow (s .args .s .degree) (s .args .s .n) (s .args .s .tau) (c .before .before .before .before .before .before .before .before .before .before .before .before .before .before .before .before .before .add-difference .last .0) (c .before .before .before .before .before .before .before .before .fill-vectors .last .0) (bounds .n-most)
+            (key-narrow (s .args .s .degree) (s .args .s .n) (s .args .s .tau) (now (c .before .before .before .before .before .before .before .before .before .before .before .before .before .before .before .before .before .before .before .proof-section .result)) (c .before .before .before .before .before .before .before .before .before .before .before .before .before .before .before .before .before .before .before .before .before .before .load-challenge .last .0) (now (s .args .space)) (c .before .before .before .before .before .before .before .before .before .before .before .before .before .before .before .before .before .add-difference .last .0) (bounds .τ-most) (c .before .before .before .before .before .before .before .before .before .before .before .before .before .before .before .before .before .add-difference .ensures .0)
+            (λ e l. rw (c .before .before .before .before .before .before .before .before .before .before .before .before .before .before .before .before .before .before .before .before .before .before .load-challenge .ensures e (omega (arith, s .pre .0 .2, l))) (element-lt (alphabetFor (s .args .s)) (now (s .args .delta)) (s .pre .1 .1 .0) e)) (s .pre .1 .1 .3))
+            (c .before .before .before .before .before .before .before .before .fill-vectors .ensures .0),
+      ),
     )
 
 slice-aggregate-first-differing : tie.Need-slice-aggregate-first-differing
@@ -142,7 +148,6 @@ same-length : tie.Need-same-length
 same-length c = c .before .before .before .before .before .before .before .product-lanes .kept .1 .0 ∙ c .before .before .before .before .before .before .before .before .before .before .before .before .before .before .before .before .before .before .before .before .before .before .before .before .before .add-difference .kept .0
 
 returns : tie.Need-returns
-unfolding lengths
 returns c opened is =
     let s = c .before .before .before .before .before .before .before .before .before .before .before .before .before .before .before .before .before .before .before .before .before .before .before .before .before .before .before .before .before .before .before .before .before .before .before .before .before in
     let a = s .args in
