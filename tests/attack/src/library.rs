@@ -3,17 +3,18 @@
 use crate::case::{Case, View};
 use crate::format::Sizes;
 
-type SizeFunction = unsafe extern "C" fn(usize, usize, usize, usize) -> usize;
+type SizeFunction = unsafe extern "C" fn(usize, usize, usize, usize, u32) -> usize;
 
 extern "C" {
-    fn mq_leaves_size(n: usize, m: usize, tau: usize, t: usize) -> usize;
-    fn mq_opened_size(n: usize, m: usize, tau: usize, t: usize) -> usize;
-    fn mq_hash_matrix_size(n: usize, m: usize, tau: usize, t: usize) -> usize;
-    fn mq_proof_size(n: usize, m: usize, tau: usize, t: usize) -> usize;
+    fn mq_leaves_size(n: usize, m: usize, tau: usize, t: usize, degree: u32) -> usize;
+    fn mq_opened_size(n: usize, m: usize, tau: usize, t: usize, degree: u32) -> usize;
+    fn mq_hash_matrix_size(n: usize, m: usize, tau: usize, t: usize, degree: u32) -> usize;
+    fn mq_proof_size(n: usize, m: usize, tau: usize, t: usize, degree: u32) -> usize;
 
     fn mq_prove(
         key: *const u8,
         key_len: usize,
+        degree: u32,
         leaves: *const u8,
         leaves_len: usize,
         witness: *const u8,
@@ -29,6 +30,7 @@ extern "C" {
     fn mq_verify(
         key: *const u8,
         key_len: usize,
+        degree: u32,
         delta: *const u8,
         delta_len: usize,
         hash_matrix: *const u8,
@@ -44,9 +46,16 @@ extern "C" {
 
 /// The library's proof. The lengths that its header gives must be those of the masks that the case is made for.
 pub fn prove(case: &Case) -> Result<Vec<u8>, String> {
-    let Sizes { n, m, tau, t } = case.sizes;
+    let Sizes {
+        n,
+        m,
+        tau,
+        t,
+        field,
+    } = case.sizes;
+    let degree = field.degree() as u32;
     // Safe: these take numbers.
-    let size = |function: SizeFunction| unsafe { function(n, m, tau, t) };
+    let size = |function: SizeFunction| unsafe { function(n, m, tau, t, degree) };
     let lengths = [
         (size(mq_leaves_size), case.leaves.len()),
         (size(mq_opened_size), case.opened.len()),
@@ -64,6 +73,7 @@ pub fn prove(case: &Case) -> Result<Vec<u8>, String> {
         mq_prove(
             case.key.as_ptr(),
             case.key.len(),
+            degree,
             case.leaves.as_ptr(),
             case.leaves.len(),
             case.witness.as_ptr(),
@@ -85,6 +95,7 @@ pub fn verify(view: &View) -> Result<(), String> {
         mq_verify(
             view.key.as_ptr(),
             view.key.len(),
+            view.field.degree() as u32,
             view.delta.as_ptr(),
             view.delta.len(),
             view.hash_matrix.as_ptr(),

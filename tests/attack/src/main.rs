@@ -4,7 +4,7 @@
 //! attack [SEED] [--shared]
 //!
 //! The controls are a small prover in this crate: with one mask the attack must recover every witness, with own masks
-//! none; and that the last two repetitions share one must be seen. Then the library's proofs are attacked, and the
+//! none; and that the last two repetitions share one must be seen. All at both degrees. Then the library's proofs are attacked, and the
 //! attack must do no better than guessing. With `--shared` the library is one of the versions that had one mask, and the
 //! attack must recover every witness.
 
@@ -19,6 +19,7 @@ mod random;
 mod verifier;
 
 use case::Case;
+use field::Field;
 use format::{Masks, Sizes};
 use judge::Tally;
 use random::Random;
@@ -26,27 +27,46 @@ use std::process::exit;
 use std::time::{SystemTime, UNIX_EPOCH};
 
 /// 88 equations for 64 bits: 24 more than unknowns, so that a rank below 64 is met once in some 16 million proofs.
-const SIZES: Sizes = Sizes {
-    n: 64,
-    m: 16,
-    tau: 12,
-    t: 16,
-};
+fn sizes(field: Field) -> Sizes {
+    let tau = match field {
+        Field::Eight => 12,
+        Field::Four => 23,
+    };
+    Sizes {
+        n: 64,
+        m: 16,
+        tau,
+        t: 16,
+        field,
+    }
+}
 const PROOFS: usize = 200;
 
-/// The usual sizes: 144 equations for 150 bits, and the key tells which of the 64 solutions, or a few more, is the
-/// witness.
-const USUAL_SIZES: Sizes = Sizes {
-    n: 150,
-    m: 150,
-    tau: 19,
-    t: 144,
-};
+/// The usual sizes. At degree 8 there are 144 equations for 150 bits, and the key tells which of the 64 solutions, or a
+/// few more, is the witness; at degree 4 there are 168.
+fn usual_sizes(field: Field) -> Sizes {
+    let tau = match field {
+        Field::Eight => 19,
+        Field::Four => 43,
+    };
+    Sizes {
+        n: 150,
+        m: 150,
+        tau,
+        t: 144,
+        field,
+    }
+}
 const USUAL_PROOFS: usize = 60;
 const USUAL_CONTROLS: usize = 5;
 
 /// The most repetitions, since the library takes sixteen at a time.
-const MOST_SIZES: Sizes = Sizes { tau: 48, ..SIZES };
+fn most_sizes(field: Field) -> Sizes {
+    Sizes {
+        tau: 48,
+        ..sizes(field)
+    }
+}
 const MOST_PROOFS: usize = 100;
 
 #[derive(Clone, Copy, PartialEq, Eq)]
@@ -103,8 +123,10 @@ fn run(seed: u64, of_library: Masks) -> Result<(), String> {
             ),
         };
         println!(
-            "{who}, {how}, n = {}, tau = {}: {tally}",
-            sizes.n, sizes.tau
+            "{who}, {how}, n = {}, tau = {}, degree {}: {tally}",
+            sizes.n,
+            sizes.tau,
+            sizes.field.degree()
         );
         match right {
             true => Ok(()),
@@ -113,13 +135,17 @@ fn run(seed: u64, of_library: Masks) -> Result<(), String> {
             )),
         }
     };
-    judged(Prover::Control, Masks::Shared, SIZES, PROOFS)?;
-    judged(Prover::Control, Masks::Shared, USUAL_SIZES, USUAL_CONTROLS)?;
-    judged(Prover::Control, Masks::LastShared, SIZES, PROOFS)?;
-    judged(Prover::Control, Masks::Own, SIZES, PROOFS)?;
-    judged(Prover::Library, of_library, SIZES, PROOFS)?;
-    judged(Prover::Library, of_library, USUAL_SIZES, USUAL_PROOFS)?;
-    judged(Prover::Library, of_library, MOST_SIZES, MOST_PROOFS)
+    for field in [Field::Eight, Field::Four] {
+        let (small, usual) = (sizes(field), usual_sizes(field));
+        judged(Prover::Control, Masks::Shared, small, PROOFS)?;
+        judged(Prover::Control, Masks::Shared, usual, USUAL_CONTROLS)?;
+        judged(Prover::Control, Masks::LastShared, small, PROOFS)?;
+        judged(Prover::Control, Masks::Own, small, PROOFS)?;
+        judged(Prover::Library, of_library, small, PROOFS)?;
+        judged(Prover::Library, of_library, usual, USUAL_PROOFS)?;
+        judged(Prover::Library, of_library, most_sizes(field), MOST_PROOFS)?;
+    }
+    Ok(())
 }
 
 fn main() {
