@@ -1,6 +1,6 @@
 #!/bin/sh
-# Compiles the example in C against the library, and runs it at both degrees. The library is proved and built first, where a source has
-# changed since it was built last; else nothing is proved again.
+# Compiles the example in C against the library, and runs it at both degrees. The library is proved and built first,
+# where a source has changed since it was built last; else nothing is proved again.
 set -eu
 cd "$(dirname "$0")/.."
 . tests/need.sh

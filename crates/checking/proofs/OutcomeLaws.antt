@@ -7,26 +7,26 @@ use Prim.Native.Nat.{ℕ, _≤_, _<_}
 use lib.Dec.{leb}
 use lib.ListN.{length}
 use Rattle.protocol.specs.Frames.{framed}
-use Rattle.protocol.specs.Binary.{bits256}
+use Rattle.protocol.specs.CheckEdges.{eight}
 use Rattle.protocol.specs.Calls.{verifyAnswer}
 use Rattle.protocol.specs.Check.{answered, unread, lengthsIn, readable, checkOf}
 use Rattle.protocol.proofs.TestLaws.{leb-yes, leb-no, both-true}
 use Rattle.sections.proofs.SectionLaws.{and-no}
 use Rattle.checking.specs.Checked.{verifyParts}
 
-not-readable : (s : List ℕ) → readable 6 65536 s ≡ false → unread ≡ checkOf bits256 s
+not-readable : (s : List ℕ) → readable 6 65536 s ≡ false → unread ≡ checkOf eight s
 unfolding checkOf
 not-readable s h = rw (checkOf, h)
 
-pub too-long : (s : List ℕ) → 65536 < length s → unread ≡ checkOf bits256 s
+pub too-long : (s : List ℕ) → 65536 < length s → unread ≡ checkOf eight s
 unfolding readable
 too-long s h = not-readable s (ap (λ b. b && framed (lengthsIn 6 s) s) (leb-no (length s) 65536 h))
 
-pub not-framed : (s : List ℕ) → framed (lengthsIn 6 s) s ≡ false → unread ≡ checkOf bits256 s
+pub not-framed : (s : List ℕ) → framed (lengthsIn 6 s) s ≡ false → unread ≡ checkOf eight s
 unfolding readable
 not-framed s h = not-readable s (and-no (leb (length s) 65536) (framed (lengthsIn 6 s) s) h)
 
-pub read-whole : (s : List ℕ) → length s ≤ 65536 → framed (lengthsIn 6 s) s ≡ true → answered (verifyParts (lengthsIn 6 s) s) ≡ checkOf bits256 s
+pub read-whole : (s : List ℕ) → length s ≤ 65536 → framed (lengthsIn 6 s) s ≡ true → answered (verifyParts (lengthsIn 6 s) s) ≡ checkOf eight s
 unfolding checkOf readable
 read-whole s l h =
     let r : readable 6 65536 s ≡ true = both-true (leb (length s) 65536) (framed (lengthsIn 6 s) s) (leb-yes (length s) 65536 l) h in
@@ -34,8 +34,8 @@ read-whole s l h =
 
 -- the same six strings get the same answer
 pub same-answer : {a b c d e f a′ b′ c′ d′ e′ f′ : List ℕ} → a ≡ a′ → b ≡ b′ → c ≡ c′ → d ≡ d′ → e ≡ e′ → f ≡ f′
-    → verifyAnswer bits256 a b c d e f ≡ verifyAnswer bits256 a′ b′ c′ d′ e′ f′
-same-answer p q r s t u = λ i. verifyAnswer bits256 (p i) (q i) (r i) (s i) (t i) (u i)
+    → verifyAnswer eight a b c d e f ≡ verifyAnswer eight a′ b′ c′ d′ e′ f′
+same-answer p q r s t u = λ i. verifyAnswer eight (p i) (q i) (r i) (s i) (t i) (u i)
 
 -- what a test of `!b` says of b
 pub was-no : (b : Bool) → not b ≡ true → b ≡ false

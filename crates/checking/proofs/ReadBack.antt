@@ -10,7 +10,7 @@ use lib.ListN.{length, getD, take, drop, length-append, take-append-drop, List·
 use lib.Seq.{drop-at, drop-append-le, length-take-le}
 use Rattle.algebra.proofs.CountLaws.{and-left, and-right}
 use Rattle.protocol.specs.Frames.{num2, num4, count4, frame, framed, sectionNo, framedLength}
-use Rattle.protocol.specs.Binary.{bits256}
+use Rattle.protocol.specs.CheckEdges.{eight}
 use Rattle.protocol.specs.Calls.{verifyAnswer}
 use Rattle.protocol.specs.Check.{answered, lengthsIn, checkOf}
 use Rattle.protocol.proofs.TestLaws.{leb-le}
@@ -80,7 +80,7 @@ module _ (k d h x o p : List ℕ) (small : length (six k d h x o p) ≤ 65536) w
   at : (i : ℕ) → i < 6 → sectionNo (lengthsIn 6 (frame ss)) i (frame ss) ≡ getD ss i []
   at i l = ap (λ l. sectionNo l i (frame ss)) lengths-are ∙ frame-section ss i l
 
-  back : checkOf bits256 (frame ss) ≡ answered (verifyAnswer bits256 k d h x o p)
+  back : checkOf eight (frame ss) ≡ answered (verifyAnswer eight k d h x o p)
   back =
       sym (read-whole (frame ss) small whole)
       ∙ ap answered (same-answer (at 0 (omega arith)) (at 1 (omega arith)) (at 2 (omega arith)) (at 3 (omega arith)) (at 4 (omega arith)) (at 5 (omega arith)))

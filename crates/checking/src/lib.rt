@@ -9,7 +9,7 @@ ghost use mathlib.Core.Path.{_≡_};
 ghost use mathlib.Core.List.{_++_};
 ghost use Prim.Native.Nat.{_≤_};
 ghost use lib.ListN.{length, drop};
-ghost use Rattle.protocol.specs.Binary.{bits256};
+ghost use Rattle.protocol.specs.CheckEdges.{eight};
 ghost use Rattle.protocol.specs.Check.{checkLine};
 use format::Verdict;
 
@@ -22,8 +22,8 @@ pub enum Checked {
 // The check program of 01, from its whole input to its whole output: the line stands at the start of out, and the bytes
 // after it are as they were. Answers the line's length.
 pub fn check_line(input: &[u8], out: &mut [u8; LINE]) -> usize
-    ensures { λ r. ⌜ (r ≡ length (checkLine bits256 (now (input .entry)))) × (r ≤ length (now (out .exit))) ⌝ }
-    ensures line { λ r. ⌜ now (out .exit) ≡ checkLine bits256 (now (input .entry)) ++ drop r (now (out .entry)) ⌝ }
+    ensures { λ r. ⌜ (r ≡ length (checkLine eight (now (input .entry)))) × (r ≤ length (now (out .exit))) ⌝ }
+    ensures line { λ r. ⌜ now (out .exit) ≡ checkLine eight (now (input .entry)) ++ drop r (now (out .entry)) ⌝ }
 {
     write_line(read_and_verify(input), out)
 }

@@ -5,10 +5,12 @@ use mathlib.Core.Bool.{true}
 use Prim.Native.Nat.{_*_}
 use lib.Dec.{lit<}
 use lib.ListN.{getD}
+use Rattle.field.specs.Degrees.{fieldOf}
 use Rattle.protocol.specs.Frames.{num2}
+use Rattle.protocol.specs.Binary.{bits16}
 use Rattle.protocol.specs.Calls.{wellFormed}
 use Rattle.protocol.specs.Counting.{acceptedCount}
-use Rattle.protocol.specs.SmallExample.{bits16, changed, key, leaves, H′, χ, Δ, opened, proof}
+use Rattle.protocol.specs.SmallExample.{four, changed, key, leaves, H′, χ, Δ, opened, proof}
 use Rattle.protocol.proofs.Computing.{computing}
 use Rattle.protocol.proofs.Theorems.{forgery-count}
 use Rattle.examples.proofs.ExampleFactors.{both}
@@ -22,14 +24,14 @@ d-1 : Small 11 1 983040 2 2
 unfolding computing key leaves H′ χ Δ opened proof
 d-1 = record { reply-is = refl; factors-are = both bits16 key leaves H′ χ refl (lit< tt) (changed proof 11 1) 2 2 refl refl }
 
-well-formed : wellFormed bits16 key leaves H′ χ (changed proof 11 1) ≡ true
+well-formed : wellFormed four key leaves H′ χ (changed proof 11 1) ≡ true
 unfolding computing key leaves H′ χ proof
 well-formed = refl
 
 -- the product of the two factors
-d-1-count : acceptedCount bits16 key leaves H′ χ (changed proof 11 1) ≡ 4
-unfolding num2 key
-d-1-count = forgery-count bits16 key leaves H′ χ (changed proof 11 1) well-formed .count-is-product ∙ ap (λ l. getD l 0 0 * (getD l 1 0 * 1)) (d-1 .factors-are)
+d-1-count : acceptedCount four key leaves H′ χ (changed proof 11 1) ≡ 4
+unfolding fieldOf num2 key
+d-1-count = forgery-count four key leaves H′ χ (changed proof 11 1) well-formed .count-is-product ∙ ap (λ l. getD l 0 0 * (getD l 1 0 * 1)) (d-1 .factors-are)
 
 ũ-1 : Small 17 1 917504 1 1
 unfolding computing key leaves H′ χ Δ opened proof

@@ -13,6 +13,7 @@ use Rattle.protocol.specs.Counting.{opening}
 use Rattle.protocol.specs.Answers.{Answer, accepted, refused}
 use Rattle.protocol.specs.Calls.{verifyAnswer}
 use Rattle.protocol.specs.Check.{answered, unread, lengthsIn, readable, checkOf, decimalDigits, decimal, lineOf, checkLine}
+use Rattle.protocol.specs.CheckEdges.{eight}
 use Rattle.examples.specs.Toy.{A, key, leaves, H′, χ, proofWith, answerWith}
 use Rattle.examples.specs.CheckLine.{inputWith, input, lineAccepted, line15, line14, lineUnread, CheckLines}
 use Rattle.examples.proofs.ToyComputing.{computing}
@@ -27,13 +28,13 @@ reading = 0
 read-is : (s : List ℕ) {k d h x o p : List ℕ} → readable 6 65536 s ≡ true
     → sectionNo (lengthsIn 6 s) 0 s ≡ k → sectionNo (lengthsIn 6 s) 1 s ≡ d → sectionNo (lengthsIn 6 s) 2 s ≡ h
     → sectionNo (lengthsIn 6 s) 3 s ≡ x → sectionNo (lengthsIn 6 s) 4 s ≡ o → sectionNo (lengthsIn 6 s) 5 s ≡ p
-    → checkOf A s ≡ answered (verifyAnswer A k d h x o p)
+    → checkOf eight s ≡ answered (verifyAnswer eight k d h x o p)
 unfolding checkOf
 read-is s r k d h x o p =
-    let e : checkOf A s ≡ answered (verifyAnswer A (sectionNo (lengthsIn 6 s) 0 s) (sectionNo (lengthsIn 6 s) 1 s) (sectionNo (lengthsIn 6 s) 2 s) (sectionNo (lengthsIn 6 s) 3 s) (sectionNo (lengthsIn 6 s) 4 s) (sectionNo (lengthsIn 6 s) 5 s)) = rw (checkOf, r) in
-    e ∙ (λ i. answered (verifyAnswer A (k i) (d i) (h i) (x i) (o i) (p i)))
+    let e : checkOf eight s ≡ answered (verifyAnswer eight (sectionNo (lengthsIn 6 s) 0 s) (sectionNo (lengthsIn 6 s) 1 s) (sectionNo (lengthsIn 6 s) 2 s) (sectionNo (lengthsIn 6 s) 3 s) (sectionNo (lengthsIn 6 s) 4 s) (sectionNo (lengthsIn 6 s) 5 s)) = rw (checkOf, r) in
+    e ∙ (λ i. answered (verifyAnswer eight (k i) (d i) (h i) (x i) (o i) (p i)))
 
-unread-is : (s : List ℕ) → readable 6 65536 s ≡ false → checkOf A s ≡ unread
+unread-is : (s : List ℕ) → readable 6 65536 s ≡ false → checkOf eight s ≡ unread
 unfolding checkOf
 unread-is s r = rw (checkOf, r)
 
@@ -70,7 +71,7 @@ module _ (ũ q : ℕ) where
   unfolding reading
   at-5 = refl
 
-  answer-is : checkOf A s ≡ answered (answerWith key 0x02 (proofWith ũ 0x03 q))
+  answer-is : checkOf eight s ≡ answered (answerWith key 0x02 (proofWith ũ 0x03 q))
   answer-is = read-is s whole at-0 at-1 at-2 at-3 at-4 at-5
 
 -- ---- the lines
@@ -91,11 +92,11 @@ text-unread : lineOf unread ≡ lineUnread
 unfolding lineOf decimal decimalDigits
 text-unread = refl
 
-line-of : (ũ q : ℕ) {a : Answer} {line : List ℕ} → answerWith key 0x02 (proofWith ũ 0x03 q) ≡ a → lineOf (answered a) ≡ line → checkLine A (inputWith key 0x02 (proofWith ũ 0x03 q)) ≡ line
+line-of : (ũ q : ℕ) {a : Answer} {line : List ℕ} → answerWith key 0x02 (proofWith ũ 0x03 q) ≡ a → lineOf (answered a) ≡ line → checkLine eight (inputWith key 0x02 (proofWith ũ 0x03 q)) ≡ line
 unfolding checkLine
 line-of ũ q e t = ap lineOf (answer-is ũ q ∙ ap answered e) ∙ t
 
-unread-line : (s : List ℕ) → readable 6 65536 s ≡ false → checkLine A s ≡ lineUnread
+unread-line : (s : List ℕ) → readable 6 65536 s ≡ false → checkLine eight s ≡ lineUnread
 unfolding checkLine
 unread-line s r = ap lineOf (unread-is s r) ∙ text-unread
 

@@ -10,6 +10,7 @@ use Rattle.algebra.specs.Ring.{Ring}
 use Rattle.algebra.specs.Field.{Field}
 use Rattle.algebra.specs.Coded.{Coded}
 use Rattle.field.specs.Gf256.{gf256}
+use Rattle.field.specs.Degrees.{fieldOf}
 use Rattle.protocol.specs.Alphabet.{Alphabet}
 use Rattle.protocol.specs.Binary.{bits256}
 use Rattle.protocol.specs.Shape.{Shape, shapeOf, perTree}
@@ -17,6 +18,7 @@ use Rattle.protocol.specs.Sections.{Sections, sectionsIn}
 use Rattle.protocol.specs.Verifier.{W, consistent, productHolds, consistentAt, productAt}
 use Rattle.protocol.specs.Questions.{treeOf, consistentIn, productIn}
 use Rattle.protocol.specs.Calls.{verifyForm}
+use Rattle.protocol.specs.CheckEdges.{eight}
 use Rattle.protocol.proofs.Computing.{computing}
 use Rattle.protocol.proofs.Theorems.{accepts-exactly}
 use Rattle.examples.specs.FullExample.{sizes, key, leaves, H′, χ, Δ, proof, opened, coordinates, FullOpening, FullAccepts}
@@ -53,7 +55,7 @@ w-1-is : coordinates (W bits256 sizes p 1 0xC6 (treeOf bits256 sizes opened 1)) 
 unfolding perTree
 w-1-is = ap coordinates (λ i c. W-walked gf256 sizes p 1 0xC6 0x39 (treeOf bits256 sizes opened 1) c refl i) ∙ w-1-walked
 
-well-formed : verifyForm bits256 key Δ H′ χ opened proof ≡ true
+well-formed : verifyForm eight key Δ H′ χ opened proof ≡ true
 unfolding computing key Δ H′ χ opened proof
 well-formed = refl
 
@@ -79,6 +81,7 @@ checks (suc zero) l = from-table 1 0xC6 _ (entry gf256 sizes w-1) l (near gf256 
 checks (suc (suc e)) l = absurd (omega arith)
 
 pub full-accepts : FullAccepts
+unfolding fieldOf
 full-accepts =
-    accepts-exactly bits256 key Δ H′ χ opened proof well-formed .1
+    accepts-exactly eight key Δ H′ χ opened proof well-formed .1
     (subst (λ s. (e : ℕ) → e < s .τ → (consistentIn bits256 s Δ H′ opened proof e ≡ true) × (productIn bits256 s key Δ χ opened proof e ≡ true)) (sym (full-sums .header-is)) checks)

@@ -9,6 +9,7 @@ use native.Mathlib.Omega.{arith}
 use lib.Dec.{leb, lit<}
 use lib.ListN.{length, getD}
 use Rattle.algebra.specs.Columns.{zeroColumns}
+use Rattle.field.specs.Degrees.{fieldOf}
 use Rattle.protocol.specs.Lists.{allBelow}
 use Rattle.protocol.specs.Strings.{bytes}
 use Rattle.protocol.specs.Frames.{num2}
@@ -17,6 +18,7 @@ use Rattle.protocol.specs.Questions.{solves}
 use Rattle.protocol.specs.Calls.{testForm, commitForm, batchForm, proveForm, verifyForm, honestForm, wellFormed}
 use Rattle.protocol.specs.Counting.{opening, factor}
 use Rattle.protocol.specs.Statements.{errorOf}
+use Rattle.protocol.specs.CheckEdges.{eight}
 use Rattle.protocol.proofs.TestLaws.{leb-le, all-at}
 use Rattle.protocol.proofs.Demands.{demand-3}
 use Rattle.examples.specs.Toy.{A, s, keyWith, key, key₀, leaves, x, H′, χ, out, proof, proofQS1, proofṼ}
@@ -26,25 +28,25 @@ use Rattle.examples.proofs.ToyLeaves.{R, one-not-zero}
 use Rattle.examples.proofs.ToyChallenges.{K, conditionsWith, error-is, factor-by, count-is}
 use Rattle.examples.proofs.ToyForged.{forged-well-formed, coefficients-are}
 
-test-form : testForm A key x ≡ true
+test-form : testForm eight key x ≡ true
 unfolding computing
 test-form = refl
 
-commit-form : commitForm A key leaves x (out 9) ≡ true
+commit-form : commitForm eight key leaves x (out 9) ≡ true
 unfolding computing
 commit-form = refl
 
-batch-form : batchForm A key leaves x χ (out 10) ≡ true
+batch-form : batchForm eight key leaves x χ (out 10) ≡ true
 unfolding computing
 batch-form = refl
 
-prove-form : (y : ℕ) → y < 2 → proveForm A (keyWith y) leaves x H′ χ (out 29) ≡ true
+prove-form : (y : ℕ) → y < 2 → proveForm eight (keyWith y) leaves x H′ χ (out 29) ≡ true
 unfolding computing
 prove-form zero l = refl
 prove-form (suc zero) l = refl
 prove-form (suc (suc y)) l = absurd (omega arith)
 
-honest-form : honestForm A key leaves x H′ χ ≡ true
+honest-form : honestForm eight key leaves x H′ χ ≡ true
 unfolding computing
 honest-form = refl
 
@@ -52,19 +54,19 @@ solved : solves A s key x ≡ true
 unfolding computing
 solved = refl
 
-verify-form : verifyForm A key (0x02 ∷ []) H′ χ (opening A s leaves (0x02 ∷ [])) proof ≡ true
+verify-form : verifyForm eight key (0x02 ∷ []) H′ χ (opening A s leaves (0x02 ∷ [])) proof ≡ true
 unfolding computing
 verify-form = refl
 
-honest-well-formed : wellFormed A key leaves H′ χ proof ≡ true
+honest-well-formed : wellFormed eight key leaves H′ χ proof ≡ true
 unfolding computing
 honest-well-formed = refl
 
-QS1-well-formed : wellFormed A key leaves H′ χ proofQS1 ≡ true
+QS1-well-formed : wellFormed eight key leaves H′ χ proofQS1 ≡ true
 unfolding computing
 QS1-well-formed = refl
 
-Ṽ-well-formed : wellFormed A key leaves H′ χ proofṼ ≡ true
+Ṽ-well-formed : wellFormed eight key leaves H′ χ proofṼ ≡ true
 unfolding computing
 Ṽ-well-formed = refl
 
@@ -101,12 +103,12 @@ error-none zero l = error-is 0x01 proof ∙ refl
 error-none (suc i) l = absurd (omega arith)
 
 failing-columns : zeroColumns K (shapeOf key₀ .m) (errorOf A key₀ leaves proofQS1 0) ≡ 1
-unfolding num2 keyWith
-failing-columns = demand-3 key₀ leaves H′ χ proofQS1 .columns-if-failing 0 0 (lit< tt) error-one
+unfolding fieldOf num2 keyWith
+failing-columns = demand-3 eight key₀ leaves H′ χ proofQS1 .columns-if-failing 0 0 (lit< tt) error-one
 
 solving-columns : zeroColumns K (s .m) (errorOf A key leaves proof 0) ≡ 256
-unfolding num2 keyWith
-solving-columns = demand-3 key leaves H′ χ proof .columns-if-solving 0 error-none
+unfolding fieldOf num2 keyWith
+solving-columns = demand-3 eight key leaves H′ χ proof .columns-if-solving 0 error-none
 
 pub hypotheses-met : HypothesesMet
 hypotheses-met = record {

@@ -7,6 +7,7 @@ pub mod ToyChallenges
 pub mod ToyForged
 pub mod PublishedEntries
 pub mod Hypotheses
+pub mod Toy4
 pub mod CheckLine
 pub mod ExampleFactors
 pub mod ChangedProofs

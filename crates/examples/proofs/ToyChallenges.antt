@@ -14,6 +14,7 @@ use Rattle.algebra.specs.Field.{Field}
 use Rattle.algebra.specs.Count.{count}
 use Rattle.algebra.specs.Roots.{Conditions, passing}
 use Rattle.algebra.proofs.CountLaws.{count-congr}
+use Rattle.field.specs.Degrees.{fieldOf}
 use Rattle.protocol.specs.Lists.{table}
 use Rattle.protocol.specs.Frames.{num2}
 use Rattle.protocol.specs.Alphabet.{sym, elemAt}
@@ -25,6 +26,7 @@ use Rattle.protocol.specs.Calls.{wellFormed}
 use Rattle.protocol.specs.Counting.{acceptedCount, checksAt, factor}
 use Rattle.protocol.specs.Coefficients.{conditions}
 use Rattle.protocol.specs.Statements.{errorOf}
+use Rattle.protocol.specs.CheckEdges.{eight}
 use Rattle.protocol.proofs.TestLaws.{and-true}
 use Rattle.protocol.proofs.CountingLaws.{form-of, leaves-length, splits}
 use Rattle.protocol.proofs.CoefficientLaws.{checks-passing}
@@ -82,12 +84,12 @@ module _ (y : ℕ) (proof : List ℕ) where
   pub factor-by : (c : Conditions K) (n : ℕ) → coefficients ≡ c → count (passing K c) (K .elements) ≡ n → factor A (keyWith y) leaves H′ χ proof 0 ≡ n
   factor-by c n e k = factor-is ∙ ap (λ c. count (passing K c) (K .elements)) e ∙ k
 
-  module _ (well : wellFormed A (keyWith y) leaves H′ χ proof ≡ true) where
+  module _ (well : wellFormed eight (keyWith y) leaves H′ χ proof ≡ true) where
     pub accepted-if-passing : (δ : F) → isAccepted (answerWith (keyWith y) (A .K .byte δ) proof) ≡ passing K coefficients δ
-    unfolding num2 keyWith
-    accepted-if-passing δ = splits A (keyWith y) leaves H′ χ proof (form-of A (keyWith y) leaves H′ χ proof well) (δ ∷ []) refl ∙ and-true _ ∙ checks-are δ
+    unfolding fieldOf num2 keyWith
+    accepted-if-passing δ = splits eight (keyWith y) leaves H′ χ proof (form-of eight (keyWith y) leaves H′ χ proof well) (δ ∷ []) refl ∙ and-true _ ∙ checks-are δ
 
     -- demand 3, at one repetition
-    pub count-is : acceptedCount A (keyWith y) leaves H′ χ proof ≡ factor A (keyWith y) leaves H′ χ proof 0
-    unfolding num2 keyWith
-    count-is = demand-3 (keyWith y) leaves H′ χ proof .count-equals-product well ∙ mul-one _
+    pub count-is : acceptedCount eight (keyWith y) leaves H′ χ proof ≡ factor A (keyWith y) leaves H′ χ proof 0
+    unfolding fieldOf num2 keyWith
+    count-is = demand-3 eight (keyWith y) leaves H′ χ proof .count-equals-product well ∙ mul-one _

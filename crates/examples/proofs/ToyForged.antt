@@ -11,12 +11,13 @@ use Rattle.algebra.proofs.BitsLaws.{bit-same}
 use Rattle.algebra.proofs.LinearLaws.{everywhere-at}
 use Rattle.protocol.specs.Answers.{isAccepted}
 use Rattle.protocol.specs.Calls.{wellFormed}
+use Rattle.protocol.specs.CheckEdges.{eight}
 use Rattle.examples.specs.Toy.{A, key₀, leaves, H′, χ, proofQS1, answerWith}
 use Rattle.examples.proofs.ToyComputing.{computing}
 use Rattle.examples.proofs.ToyLeaves.{F}
 use Rattle.examples.proofs.ToyChallenges.{K, conditionsWith, coefficients, accepted-if-passing}
 
-pub forged-well-formed : wellFormed A key₀ leaves H′ χ proofQS1 ≡ true
+pub forged-well-formed : wellFormed eight key₀ leaves H′ χ proofQS1 ≡ true
 unfolding computing
 forged-well-formed = refl
 

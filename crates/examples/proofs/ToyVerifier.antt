@@ -9,6 +9,7 @@ use Prim.Native.Nat.{ℕ, zero, suc, _<_}
 use lib.ListN.{getD}
 use native.Mathlib.Omega.{arith}
 use lib.Dec.{lit<}
+use Rattle.field.specs.Degrees.{fieldOf}
 use Rattle.protocol.specs.Lists.{allBelow, firstNot}
 use Rattle.protocol.specs.Frames.{num2}
 use Rattle.protocol.specs.Shape.{perTree}
@@ -18,6 +19,7 @@ use Rattle.protocol.specs.Answers.{Answer, accepted, refused, question, ask}
 use Rattle.protocol.specs.Questions.{treeOf, leavesExact, consistentIn, productIn, q14, q15}
 use Rattle.protocol.specs.Calls.{verifyQuestions, verifyAnswer, verifyForm}
 use Rattle.protocol.specs.Counting.{opening}
+use Rattle.protocol.specs.CheckEdges.{eight}
 use Rattle.protocol.proofs.AnswerLaws.{ask-after}
 use Rattle.protocol.proofs.CountingLaws.{leaves-length, tree-is}
 use Rattle.protocol.proofs.VoleLaws.{vole}
@@ -65,9 +67,9 @@ module _ (y δ : ℕ) (proof : List ℕ) where
     unfolding allBelow firstNot consistentIn productIn consistentAt productAt
     last-two = ap checks W-is
 
-    pub answer-is : verifyForm A (keyWith y) (δ ∷ []) H′ χ opened proof ≡ true → answerWith (keyWith y) δ proof ≡ checks W₄
-    unfolding verifyAnswer verifyForm num2 keyWith
-    answer-is h = ask-after (verifyQuestions A (keyWith y) (δ ∷ []) H′ χ opened proof) _ h ∙ last-two
+    pub answer-is : verifyForm eight (keyWith y) (δ ∷ []) H′ χ opened proof ≡ true → answerWith (keyWith y) δ proof ≡ checks W₄
+    unfolding fieldOf verifyAnswer verifyForm num2 keyWith
+    answer-is h = ask-after (verifyQuestions eight (keyWith y) (δ ∷ []) H′ χ opened proof) _ h ∙ last-two
 
 pub proof-at-02 : answerWith key 0x02 proof ≡ accepted
 unfolding computing

@@ -6,6 +6,7 @@ use Rattle.protocol.specs.Answers.{refused}
 use Rattle.protocol.specs.Questions.{fails}
 use Rattle.protocol.specs.Calls.{testAnswer, commitAnswer, batchAnswer, proveAnswer}
 use Rattle.protocol.specs.Shape.{shapeOf}
+use Rattle.protocol.specs.CheckEdges.{eight}
 use Rattle.examples.specs.Toy.{A, key₀, leaves, x, H′, χ, out}
 use Rattle.examples.proofs.ToyComputing.{computing}
 use Rattle.examples.proofs.ToyLeaves.{one-not-zero}
@@ -14,18 +15,18 @@ pub equation-0-fails : fails A (shapeOf key₀) key₀ x 0
 unfolding computing
 equation-0-fails = (lit< tt, one-not-zero)
 
-pub test-refused : testAnswer A key₀ x ≡ refused 11 0
+pub test-refused : testAnswer eight key₀ x ≡ refused 11 0
 unfolding computing
 test-refused = refl
 
-pub commit-refused : commitAnswer A key₀ leaves x (out 9) ≡ refused 11 0
+pub commit-refused : commitAnswer eight key₀ leaves x (out 9) ≡ refused 11 0
 unfolding computing
 commit-refused = refl
 
-pub batch-refused : batchAnswer A key₀ leaves x χ (out 10) ≡ refused 11 0
+pub batch-refused : batchAnswer eight key₀ leaves x χ (out 10) ≡ refused 11 0
 unfolding computing
 batch-refused = refl
 
-pub prove-refused : proveAnswer A key₀ leaves x H′ χ (out 29) ≡ refused 11 0
+pub prove-refused : proveAnswer eight key₀ leaves x H′ χ (out 29) ≡ refused 11 0
 unfolding computing
 prove-refused = refl

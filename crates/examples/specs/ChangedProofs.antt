@@ -7,8 +7,9 @@
 use mathlib.Core.Path.{_≡_}
 use mathlib.Core.List.{List, [], _∷_}
 use Prim.Native.Nat.{ℕ}
+use Rattle.protocol.specs.Binary.{bits16}
 use Rattle.protocol.specs.Counting.{acceptedCount, factor}
-use Rattle.protocol.specs.SmallExample.{bits16, changed, key, leaves, H′, χ, proof, reply}
+use Rattle.protocol.specs.SmallExample.{four, changed, key, leaves, H′, χ, proof, reply}
 
 abbrev pub factors : List ℕ → List ℕ
 factors p = factor bits16 key leaves H′ χ p 0 ∷ factor bits16 key leaves H′ χ p 1 ∷ []
@@ -21,7 +22,7 @@ pub record ChangedProofs : Type 0 where
   pub C-1 : Small 4 1 983041 16 2
   pub d-1 : Small 11 1 983040 2 2
   -- in each repetition two challenges still pass, so that four strings are accepted
-  pub d-1-count : acceptedCount bits16 key leaves H′ χ (changed proof 11 1) ≡ 4
+  pub d-1-count : acceptedCount four key leaves H′ χ (changed proof 11 1) ≡ 4
   pub ũ-1 : Small 17 1 917504 1 1
   pub Ṽ-1 : Small 22 1 917504 0 16
   pub Ṽ-2 : Small 23 2 917504 0 16

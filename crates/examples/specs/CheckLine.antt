@@ -12,6 +12,7 @@ use Rattle.protocol.specs.Frames.{frame}
 use Rattle.protocol.specs.Shape.{shapeOf}
 use Rattle.protocol.specs.Counting.{opening}
 use Rattle.protocol.specs.Check.{checkLine}
+use Rattle.protocol.specs.CheckEdges.{eight}
 use Rattle.examples.specs.Toy.{A, key, leaves, H′, χ, proof, proofQS1, proofũ}
 
 unfoldable pub inputWith : List ℕ → ℕ → List ℕ → List ℕ
@@ -34,10 +35,10 @@ lineUnread = 117 ∷ 110 ∷ 114 ∷ 101 ∷ 97 ∷ 100 ∷ 32 ∷ 48 ∷ 32 ∷
 
 pub record CheckLines : Type 0 where
   -- "The toy at 02 gives, whole and without a header, `accepted 0 0`."
-  pub toy-at-02 : checkLine A input ≡ lineAccepted
-  pub QS1-changed-at-02 : checkLine A (inputWith key 0x02 proofQS1) ≡ line15
-  pub ũ-changed-at-02 : checkLine A (inputWith key 0x02 proofũ) ≡ line14
+  pub toy-at-02 : checkLine eight input ≡ lineAccepted
+  pub QS1-changed-at-02 : checkLine eight (inputWith key 0x02 proofQS1) ≡ line15
+  pub ũ-changed-at-02 : checkLine eight (inputWith key 0x02 proofũ) ≡ line14
   -- "A cut section or bytes left over give `unread 0 0`."
-  pub nothing : checkLine A [] ≡ lineUnread
-  pub last-byte-cut : checkLine A (take 590 input) ≡ lineUnread
-  pub one-byte-over : checkLine A (input ++ (0x00 ∷ [])) ≡ lineUnread
+  pub nothing : checkLine eight [] ≡ lineUnread
+  pub last-byte-cut : checkLine eight (take 590 input) ≡ lineUnread
+  pub one-byte-over : checkLine eight (input ++ (0x00 ∷ [])) ≡ lineUnread

@@ -9,7 +9,7 @@ use mathlib.Core.Path.{_≡_}
 use mathlib.Core.List.{List, [], _∷_}
 use Prim.Native.Nat.{ℕ}
 use Rattle.protocol.specs.Counting.{acceptedCount}
-use Rattle.protocol.specs.SmallExample.{bits16, changed}
+use Rattle.protocol.specs.SmallExample.{four, changed}
 
 unfoldable pub key : List ℕ
 key =
@@ -39,7 +39,7 @@ proof =
     ∷ 0x01 ∷ 0x00 ∷ 0x00 ∷ 0x00 ∷ 0x03 ∷ []
 
 abbrev pub countOf : List ℕ → ℕ
-countOf p = acceptedCount bits16 key leaves H′ χ p
+countOf p = acceptedCount four key leaves H′ χ p
 
 pub record Counts : Type 0 where
   pub honest : countOf proof ≡ 16

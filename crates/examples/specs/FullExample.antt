@@ -22,6 +22,7 @@ use Rattle.protocol.specs.Answers.{accepted}
 use Rattle.protocol.specs.Calls.{verifyAnswer}
 use Rattle.protocol.specs.Counting.{opening, factor}
 use Rattle.protocol.specs.SmallExample.{changed}
+use Rattle.protocol.specs.CheckEdges.{eight}
 
 abbrev pub sizes : Shape
 sizes = record { n = 9; m = 3; τ = 2; t = 5 }
@@ -277,7 +278,7 @@ abbrev pub FullOpening : Type 0
 FullOpening = opening bits256 sizes leaves Δ ≡ opened
 
 abbrev pub FullAccepts : Type 0
-FullAccepts = verifyAnswer bits256 key Δ H′ χ opened proof ≡ accepted
+FullAccepts = verifyAnswer eight key Δ H′ χ opened proof ≡ accepted
 
 abbrev pub factors : List ℕ → List ℕ
 factors p = factor bits256 key leaves H′ χ p 0 ∷ factor bits256 key leaves H′ χ p 1 ∷ []

@@ -17,6 +17,7 @@ use Rattle.protocol.specs.Prover.{u, v, sectionsOf, proofOf}
 use Rattle.protocol.specs.Answers.{accepted, refused, isAccepted}
 use Rattle.protocol.specs.Questions.{fails}
 use Rattle.protocol.specs.Calls.{testAnswer, commitAnswer, batchAnswer, proveAnswer}
+use Rattle.protocol.specs.CheckEdges.{eight}
 use Rattle.examples.specs.Toy.{A, s, key, key₀, leaves, x, H′, χ, out, proof, proofQS1, proofũ, answerWith}
 
 abbrev pub sections : Sections
@@ -48,9 +49,9 @@ pub record PublishedEntries : Type 0 where
   pub ũ-changed-at-02 : answerWith key 0x02 proofũ ≡ refused 14 0
   -- "y = 0: witness refused 11 place 0;" equation 0 fails.
   pub equation-0-fails : fails A (shapeOf key₀) key₀ x 0
-  pub test-refused : testAnswer A key₀ x ≡ refused 11 0
-  pub commit-refused : commitAnswer A key₀ leaves x (out 9) ≡ refused 11 0
-  pub batch-refused : batchAnswer A key₀ leaves x χ (out 10) ≡ refused 11 0
-  pub prove-refused : proveAnswer A key₀ leaves x H′ χ (out 29) ≡ refused 11 0
+  pub test-refused : testAnswer eight key₀ x ≡ refused 11 0
+  pub commit-refused : commitAnswer eight key₀ leaves x (out 9) ≡ refused 11 0
+  pub batch-refused : batchAnswer eight key₀ leaves x χ (out 10) ≡ refused 11 0
+  pub prove-refused : proveAnswer eight key₀ leaves x H′ χ (out 29) ≡ refused 11 0
   -- "with QS1 = 05, accepted at Δ = 00 and 52 only."
   pub forged-at-00-and-52 : (δ : ℕ) → δ < 256 → isAccepted (answerWith key₀ δ proofQS1) ≡ (eqb δ 0x00 || eqb δ 0x52)

@@ -3,8 +3,8 @@
 -- Assumes nothing.
 use mathlib.Core.Path.{_≡_}
 use mathlib.Core.List.{[], _∷_}
+use Rattle.protocol.specs.Binary.{bits16}
 use Rattle.protocol.specs.Prover.{proofOf}
-use Rattle.protocol.specs.SmallExample.{bits16}
 use Rattle.protocol.specs.ThreeRepetitions.{key, witness, leaves, H′, χ, proofWith}
 
 abbrev pub ThreeProof : Type 0

@@ -1,12 +1,12 @@
 -- The toy example of 01: n = 2, m = 1, τ = 1, t = 1, and the one equation x0·x1 + x0 = y with y = 1.
---   A == bits over GF(256), the alphabet of every call;  s == the sizes in the key's header
+--   A == bits over GF(256), what coordinates are at degree 8;  s == the sizes in the key's header
 --   keyWith y == the key with that y;  key, key₀ == with y = 1, with y = 0
 --   fourLeaves == leaves 0 to 3;  leaves == these and 252 that are 0;  x == the witness;  H′, χ == the challenges
 --   out n == n bytes to write on
 --   proofWith ũ Ṽ q == the proof with that ũ, Ṽ and QS1;  proof == as the prover writes it
 --   proofQS1, proofũ, proofṼ == with QS1 changed to 05, ũ changed to 00, Ṽ changed to 02
---   answerWith k δ p == what verify answers at Δ = δ, lent the key k, H′, χ, the leaves opened at δ and the
---     proof p
+--   answerWith k δ p == what verify answers at degree 8 and Δ = δ, lent the key k, H′, χ, the leaves opened at δ and
+--     the proof p
 -- Assumes nothing.
 use mathlib.Core.List.{List, [], _∷_, _++_}
 use Prim.Native.Nat.{ℕ, _*_}
@@ -17,6 +17,7 @@ use Rattle.protocol.specs.Shape.{Shape, shapeOf}
 use Rattle.protocol.specs.Answers.{Answer}
 use Rattle.protocol.specs.Calls.{verifyAnswer}
 use Rattle.protocol.specs.Counting.{opening}
+use Rattle.protocol.specs.CheckEdges.{eight}
 
 abbrev pub A : Alphabet
 A = bits256
@@ -79,4 +80,4 @@ abbrev pub proofṼ : List ℕ
 proofṼ = proofWith 0x01 0x02 0x04
 
 abbrev pub answerWith : List ℕ → ℕ → List ℕ → Answer
-answerWith k δ p = verifyAnswer A k (δ ∷ []) H′ χ (opening A (shapeOf k) leaves (δ ∷ [])) p
+answerWith k δ p = verifyAnswer eight k (δ ∷ []) H′ χ (opening A (shapeOf k) leaves (δ ∷ [])) p

@@ -3,8 +3,37 @@
 use mathlib.Core.Path.{refl}
 use Rattle.protocol.specs.Reader.{sectionAt}
 use Rattle.protocol.specs.SmallExample.{key, witness, leaves, H′, χ, Δ, proof, opened}
-use Rattle.protocol.specs.Edges.{Limits, Forms, Numbers, Lengths, Order, FirstEquation, Derived, Extents, Words}
+use Rattle.protocol.specs.Edges.{Degrees, Elements, Limits, Forms, Numbers, Lengths, Order, FirstEquation, Derived, Extents, Words}
 use Rattle.protocol.proofs.Computing.{computing}
+
+pub degrees-are : Degrees
+unfolding computing key witness
+degrees-are = record {
+  eight-served = refl;
+  four-served = refl;
+  eight-goes-on = refl;
+  four-goes-on = refl;
+  at-0 = refl;
+  at-3 = refl;
+  at-5 = refl;
+  at-12 = refl;
+  at-260 = refl;
+}
+
+pub elements-are : Elements
+unfolding computing key witness leaves H′ χ Δ proof opened
+elements-are = record {
+  last-element = refl;
+  first-no-element = refl;
+  first-asked = refl;
+  last-asked = refl;
+  every-byte = refl;
+  χ-first = refl;
+  Δ-first = refl;
+  Ṽ-first = refl;
+  QS0-first = refl;
+  QS1-first = refl;
+}
 
 pub limits-are : Limits
 unfolding computing
@@ -94,6 +123,17 @@ order-is = record {
   twelve-thirteen = refl;
   nine-ten = refl;
   ten-eleven = refl;
+  sixteen-one = refl;
+  sixteen-one-verify = refl;
+  five-seventeen = refl;
+  six-seventeen = refl;
+  six-seventeen-verify = refl;
+  seventeen-seven = refl;
+  seventeen-seven-batch = refl;
+  seventeen-seven-verify = refl;
+  twelve-eighteen = refl;
+  thirteen-eighteen = refl;
+  eighteen-fourteen = refl;
 }
 
 pub first-equation : FirstEquation
@@ -116,6 +156,10 @@ derived-are = record {
   w-largest = refl;
   mask-second = refl;
   mask-last = refl;
+  masks-are = refl;
+  tree-sixteen = refl;
+  opened-sixteen = refl;
+  masks-sixteen = refl;
   k-sixteen = refl;
   mask-sixteen = refl;
 }

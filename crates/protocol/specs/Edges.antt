@@ -1,5 +1,5 @@
--- Where a no begins: at the sizes, at spare bits and exact lengths, and where two questions get a no; and which
--- equation 11 names.
+-- Where a no begins: at the degrees, at the sizes, at spare bits, exact lengths and elements, and where two questions
+-- get a no; and which equation 11 names.
 -- proofs/Edges computes each statement.
 -- Key, leaves and proof are those of SmallExample with bytes changed. A spare bit that is set is the first one of the
 -- last row (A-spare-set), the last one of the first row (A-first-row), or the last one of the only row (y-last).
@@ -13,13 +13,15 @@ use Prim.Native.Nat.{ℕ}
 use lib.ListN.{replicate, take}
 use Rattle.protocol.specs.Frames.{num2, num4, count4}
 use Rattle.protocol.specs.Reader.{between, missing, sectionAt}
+use Rattle.protocol.specs.Alphabet.{Alphabet, elementsIn}
 use Rattle.protocol.specs.Binary.{bits256, bits16}
+use Rattle.protocol.specs.Setting.{setting, served, alphabetOf}
 use Rattle.protocol.specs.Shape.{Shape, limits, perTree, perOpened, maskAt, kOf, lOf, wOf}
 use Rattle.protocol.specs.Key.{keyExact, keySpare}
 use Rattle.protocol.specs.Sections.{sectionsIn}
 use Rattle.protocol.specs.Answers.{Answer, accepted, refused, word}
 use Rattle.protocol.specs.Questions.{hSpare, leavesSpare, witnessForm, solves, proofSpare}
-use Rattle.protocol.specs.Calls.{testAnswer, proveAnswer, verifyAnswer}
+use Rattle.protocol.specs.Calls.{testAnswer, batchAnswer, proveAnswer, verifyAnswer}
 use Rattle.protocol.specs.SmallExample.{four, changed, sizes, key, witness, leaves, H′, χ, Δ, proof, opened}
 
 abbrev pub allowed : ℕ → ℕ → ℕ → ℕ → Bool
@@ -30,6 +32,34 @@ toy = record { n = 2; m = 1; τ = 1; t = 1 }
 
 abbrev pub largest : Shape
 largest = record { n = 320; m = 320; τ = 48; t = 288 }
+
+-- The degrees that are served, and some that are not: among them 260, whose low byte is 4. At one that is served the
+-- questions go on.
+pub record Degrees : Type 0 where
+  pub eight-served : served (setting 8) ≡ true
+  pub four-served : served (setting 4) ≡ true
+  pub eight-goes-on : testAnswer (setting 8) [] witness ≡ refused 1 0
+  pub four-goes-on : testAnswer (setting 4) [] witness ≡ refused 1 0
+  pub at-0 : testAnswer (setting 0) key witness ≡ refused 16 0
+  pub at-3 : testAnswer (setting 3) key witness ≡ refused 16 0
+  pub at-5 : testAnswer (setting 5) key witness ≡ refused 16 0
+  pub at-12 : testAnswer (setting 12) key witness ≡ refused 16 0
+  pub at-260 : testAnswer (setting 260) key witness ≡ refused 16 0
+
+-- Which bytes write an element: 00 to 0F at degree 4, and every byte at degree 8. Each byte is asked.
+pub record Elements : Type 0 where
+  pub last-element : elementsIn (alphabetOf (setting 4)) (0x0F ∷ []) ≡ true
+  pub first-no-element : elementsIn (alphabetOf (setting 4)) (0x10 ∷ []) ≡ false
+  pub first-asked : elementsIn (alphabetOf (setting 4)) (0x10 ∷ 0x00 ∷ []) ≡ false
+  pub last-asked : elementsIn (alphabetOf (setting 4)) (0x00 ∷ 0x80 ∷ []) ≡ false
+  pub every-byte : elementsIn (alphabetOf (setting 8)) (0xFF ∷ []) ≡ true
+  -- χ, whose first byte is 0F: that byte made 10
+  pub χ-first : proveAnswer four key leaves witness H′ (changed χ 0 0x1F) [] ≡ refused 17 0
+  -- the first bytes of Δ, Ṽ, QS0 and QS1 made 10
+  pub Δ-first : verifyAnswer four key (changed Δ 0 0x14) H′ χ opened proof ≡ refused 17 0
+  pub Ṽ-first : verifyAnswer four key Δ H′ χ opened (changed proof 22 0x1E) ≡ refused 18 0
+  pub QS0-first : verifyAnswer four key Δ H′ χ opened (changed proof 30 0x18) ≡ refused 18 0
+  pub QS1-first : verifyAnswer four key Δ H′ χ opened (changed proof 36 0x1F) ≡ refused 18 0
 
 pub record Limits : Type 0 where
   pub least : allowed 1 0 1 1 ≡ true
@@ -101,7 +131,7 @@ pub record Lengths : Type 0 where
   pub χ-short : verifyAnswer four key Δ H′ (take 3 χ) opened proof ≡ refused 5 0
   pub count-third : verifyAnswer four key Δ H′ χ opened (changed proof 2 0x01) ≡ refused 12 0
 
--- Two questions get a no, and the first in 01's order refuses.
+-- Two questions get a no, and the first in 01's order refuses; 16, 17 and 18 stand where request 3 puts them.
 pub record Order : Type 0 where
   pub two-three : verifyAnswer four (changed key 1 0x02) Δ H′ χ opened proof ≡ refused 2 0
   pub three-four : verifyAnswer four (changed (changed key 8 0x01) 47 0x02) Δ H′ χ opened proof ≡ refused 3 0
@@ -110,6 +140,17 @@ pub record Order : Type 0 where
   pub twelve-thirteen : verifyAnswer four key Δ H′ χ opened (changed (changed proof 0 0x01) 12 0x02) ≡ refused 12 0
   pub nine-ten : proveAnswer four key leaves (changed witness 1 0x02) H′ χ [] ≡ refused 9 0
   pub ten-eleven : proveAnswer four key leaves (changed witness 0 0x01) H′ χ [] ≡ refused 10 0
+  pub sixteen-one : testAnswer (setting 5) [] witness ≡ refused 16 0
+  pub sixteen-one-verify : verifyAnswer (setting 5) [] Δ H′ χ opened proof ≡ refused 16 0
+  pub five-seventeen : batchAnswer four key leaves witness (0x10 ∷ χ) [] ≡ refused 5 0
+  pub six-seventeen : proveAnswer four key leaves witness (changed H′ 5 0x02) (changed χ 3 0x10) [] ≡ refused 6 0
+  pub six-seventeen-verify : verifyAnswer four key (changed Δ 1 0x10) (changed H′ 5 0x02) χ opened proof ≡ refused 6 0
+  pub seventeen-seven : proveAnswer four key [] witness H′ (changed χ 3 0x10) [] ≡ refused 17 0
+  pub seventeen-seven-batch : batchAnswer four key [] witness (changed χ 3 0x10) [] ≡ refused 17 0
+  pub seventeen-seven-verify : verifyAnswer four key (changed Δ 1 0x10) H′ χ [] proof ≡ refused 17 0
+  pub twelve-eighteen : verifyAnswer four key Δ H′ χ opened (changed proof 25 0x10 ++ (0x00 ∷ [])) ≡ refused 12 0
+  pub thirteen-eighteen : verifyAnswer four key Δ H′ χ opened (changed (changed proof 17 0x04) 25 0x10) ≡ refused 13 0
+  pub eighteen-fourteen : verifyAnswer four key Δ H′ χ opened (changed (changed proof 22 0x01) 37 0x10) ≡ refused 18 0
 
 -- Refusal 11 names the lowest-numbered equation that fails: of two that fail the first, and the second where only that
 -- one fails.
@@ -118,8 +159,8 @@ pub record FirstEquation : Type 0 where
   pub second-fails : proveAnswer four key leaves (changed witness 0 0x01) H′ χ (replicate 38 0x00) ≡ refused 11 1
 
 -- 01's numbers, over GF(256), at the sizes of its toy: k, L, w, the leaves of a tree and of an opened one.
--- Of the largest key k, L, w, and where the masks of the repetitions 1 and 47 begin; and k and the mask of repetition 1
--- over GF(16).
+-- Of the largest key k, L, w, and where the masks of the repetitions 1 and 47 begin. At degree 4 the leaves of a tree and
+-- of an opened one, the mask coordinates of a repetition, and k and the mask of repetition 1 of SmallExample's key.
 pub record Derived : Type 0 where
   pub k-is : kOf bits256 toy ≡ 10
   pub L-is : lOf bits256 toy ≡ 11
@@ -131,6 +172,10 @@ pub record Derived : Type 0 where
   pub w-largest : wOf bits256 largest ≡ 124
   pub mask-second : maskAt bits256 largest 1 ≡ 328
   pub mask-last : maskAt bits256 largest 47 ≡ 696
+  pub masks-are : alphabetOf (setting 8) .masks ≡ 8
+  pub tree-sixteen : perTree (alphabetOf (setting 4)) ≡ 16
+  pub opened-sixteen : perOpened (alphabetOf (setting 4)) ≡ 15
+  pub masks-sixteen : alphabetOf (setting 4) .masks ≡ 4
   pub k-sixteen : kOf bits16 sizes ≡ 17
   pub mask-sixteen : maskAt bits16 sizes 1 ≡ 13
 

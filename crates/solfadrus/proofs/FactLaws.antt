@@ -11,7 +11,7 @@ use Rattle.algebra.proofs.CountLaws.{and-left, and-right}
 use Rattle.protocol.specs.Lists.{allTrue}
 use Rattle.protocol.specs.Strings.{bytesFor, spareZero}
 use Rattle.protocol.specs.Frames.{framedLength}
-use Rattle.protocol.specs.Alphabet.{Alphabet, elementsIn}
+use Rattle.protocol.specs.Alphabet.{elementsIn}
 use Rattle.protocol.specs.Setting.{Setting, alphabetOf}
 use Rattle.protocol.specs.Shape.{Shape, shapeOf, limits, wOf}
 use Rattle.protocol.specs.Sections.{lengths, commitLengths, hashLengths, batchLengths}
@@ -23,30 +23,30 @@ use Rattle.protocol.proofs.AnswerLaws.{ask-accepts, all-yes}
 use Rattle.format.proofs.FitLaws.{batching-of}
 use Rattle.questions.specs.Facts.{KeyFacts, WitnessForm, TestFacts, CommitFacts, HashFacts, BatchFacts, ProveFacts}
 
-witness-of : (A : Alphabet) (s : Shape) (x : List ℕ) → witnessForm A s x ≡ true → WitnessForm A s x
+witness-of : (g : Setting) (s : Shape) (x : List ℕ) → witnessForm (alphabetOf g) s x ≡ true → WitnessForm (alphabetOf g) s x
 unfolding witnessForm
-witness-of A s x h =
+witness-of g s x h =
     record {
       witness-length = eqb-eq _ _ (and-left (eqb (length x) (bytesFor (s .n))) (spareZero x (s .n)) h);
       witness-spare = and-right (eqb (length x) (bytesFor (s .n))) (spareZero x (s .n)) h;
     }
 
-commit-out : (A : Alphabet) (s : Shape) (out : List ℕ) → eqb (length out) (framedLength (commitLengths A s)) ≡ true → length out ≡ 8 + (s .τ - 1) * wOf A s + bytesFor (s .n)
+commit-out : (g : Setting) (s : Shape) (out : List ℕ) → eqb (length out) (framedLength (commitLengths (alphabetOf g) s)) ≡ true → length out ≡ 8 + (s .τ - 1) * wOf (alphabetOf g) s + bytesFor (s .n)
 unfolding framedLength commitLengths
-commit-out A s out h = eqb-eq _ _ h ∙ omega arith
+commit-out g s out h = eqb-eq _ _ h ∙ omega arith
 
-hash-out : (A : Alphabet) (s : Shape) (out : List ℕ) → eqb (length out) (framedLength (hashLengths A s)) ≡ true → length out ≡ 8 + bytesFor (s .t) + s .τ * s .t
+hash-out : (g : Setting) (s : Shape) (out : List ℕ) → eqb (length out) (framedLength (hashLengths (alphabetOf g) s)) ≡ true → length out ≡ 8 + bytesFor (s .t) + s .τ * s .t
 unfolding framedLength hashLengths
-hash-out A s out h = eqb-eq _ _ h ∙ omega arith
+hash-out g s out h = eqb-eq _ _ h ∙ omega arith
 
-batch-out : (A : Alphabet) (s : Shape) (out : List ℕ) → eqb (length out) (framedLength (batchLengths A s)) ≡ true → length out ≡ 8 + s .τ + s .τ
+batch-out : (g : Setting) (s : Shape) (out : List ℕ) → eqb (length out) (framedLength (batchLengths (alphabetOf g) s)) ≡ true → length out ≡ 8 + s .τ + s .τ
 unfolding framedLength batchLengths
-batch-out A s out h = eqb-eq _ _ h ∙ omega arith
+batch-out g s out h = eqb-eq _ _ h ∙ omega arith
 
-prove-out : (A : Alphabet) (s : Shape) (out : List ℕ) → eqb (length out) (framedLength (lengths A s)) ≡ true
-    → length out ≡ 24 + (s .τ - 1) * wOf A s + bytesFor (s .n) + bytesFor (s .t) + s .τ * s .t + s .τ + s .τ
+prove-out : (g : Setting) (s : Shape) (out : List ℕ) → eqb (length out) (framedLength (lengths (alphabetOf g) s)) ≡ true
+    → length out ≡ 24 + (s .τ - 1) * wOf (alphabetOf g) s + bytesFor (s .n) + bytesFor (s .t) + s .τ * s .t + s .τ + s .τ
 unfolding framedLength lengths
-prove-out A s out h = eqb-eq _ _ h ∙ omega arith
+prove-out g s out h = eqb-eq _ _ h ∙ omega arith
 
 module _ (g : Setting) (key : List ℕ) where
   abbrev s : Shape
@@ -55,7 +55,7 @@ module _ (g : Setting) (key : List ℕ) where
   pub test-facts : (x : List ℕ) → ask (testQuestions g key x) ≡ accepted → TestFacts (alphabetOf g) (shapeOf key) key x
   test-facts x h =
       let t = all-yes (testQuestions g key x) (ask-accepts (testQuestions g key x) .0 h) in
-      record { of-key = record { header = leb-le _ _ (t .1 .0); in-range = t .1 .1 .0; key-exact = t .1 .1 .1 .0; key-spare = t .1 .1 .1 .1 .0 }; of-witness = witness-of (alphabetOf g) s x (t .1 .1 .1 .1 .1 .0) }
+      record { of-key = record { header = leb-le _ _ (t .1 .0); in-range = t .1 .1 .0; key-exact = t .1 .1 .1 .0; key-spare = t .1 .1 .1 .1 .0 }; of-witness = witness-of g s x (t .1 .1 .1 .1 .1 .0) }
 
   pub commit-facts : (leaves x out : List ℕ) → ask (commitQuestions g key leaves x out) ≡ accepted → KeyFacts (alphabetOf g) (shapeOf key) key × CommitFacts (alphabetOf g) (shapeOf key) leaves x out
   commit-facts leaves x out h =
@@ -65,8 +65,8 @@ module _ (g : Setting) (key : List ℕ) where
         record {
           in-range = t .1 .1 .0;
           of-leaves = record { leaves-exact = r .0; leaves-spare = r .1 .0 };
-          of-witness = witness-of (alphabetOf g) s x (r .1 .1 .0);
-          of-out = commit-out (alphabetOf g) s out (r .1 .1 .1 .0);
+          of-witness = witness-of g s x (r .1 .1 .0);
+          of-out = commit-out g s out (r .1 .1 .1 .0);
         },
       )
 
@@ -80,7 +80,7 @@ module _ (g : Setting) (key : List ℕ) where
           in-range = t .1 .1 .0;
           of-hash = record { hash-exact = q .0; hash-spare = r .1 .0 };
           of-leaves = record { leaves-exact = r .1 .1 .0; leaves-spare = r .1 .1 .1 .0 };
-          of-out = hash-out (alphabetOf g) s out (r .1 .1 .1 .1 .0);
+          of-out = hash-out g s out (r .1 .1 .1 .1 .0);
         },
       )
 
@@ -94,8 +94,8 @@ module _ (g : Setting) (key : List ℕ) where
         of-batching = batching-of g s χ (q .0);
         of-elements = all-true (elementsIn (alphabetOf g) χ ∷ []) (r .1 .0) .0;
         of-leaves = record { leaves-exact = r .1 .1 .0; leaves-spare = r .1 .1 .1 .0 };
-        of-witness = witness-of (alphabetOf g) s x (r .1 .1 .1 .1 .0);
-        of-out = batch-out (alphabetOf g) s out (r .1 .1 .1 .1 .1 .0);
+        of-witness = witness-of g s x (r .1 .1 .1 .1 .0);
+        of-out = batch-out g s out (r .1 .1 .1 .1 .1 .0);
       }
 
   pub prove-facts : (leaves x H′ χ out : List ℕ) → ask (proveQuestions g key leaves x H′ χ out) ≡ accepted → ProveFacts (alphabetOf g) (shapeOf key) key leaves x H′ χ out
@@ -109,6 +109,6 @@ module _ (g : Setting) (key : List ℕ) where
         of-batching = batching-of g s χ (q .1 .0);
         of-elements = all-true (elementsIn (alphabetOf g) χ ∷ []) (r .1 .1 .0) .0;
         of-leaves = record { leaves-exact = r .1 .1 .1 .0; leaves-spare = r .1 .1 .1 .1 .0 };
-        of-witness = witness-of (alphabetOf g) s x (r .1 .1 .1 .1 .1 .0);
-        of-out = prove-out (alphabetOf g) s out (r .1 .1 .1 .1 .1 .1 .0);
+        of-witness = witness-of g s x (r .1 .1 .1 .1 .1 .0);
+        of-out = prove-out g s out (r .1 .1 .1 .1 .1 .1 .0);
       }

@@ -8,7 +8,7 @@ use Prim.Native.Nat.{ℕ, suc, _+_, _*_, _<_}
 use native.Mathlib.Omega.{arith}
 use Rattle.protocol.specs.Alphabet.{Alphabet}
 use Rattle.protocol.specs.Shape.{Shape, limits}
-use Rattle.protocol.specs.Answers.{Answer, accepted, refused, placeOf, word, isAccepted, written, Question, question, ask, Published, taken, header-short, size-out-of-range, key-length, key-spare-bit, challenge-length, hash-spare-bit, leaf-length, leaf-spare-bit, witness-form, output-length, equation-fails, proof-length, proof-spare-bit, inconsistent, product-differs}
+use Rattle.protocol.specs.Answers.{Answer, accepted, refused, placeOf, word, isAccepted, written, Question, question, ask, Published, taken, header-short, size-out-of-range, key-length, key-spare-bit, challenge-length, hash-spare-bit, leaf-length, leaf-spare-bit, witness-form, output-length, equation-fails, proof-length, proof-spare-bit, inconsistent, product-differs, degree-unserved, challenge-element, proof-element}
 use Rattle.protocol.specs.Questions.{q2}
 use Rattle.protocol.proofs.AnswerLaws.{ask-no, ask-yes, ask-accepts, ask-refuses, place-lt, word-tells}
 use Rattle.protocol.proofs.LimitLaws.{bounds-of}
@@ -37,6 +37,9 @@ only-accepted s (refused i p) proof-length h = absurd (omega (arith, h))
 only-accepted s (refused i p) proof-spare-bit h = absurd (omega (arith, h))
 only-accepted s (refused i p) (inconsistent e l) h = absurd (omega (arith, h))
 only-accepted s (refused i p) (product-differs e l) h = absurd (omega (arith, h))
+only-accepted s (refused i p) degree-unserved h = absurd (omega (arith, h))
+only-accepted s (refused i p) challenge-element h = absurd (omega (arith, h))
+only-accepted s (refused i p) proof-element h = absurd (omega (arith, h))
 
 -- a number that is not 0 is a refusal
 pub not-zero : (s : Shape) (a : Answer) (r : ℕ) (F : Type 0) → Published s a → r ≡ word a → (a ≢ accepted) ↔ F → (r ≢ 0) ↔ F

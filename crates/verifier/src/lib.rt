@@ -1,7 +1,7 @@
 // The verifier: its questions on form, and then 14 and 15, 14 over all repetitions before 15 over any. All that it is
 // lent is public.
 ghost use mathlib.Core.Path.{_≡_};
-ghost use Rattle.protocol.specs.Binary.{bits256};
+ghost use Rattle.protocol.specs.Setting.{setting};
 ghost use Rattle.protocol.specs.Answers.{ask};
 ghost use Rattle.protocol.specs.Calls.{verifyAnswer};
 ghost use Rattle.format.specs.Sizes.{alphabetFor, shapeFor};

@@ -5,7 +5,9 @@ ghost use mathlib.Core.List.{List};
 ghost use Prim.Native.Nat.{ℕ, _*_, _≤_};
 ghost use lib.Dec.{eqb};
 ghost use lib.ListN.{length};
+ghost use Rattle.protocol.specs.Alphabet.{elementsIn};
 ghost use Rattle.protocol.specs.Shape.{limits, wOf, mostHashRows};
+ghost use Rattle.protocol.specs.Sections.{sectionsIn};
 ghost use Rattle.lanes.specs.Lanes.{lanes};
 ghost use Rattle.format.specs.Sizes.{alphabetFor, shapeFor};
 ghost use Rattle.questions.specs.Facts.{HashForm, PlacesOf};
@@ -106,6 +108,7 @@ fn check_hashed(
     requires { ⌜ (limits (shapeFor s) ≡ true) × HashForm (alphabetFor s) (shapeFor s) (now matrix)
         × PlacesOf (alphabetFor s) (shapeFor s) (now proof) places × (length (now delta) ≡ s .tau) ⌝ }
     requires { ⌜ (length (now table) ≡ 8 * wOf (alphabetFor s) (shapeFor s) * lanes) × (length (now hashed) ≡ s .tau * s .t) ⌝ }
+    requires { ⌜ (elementsIn (alphabetFor s) (now delta) ≡ true) × (elementsIn (alphabetFor s) (sectionsIn (alphabetFor s) (shapeFor s) (now proof) .Ṽ) ≡ true) ⌝ }
     ensures { λ r. ⌜ FirstInconsistent (alphabetFor s) (shapeFor s) (now (delta .entry)) (now (matrix .entry)) (now (proof .entry)) (now (table .entry)) r ⌝ }
 {
     let t = s.t;
@@ -131,6 +134,7 @@ pub fn check_consistency(
     requires { ⌜ (limits (shapeFor s) ≡ true) × HashForm (alphabetFor s) (shapeFor s) (now matrix)
         × PlacesOf (alphabetFor s) (shapeFor s) (now proof) places × (length (now delta) ≡ s .tau) ⌝ }
     requires { ⌜ length (now table) ≡ 8 * wOf (alphabetFor s) (shapeFor s) * lanes ⌝ }
+    requires { ⌜ (elementsIn (alphabetFor s) (now delta) ≡ true) × (elementsIn (alphabetFor s) (sectionsIn (alphabetFor s) (shapeFor s) (now proof) .Ṽ) ≡ true) ⌝ }
     ensures { λ r. ⌜ FirstInconsistent (alphabetFor s) (shapeFor s) (now (delta .entry)) (now (matrix .entry)) (now (proof .entry)) (now (table .entry)) r ⌝ }
 {
     let tau = s.tau;

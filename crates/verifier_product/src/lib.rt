@@ -1,18 +1,21 @@
 // The product check (01, verifier's rules): K_e, the left side in every repetition, and the right side, to which it is
 // held. All of it is public.
 ghost use mathlib.Core.Path.{_≡_};
+ghost use mathlib.Core.Bool.{true};
 ghost use Prim.Native.Nat.{ℕ, _+_, _*_, _<_, _≤_};
 ghost use lib.ListN.{length};
 ghost use lib.Bits.{bitXor};
 ghost use Rattle.protocol.specs.Strings.{bit};
+ghost use Rattle.protocol.specs.Alphabet.{elementsIn};
+ghost use Rattle.protocol.specs.Sections.{sectionsIn};
 ghost use Rattle.strings.specs.Sums.{byteAt, xorSum};
 ghost use Rattle.lanes.specs.Lanes.{lanes, laneAt};
 ghost use Rattle.format.specs.Sizes.{alphabetFor, shapeFor};
 ghost use Rattle.forms_columns.specs.Stacks.{coordinateOf, VectorsRoom};
-ghost use Rattle.forms_batching.specs.Batched.{CellsRoom};
+ghost use Rattle.forms_batching.specs.Batched.{CellsRoom, VectorsNarrow};
 ghost use Rattle.forms_batching.specs.Lines.{VectorsEnd};
 ghost use Rattle.questions.specs.Facts.{KeyFacts, PlacesOf};
-ghost use Rattle.verifier_product.specs.Product.{KeyLanes, EquationsOf, valueByte, LeftSides, firstDiffering, SpaceRoom, FirstDiffers};
+ghost use Rattle.verifier_product.specs.Product.{KeyLanes, EquationsOf, valueByte, LeftSides, firstDiffering, TableNarrow, SpaceRoom, FirstDiffers};
 use format::sizes::MOST_VARIABLES;
 use format::sizes::Sizes;
 use forms::batch::Forms;
@@ -89,8 +92,8 @@ fn product_lanes(
     s: Sizes,
 )
     requires { ⌜ EquationsOf (shapeFor s) (now a) (now b) (now y) (now chi) ⌝ }
-    requires { ⌜ (length (now left) ≡ lanes) × (length (now delta) ≡ lanes) × VectorsRoom (now vectors) × VectorsEnd (s .n) (s .tau) (now vectors) × CellsRoom (now cells) ⌝ }
-    ensures { λ _. ⌜ LeftSides (shapeFor s) (now (a .entry)) (now (b .entry)) (now (y .entry)) (now (chi .entry)) (now (delta .entry)) (coordinateOf (now (vectors .entry)))
+    requires { ⌜ (length (now left) ≡ lanes) × (length (now delta) ≡ lanes) × VectorsRoom (now vectors) × VectorsEnd (s .n) (s .tau) (now vectors) × CellsRoom (now cells) × VectorsNarrow (s .degree) (s .tau) (now vectors) ⌝ }
+    ensures { λ _. ⌜ LeftSides (s .degree) (shapeFor s) (now (a .entry)) (now (b .entry)) (now (y .entry)) (now (chi .entry)) (now (delta .entry)) (coordinateOf (now (vectors .entry)))
         (now (left .entry)) (now (left .exit)) ⌝ }
 {
     let n = s.n;
@@ -118,7 +121,7 @@ fn product_lanes(
 // The right side: the first repetition whose left side is not QS0_e + QS1_e·δ_e, or their number where none is.
 fn first_differing(left: &[u8], qs0: &[u8], qs1: &[u8], delta: &[u8], degree: usize) -> usize
     requires { ⌜ (length (now delta) ≤ length (now left)) × (length (now qs0) ≡ length (now delta)) × (length (now qs1) ≡ length (now delta)) ⌝ }
-    ensures { λ r. ⌜ r ≡ firstDiffering (now (left .entry)) (now (qs0 .entry)) (now (qs1 .entry)) (now (delta .entry)) ⌝ }
+    ensures { λ r. ⌜ r ≡ firstDiffering degree (now (left .entry)) (now (qs0 .entry)) (now (qs1 .entry)) (now (delta .entry)) ⌝ }
 {
     let mut e = 0;
     while e < delta.len() {
@@ -155,6 +158,8 @@ pub fn check_product(
 ) -> usize
     requires { ⌜ KeyFacts (alphabetFor s) (shapeFor s) (now key) × PlacesOf (alphabetFor s) (shapeFor s) (now proof) places × (length (now delta) ≡ s .tau) ⌝ }
     requires { ⌜ (length (now batching) ≡ s .tau * s .m) × SpaceRoom (alphabetFor s) (shapeFor s) (now space) ⌝ }
+    requires { ⌜ (elementsIn (alphabetFor s) (now delta) ≡ true) × (elementsIn (alphabetFor s) (now batching) ≡ true)
+        × (elementsIn (alphabetFor s) (sectionsIn (alphabetFor s) (shapeFor s) (now proof) .QS0) ≡ true) × TableNarrow (alphabetFor s) (shapeFor s) (now space) ⌝ }
     ensures { λ r. ⌜ FirstDiffers (alphabetFor s) (shapeFor s) (now (key .entry)) (now (delta .entry)) (now (batching .entry)) (now (proof .entry)) (now (space .entry)) r ⌝ }
 {
     let n = s.n;

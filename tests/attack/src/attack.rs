@@ -1,9 +1,8 @@
 //! The attack. QS1_e is a mask plus Σ χ·a₁, and a₁ = xᵀ(A + Aᵀ)v_e + b·v_e. The verifier has K_e = v_e + Δ_e·x. Put in
 //! for v_e, xᵀ(A + Aᵀ)x is 0, so that a₁ is affine in the bits of x, with coefficients that he knows. Where two
-//! repetitions have one mask, the sum of their QS1 gives him eight linear equations over GF(2).
+//! repetitions have one mask, the sum of their QS1 gives him as many linear equations over GF(2) as the degree says.
 
 use crate::case::View;
-use crate::field::product;
 use crate::format::{bit, pack, sections, Key, Sizes};
 use crate::random::Random;
 use crate::verifier::evaluations;
@@ -26,8 +25,9 @@ impl Form {
 
 /// The form of each repetition.
 pub fn forms(view: &View) -> Vec<Form> {
-    let key = Key::read(view.key);
+    let key = Key::read(view.key, view.field);
     let Sizes { n, m, tau, .. } = key.sizes;
+    let product = |a, b| view.field.product(a, b);
     let form = |e: usize| {
         let batched = key.batched(&view.batching[m * e..][..m]);
         let k = evaluations(view, n, e);
@@ -49,7 +49,7 @@ const MOST_TRIED: usize = 10;
 
 /// The witness's bits, as the sums of QS1 of the first and each other repetition give them.
 pub fn guess(view: &View, forms: &[Form], coins: &mut Random) -> Vec<u8> {
-    let key = Key::read(view.key);
+    let key = Key::read(view.key, view.field);
     let n = key.sizes.n;
     let [.., qs1] = sections::<6>(view.proof);
     let mut equations = Vec::new();
@@ -58,7 +58,10 @@ pub fn guess(view: &View, forms: &[Form], coins: &mut Random) -> Vec<u8> {
             .map(|c| forms[0].coefficients[c] ^ forms[e].coefficients[c])
             .collect();
         sum.push(qs1[0] ^ qs1[e] ^ forms[0].constant ^ forms[e].constant);
-        equations.extend((0..8).map(|s| sum.iter().map(|byte| byte >> s & 1).collect::<Vec<u8>>()));
+        equations.extend(
+            (0..view.field.degree())
+                .map(|s| sum.iter().map(|byte| byte >> s & 1).collect::<Vec<u8>>()),
+        );
     }
     let solved = solve(equations, n);
     let free: Vec<usize> = (0..n)

@@ -1,19 +1,22 @@
 //! Sizes, bit strings, sections and keys, as 01 lays them out.
 
+use crate::field::Field;
+
 #[derive(Clone, Copy, Debug)]
 pub struct Sizes {
     pub n: usize,
     pub m: usize,
     pub tau: usize,
     pub t: usize,
+    pub field: Field,
 }
 
-/// Where the eight mask coordinates of a repetition stand.
+/// Where the mask coordinates of a repetition stand, r of them, the degree.
 #[derive(Clone, Copy, Debug, PartialEq, Eq)]
 pub enum Masks {
-    /// At n, for every repetition: k = n + 8. So it was before request 4.
+    /// At n, for every repetition: k = n + r. So it was before request 4.
     Shared,
-    /// At n + 8e for repetition e: k = n + 8τ.
+    /// At n + re for repetition e: k = n + rτ.
     Own,
     /// The same, but that the last repetition has the mask of the one before it.
     LastShared,
@@ -23,14 +26,14 @@ impl Masks {
     pub fn start(self, sizes: Sizes, e: usize) -> usize {
         match self {
             Masks::Shared => sizes.n,
-            Masks::Own => sizes.n + 8 * e,
-            Masks::LastShared => sizes.n + 8 * e.min(sizes.tau - 2),
+            Masks::Own => sizes.n + sizes.field.degree() * e,
+            Masks::LastShared => sizes.n + sizes.field.degree() * e.min(sizes.tau - 2),
         }
     }
 
     /// k, where the coordinates of the last repetition's mask end.
     pub fn end(self, sizes: Sizes) -> usize {
-        self.start(sizes, sizes.tau - 1) + 8
+        self.start(sizes, sizes.tau - 1) + sizes.field.degree()
     }
 
     /// L.
@@ -109,13 +112,15 @@ pub struct Batched {
 }
 
 impl Key<'_> {
-    pub fn read(key: &[u8]) -> Key<'_> {
+    /// A key, and the field beside it.
+    pub fn read(key: &[u8], field: Field) -> Key<'_> {
         let size = |i: usize| u16::from_le_bytes([key[2 * i], key[2 * i + 1]]) as usize;
         let sizes = Sizes {
             n: size(0),
             m: size(1),
             tau: size(2),
             t: size(3),
+            field,
         };
         let [matrices, linear, y] = sections(&key[8..]);
         Key {

@@ -17,7 +17,7 @@ pub struct Tally {
     recovered: usize,
     bits: usize,
     agreeing: usize,
-    /// The 8τ bits of each proof's masks.
+    /// The rτ bits of each proof's masks.
     masks: Vec<Vec<u8>>,
 }
 
@@ -37,7 +37,7 @@ impl Tally {
             .map(|(form, qs1)| form.mask(*qs1, witness));
         self.masks.push(
             masks
-                .flat_map(|mask| (0..8).map(move |s| mask >> s & 1))
+                .flat_map(|mask| (0..view.field.degree()).map(move |s| mask >> s & 1))
                 .collect(),
         );
     }

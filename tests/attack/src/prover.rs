@@ -1,17 +1,19 @@
 //! A small prover, from the rules of 01, with one mask or with one for each repetition.
 
 use crate::case::Case;
-use crate::field::{power, product};
 use crate::format::{add_at_ones, bit, pack, section, Key, Sizes};
 
 /// The proof's bytes.
 pub fn prove(case: &Case) -> Vec<u8> {
-    let Sizes { n, m, tau, .. } = case.sizes;
+    let Sizes {
+        n, m, tau, field, ..
+    } = case.sizes;
+    let product = |a, b| field.product(a, b);
     let length = case.masks.leaf_bits(case.sizes);
     let trees: Vec<(Vec<u8>, Vec<u8>)> = case
         .leaves
         .chunks(case.leaves.len() / tau)
-        .map(|tree| sums(tree, length))
+        .map(|tree| sums(tree, field.size(), length))
         .collect();
     let u = &trees[0].0;
     let x: Vec<u8> = (0..n).map(|c| bit(&case.witness, c)).collect();
@@ -21,7 +23,7 @@ pub fn prove(case: &Case) -> Vec<u8> {
         .flat_map(|(own, _)| pack(&added(own, u)))
         .collect();
     let hashes: Vec<u8> = trees.iter().flat_map(|(_, v)| hashed(case, v)).collect();
-    let key = Key::read(&case.key);
+    let key = Key::read(&case.key, field);
     let (mut qs0, mut qs1) = (Vec::new(), Vec::new());
     for (e, (_, v)) in trees.iter().enumerate() {
         let batched = key.batched(&case.batching[m * e..][..m]);
@@ -34,8 +36,8 @@ pub fn prove(case: &Case) -> Vec<u8> {
             a1 ^= product(batched.linear[r], v[r]);
         }
         let start = case.masks.start(case.sizes, e);
-        qs0.push(a0 ^ mask(&v[start..]));
-        qs1.push(a1 ^ mask(&u[start..]));
+        qs0.push(a0 ^ field.mask(&v[start..]));
+        qs1.push(a1 ^ field.mask(&u[start..]));
     }
     [
         corrections,
@@ -51,9 +53,9 @@ pub fn prove(case: &Case) -> Vec<u8> {
 }
 
 /// u and v of a tree: the sum of its leaves, and that of each leaf times its number.
-fn sums(tree: &[u8], length: usize) -> (Vec<u8>, Vec<u8>) {
+fn sums(tree: &[u8], leaves: usize, length: usize) -> (Vec<u8>, Vec<u8>) {
     let (mut u, mut v) = (vec![0; length], vec![0; length]);
-    for (j, leaf) in tree.chunks(tree.len() / 256).enumerate() {
+    for (j, leaf) in tree.chunks(tree.len() / leaves).enumerate() {
         add_at_ones(&mut u, leaf, 1);
         add_at_ones(&mut v, leaf, j as u8);
     }
@@ -67,9 +69,4 @@ fn added(a: &[u8], b: &[u8]) -> Vec<u8> {
 /// [H′ | identity] times a vector.
 fn hashed(case: &Case, vector: &[u8]) -> Vec<u8> {
     crate::verifier::hashed(&case.hash_matrix, case.sizes.t, vector)
-}
-
-/// Σ α^s times the coordinate s.
-pub fn mask(coordinates: &[u8]) -> u8 {
-    (0..8).fold(0, |sum, s| sum ^ product(power(s), coordinates[s]))
 }

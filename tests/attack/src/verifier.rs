@@ -2,18 +2,17 @@
 //! that is not one.
 
 use crate::case::View;
-use crate::field::product;
 use crate::format::{add_at_ones, bit, sections, Key, Masks, Sizes};
-use crate::prover::mask;
 
 /// The first coordinates of W_e, so many.
 pub fn opened_sums(view: &View, e: usize, length: usize) -> Vec<u8> {
     let [corrections, ..] = sections::<6>(view.proof);
     let tree = view.opened.len() / view.delta.len();
-    let leaf_length = tree / 255;
+    let last = view.field.size() - 1;
+    let leaf_length = tree / last;
     let delta = view.delta[e];
     let mut w = vec![0; length];
-    let numbers = (0..=255).filter(|j| *j != delta);
+    let numbers = (0..=last as u8).filter(|j| *j != delta);
     for (j, leaf) in numbers.zip(view.opened[tree * e..].chunks(leaf_length)) {
         add_at_ones(&mut w, leaf, j ^ delta);
     }
@@ -46,7 +45,7 @@ pub fn hashed(hash_matrix: &[u8], t: usize, vector: &[u8]) -> Vec<u8> {
 
 /// Whether both checks hold in every repetition.
 pub fn accepts(view: &View, masks: Masks) -> bool {
-    let key = Key::read(view.key);
+    let key = Key::read(view.key, view.field);
     let sizes = key.sizes;
     (0..sizes.tau).all(|e| consistent(view, masks, sizes, e) && product_holds(view, masks, &key, e))
 }
@@ -60,7 +59,8 @@ fn consistent(view: &View, masks: Masks, sizes: Sizes, e: usize) -> bool {
 }
 
 fn product_holds(view: &View, masks: Masks, key: &Key, e: usize) -> bool {
-    let Sizes { n, m, .. } = key.sizes;
+    let Sizes { n, m, field, .. } = key.sizes;
+    let product = |a, b| field.product(a, b);
     let [_, _, _, _, qs0, qs1] = sections(view.proof);
     let delta = view.delta[e];
     let batched = key.batched(&view.batching[m * e..][..m]);
@@ -74,6 +74,6 @@ fn product_holds(view: &View, masks: Masks, key: &Key, e: usize) -> bool {
         sum ^= product(k[r], of_row ^ product(delta, batched.linear[r]));
     }
     let start = masks.start(key.sizes, e);
-    sum ^= mask(&opened_sums(view, e, start + 8)[start..]);
+    sum ^= field.mask(&opened_sums(view, e, start + field.degree())[start..]);
     sum == qs0[e] ^ product(qs1[e], delta)
 }

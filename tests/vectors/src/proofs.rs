@@ -20,8 +20,8 @@ fn shapes(degree: u32) -> Vec<[usize; 4]> {
             shapes.push([EDGES[a], EDGES[b], REPETITIONS[a ^ b], EDGES[a ^ double]]);
         }
     }
-    // The limits of n, m and t, the other sizes small; of tau at degree 8 only five, since at its limit the leaves would
-    // have more than half a megabyte. And one with several words to each string.
+    // The limits of n, m and t, the other sizes small; of tau at degree 8 only five, since at its limit the leaves
+    // would have more than half a megabyte. And one with several words to each string.
     let tau = if degree == 8 { 5 } else { 48 };
     shapes.extend([
         [320, 2, 1, 3],

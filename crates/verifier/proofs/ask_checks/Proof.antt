@@ -14,7 +14,7 @@ use Rattle.protocol.specs.Shape.{wOf}
 use Rattle.protocol.specs.Answers.{ask}
 use Rattle.protocol.specs.Questions.{consistentIn, productIn, q14}
 use Rattle.lanes.specs.Lanes.{lanes}
-use Rattle.format.specs.Sizes.{alphabetFor, shapeFor}
+use Rattle.format.specs.Sizes.{settingFor, alphabetFor, shapeFor}
 use Rattle.format.specs.Verdict.{answerOf}
 use Rattle.format.proofs.AskLaws.{then-ask, go-on, stop-at}
 use Rattle.format.proofs.SizeLaws.{in-limits, w-most}
@@ -22,7 +22,7 @@ use Rattle.sections.proofs.Writes.{take-length}
 use Rattle.tables_opened.specs.Opened.{Opened}
 use Rattle.questions.proofs.ProofLaws.{section-lengths}
 use Rattle.questions.proofs.AnswerLaws.{asked-of-each}
-use Rattle.verifier.proofs.GivenLaws.{opened-is, opened-begins, opened-long}
+use Rattle.verifier.proofs.GivenLaws.{sent-elements, challenge-lt, opened-is, opened-begins, opened-long, opened-narrow}
 use Rattle.verifier.proofs.ask_checks.Statement.{statement}
 use Rattle.verifier.proofs.ask_checks.Tie as tie
 
@@ -60,15 +60,15 @@ load-opened-requires c κs =
     let s = c .before .before .before .before .before .before .before .before .before .before .before in
     let shape = shapeFor (s .args .s) in
     let facts = s .pre .0 .0 in
-    rw (c .before .before .before .leaf-bytes .ensures, c .degree-of .ensures) (
+    rw (c .before .before .before .leaf-bytes .ensures, c .degree-of .ensures .0) (
       take-length (8 * wOf (alphabetFor (s .args .s)) shape * lanes) (now (s .args .space)) (s .pre .1 .0),
       opened-long (alphabetFor (s .args .s)) shape (now (s .args .opened)) (facts .of-opened),
       facts .of-challenge,
       c .before .proof-section .ensures (s .args .s) (facts .of-proof) .1 ∙ section-lengths (alphabetFor (s .args .s)) shape .c-length,
       in-limits shape (facts .of-key .in-range) .τ-most,
-      omega (arith, w-most shape (facts .of-key .in-range)),
-      omega arith,
-      (λ e h. c .before .before .before .before .before .before .before .before .shared-slice-known2 .given e .fits),
+      omega (arith, w-most (settingFor (s .args .s)) shape (facts .of-key .in-range)),
+      alphabetFor (s .args .s) .K .degree≤8,
+      (λ e h. challenge-lt (alphabetFor (s .args .s)) (now (s .args .delta)) (facts .of-elements) e),
     )
 
 -- what was lent as the table is as long, and is W_e of every repetition
@@ -83,13 +83,19 @@ loaded c =
     let section = c .before .before .proof-section in
     let width = c .before .before .before .before .leaf-bytes in
     opened-is (alphabetFor (a .s)) (shapeFor (a .s)) (now (a .delta)) (now (a .opened)) (now (a .proof)) (c .load-opened .last .0) (now (section .result)) (width .result) (degree .result) (width .ensures)
-    (section .ensures (a .s) (s .pre .0 .0 .of-proof) .0) (degree .ensures) (omega (arith, table-long c, width .ensures)) (c .load-opened .ensures)
+    (section .ensures (a .s) (s .pre .0 .0 .of-proof) .0) (degree .ensures .0) (omega (arith, table-long c, width .ensures)) (c .load-opened .ensures)
 
 -- and is the front of the space
 front : (c : tie.After-load-opened) → let n = 8 * c .before .before .before .before .leaf-bytes .result * lanes in take n (c .load-opened .last .0 ++ drop n (now (c .before .before .before .before .before .before .before .before .before .before .before .before .args .space))) ≡ c .load-opened .last .0
 front c =
     let n = 8 * c .before .before .before .before .leaf-bytes .result * lanes in
     take-at (c .load-opened .last .0) (drop n (now (c .before .before .before .before .before .before .before .before .before .before .before .before .args .space))) n (table-long c)
+
+begun : (c : tie.After-load-opened) → let a = c .before .before .before .before .before .before .before .before .before .before .before .before .args in Opened (alphabetFor (a .s)) (shapeFor (a .s)) (now (a .delta)) (now (a .opened)) (now (a .proof)) (c .load-opened .last .0 ++ drop (8 * c .before .before .before .before .leaf-bytes .result * lanes) (now (a .space)))
+begun c =
+    let s = c .before .before .before .before .before .before .before .before .before .before .before .before in
+    let a = s .args in
+    opened-begins (alphabetFor (a .s)) (shapeFor (a .s)) (now (a .delta)) (now (a .opened)) (now (a .proof)) (c .load-opened .last .0) _ (in-limits (shapeFor (a .s)) (s .pre .0 .0 .of-key .in-range) .τ-most) (loaded c)
 
 slice-reshare-prefix-check-consistency : tie.Need-slice-reshare-prefix-check-consistency
 slice-reshare-prefix-check-consistency c = search needs
@@ -101,7 +107,7 @@ check-consistency-requires : tie.Need-check-consistency-requires
 check-consistency-requires c κs =
     let s = c .before .before .before .before .before .before .before .before .before .before .before .before .before .before .before in
     let facts = s .pre .0 .0 in
-    ((facts .of-key .in-range, facts .of-hash, (facts .of-proof, s .pre .0 .1), facts .of-challenge), ap length (front (c .before .before .before)) ∙ table-long (c .before .before .before) ∙ ap (λ (w : ℕ). 8 * w * lanes) (c .before .before .before .before .before .before .before .leaf-bytes .ensures))
+    ((facts .of-key .in-range, facts .of-hash, (facts .of-proof, s .pre .0 .1), facts .of-challenge), (ap length (front (c .before .before .before)) ∙ table-long (c .before .before .before) ∙ ap (λ (w : ℕ). 8 * w * lanes) (c .before .before .before .before .before .before .before .leaf-bytes .ensures), (facts .of-elements, sent-elements (alphabetFor (s .args .s)) (shapeFor (s .args .s)) _ (facts .proof-elements) .0)))
 
 answer-requires : tie.Need-answer-requires
 answer-requires c κs =
@@ -133,7 +139,13 @@ check-product-requires c κs =
     let s = c .before .before .before .before .before .before .before .before .before .before .before .before .before .before .before .before .before .before .before .before in
     let facts = s .pre .0 .0 in
     let long = whole (8 * c .before .before .before .before .before .before .before .before .before .before .before .before .leaf-bytes .result * lanes) (c .before .before .before .before .before .before .before .before .load-opened .last .0) (now (s .args .space)) (begins (c .before .before .before .before .before .before .before .before .before .before .before .before)) (table-long (c .before .before .before .before .before .before .before .before)) in
-    ((facts .of-key, (facts .of-proof, s .pre .0 .1), facts .of-challenge), (facts .of-batching, (omega (arith, long, s .pre .1 .0), omega (arith, long, s .pre .1 .1))))
+    let sent = sent-elements (alphabetFor (s .args .s)) (shapeFor (s .args .s)) _ (facts .proof-elements) in (
+      (facts .of-key, (facts .of-proof, s .pre .0 .1), facts .of-challenge),
+      (
+        (facts .of-batching, (omega (arith, long, s .pre .1 .0), omega (arith, long, s .pre .1 .1))),
+        (facts .of-elements, facts .χ-elements, sent .1, opened-narrow (settingFor (s .args .s)) (shapeFor (s .args .s)) (now (s .args .delta)) (now (s .args .opened)) (now (s .args .proof)) _ (begun (c .before .before .before .before .before .before .before .before)) (facts .of-elements)),
+      ),
+    )
 
 answer-requires-2 : tie.Need-answer-requires-2
 answer-requires-2 c κs =
@@ -150,10 +162,7 @@ returns-2 c =
     let r : ℕ → Bool = productIn (alphabetFor (a .s)) shape (now (a .key)) (now (a .delta)) (now (a .batching)) (now (a .opened)) (now (a .proof)) in
     let p = c .before .before .before .check-product in
     let l = c .before .before .before .before .before .before .before .before .before .before .before .before in
-    let rest = drop (8 * c .before .before .before .before .before .before .before .before .before .before .before .before .before .before .before .before .leaf-bytes .result * lanes) (now (a .space)) in
-    let few = in-limits shape (c .before .before .before .before .before .before .before .before .before .before .before .before .before .before .before .before .before .before .before .before .before .before .before .before .pre .0 .0 .of-key .in-range) .τ-most in
-    let is = opened-begins (alphabetFor (a .s)) shape (now (a .delta)) (now (a .opened)) (now (a .proof)) (l .load-opened .last .0) rest few (loaded l) in
-    then-ask _ _ (consistent (c .before .before .before .before .before .before .before)) (go-on (c .before .before .before .before .before .enum-told .given .1) (asked-of-each (a .s .tau) r 15 (p .result) (p .ensures (now (a .opened)) is) (c .answer2 .ensures)))
+    then-ask _ _ (consistent (c .before .before .before .before .before .before .before)) (go-on (c .before .before .before .before .before .enum-told .given .1) (asked-of-each (a .s .tau) r 15 (p .result) (p .ensures (now (a .opened)) (begun l)) (c .answer2 .ensures)))
 
 pub ask-checks-spec : {M : Type 1} → statement M
 ask-checks-spec =

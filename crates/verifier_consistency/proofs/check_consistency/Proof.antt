@@ -29,7 +29,7 @@ slice-aggregate-check-hashed c =
 check-hashed-requires : tie.Need-check-hashed-requires
 check-hashed-requires c κs =
     let s = c .before .before .before .before .before in
-    (s .pre .0, (s .pre .1, prefix-length (s .args .s .tau * s .args .s .t) (mostRepetitions * mostHashRows) (room (settingFor (s .args .s)) (shapeFor (s .args .s)) (s .pre .0 .0) .hashed-room)))
+    (s .pre .0, ((s .pre .1 .0, prefix-length (s .args .s .tau * s .args .s .t) (mostRepetitions * mostHashRows) (room (settingFor (s .args .s)) (shapeFor (s .args .s)) (s .pre .0 .0) .hashed-room)), s .pre .1 .1))
 
 returns : tie.Need-returns
 returns c = c .before .check-hashed .ensures

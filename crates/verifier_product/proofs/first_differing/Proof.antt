@@ -11,7 +11,7 @@ use lib.Dec.{eqb}
 use lib.ListN.{length}
 use lib.Bits.{bitXor}
 use Rattle.algebra.specs.Coded.{mulByte}
-use Rattle.field.specs.Gf256.{gf256}
+use Rattle.field.specs.Degrees.{fieldOf}
 use Rattle.protocol.proofs.TestLaws.{eqb-same, eqb-other, first-at}
 use Rattle.strings.specs.Sums.{byteAt}
 use Rattle.questions.proofs.FirstLaws.{first-none}
@@ -19,10 +19,10 @@ use Rattle.verifier_product.proofs.first_differing.Statement.{statement
 use Rattle.verifier_product.proofs.first_differing.Tie as tie
 
 abbrev Inv-loop : tie.InvT-loop
-Inv-loop left qs0 qs1 delta e₀ e = (e ≤ length delta) × ((k : ℕ) → k < e → eqb (byteAt left k) (bitXor (byteAt qs0 k) (mulByte gf256 (byteAt qs1 k) (byteAt delta k))) ≡ true)
+Inv-loop left qs0 qs1 delta degree e₀ e = (e ≤ length delta) × ((k : ℕ) → k < e → eqb (byteAt left k) (bitXor (byteAt qs0 k) (mulByte (fieldOf degree) (byteAt qs1 k) (byteAt delta k))) ≡ true)
 
 abbrev μ-loop : tie.MeasureT-loop
-μ-loop left qs0 qs1 delta e₀ e = length delta - e
+μ-loop left qs0 qs1 delta degree e₀ e = length delta - e
 
 loop-holds : tie.Need-loop-holds Inv-loop μ-loop
 loop-holds c = (search needs, λ k h. absurd (omega arith))

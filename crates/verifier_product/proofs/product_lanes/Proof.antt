@@ -10,7 +10,7 @@ use lib.Dec.{lit<}
 use lib.ListN.{replicate, getD-replicate}
 use lib.Bits.{bitXor}
 use Rattle.algebra.specs.Coded.{mulByte}
-use Rattle.field.specs.Gf256.{gf256}
+use Rattle.field.specs.Degrees.{fieldOf}
 use Rattle.protocol.specs.Shape.{mostVariables}
 use Rattle.strings.specs.Sums.{byteAt}
 use Rattle.lanes.specs.Lanes.{lanes}
@@ -55,6 +55,7 @@ batch-forms-requires c κs =
       (λ k h. zeros mostVariables k),
       (λ e k. zeros mostVariables k),
       b .m-most,
+      s .pre .1 .5,
     )
 
 slice-aggregate-batch-values : tie.Need-slice-aggregate-batch-values
@@ -75,7 +76,9 @@ slice-aggregate-accumulate-2 : tie.Need-slice-aggregate-accumulate-2
 slice-aggregate-accumulate-2 c = search needs
 
 accumulate-requires-2 : tie.Need-accumulate-requires-2
-accumulate-requires-2 c κs = search needs
+accumulate-requires-2 c κs =
+    let s = c .before .before .before .before .before .before .before .before .before .before .before .before .before .before .before .before .before .before .before .before .before .before .before .before .before .before .before in
+    (refl, s .pre .1 .1, s .pre .1 .1)
 
 slice-aggregate-accumulate-3 : tie.Need-slice-aggregate-accumulate-3
 slice-aggregate-accumulate-3 c = search needs
@@ -98,6 +101,7 @@ returns : tie.Need-returns
 returns c e h =
     let s = c .before .before .before .before .before .before .before .before .before .before .before .before .before .before .before .before .before .before .before .before .before .before .before .before .before .before .before .before .before .before .before .before .before .before .before in
     let a = s .args in
+    let d = a .s .degree in
     let n = a .s .n in
     let m = a .s .m in
     let χ = now (a .chi) in
@@ -106,12 +110,12 @@ returns c e h =
     let lane : e < lanes = omega (arith, in-limits (shapeFor (a .s)) (s .pre .0 .0) .τ-most) in
     let formed = c .before .before .before .before .before .before .before .before .before .before .before .before .before .before .before .before .before .before .before .before .before .before .batch-forms in
     let squared = c .before .before .before .before .before .before .before .accumulate2 in
-    let linear : byteAt (formed .last .1 .0) e ≡ batchByte m χ e (λ i. rowBit n (rowOf n (now (a .b)) i) f) =
+    let linear : byteAt (formed .last .1 .0) e ≡ batchByte d m χ e (λ i. rowBit n (rowOf n (now (a .b)) i) f) =
     formed .ensures .1 e h
     ∙ ap₂ bitXor (getD-replicate lanes e 0 0 lane)
-    (batch-same m (λ q i. byteAt χ (q * m + i)) e _ (λ i. rowBit n (rowOf n (now (a .b)) i) f) (λ i l. middle-none n (matrixOf n (now (a .a)) i) (rowOf n (now (a .b)) i) f (byteAt (replicate mostVariables 0)) (zeros mostVariables))) in
-    let square : byteAt (squared .last .0) e ≡ mulByte gf256 δ δ = squared .ensures e lane ∙ ap (λ (z : ℕ). bitXor z (mulByte gf256 δ δ)) (getD-replicate lanes e 0 0 lane) in
-    left-side n m (now (a .a)) (now (a .b)) (now (a .y)) χ e δ f (byteAt (now (a .left)) e) (formed .ensures .0 e h) linear square (c .before .before .before .before .before .before .before .before .before .before .before .before .before .before .before .batch-values .ensures e h) (c .before .before .before .before .before .before .before .before .before .before .before .accumulate .ensures e lane) (c .before .before .accumulate3 .ensures e lane)
+    (batch-same d m (λ q i. byteAt χ (q * m + i)) e _ (λ i. rowBit n (rowOf n (now (a .b)) i) f) (λ i l. middle-none n (matrixOf n (now (a .a)) i) (rowOf n (now (a .b)) i) f (byteAt (replicate mostVariables 0)) (zeros mostVariables))) in
+    let square : byteAt (squared .last .0) e ≡ mulByte (fieldOf d) δ δ = squared .ensures e lane ∙ ap (λ (z : ℕ). bitXor z (mulByte (fieldOf d) δ δ)) (getD-replicate lanes e 0 0 lane) in
+    left-side d n m (now (a .a)) (now (a .b)) (now (a .y)) χ e δ f (byteAt (now (a .left)) e) (formed .ensures .0 e h) linear square (c .before .before .before .before .before .before .before .before .before .before .before .before .before .before .before .batch-values .ensures e h) (c .before .before .before .before .before .before .before .before .before .before .before .accumulate .ensures e lane) (c .before .before .accumulate3 .ensures e lane)
 
 pub product-lanes-spec : {M : Type 1} → statement M
 product-lanes-spec =
