@@ -29,3 +29,4 @@ pub mod Published
 pub mod Theorems
 pub mod Demands
 pub mod NoEquations
+pub mod PracticeKey

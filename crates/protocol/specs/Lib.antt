@@ -25,6 +25,7 @@ pub mod SmallExample
 pub mod ThreeRepetitions
 pub mod QuestionNumbers
 pub mod NoEquations
+pub mod PracticeKey
 pub mod Edges
 pub mod Refusals
 pub mod CheckEdges
