@@ -38,7 +38,8 @@ elements-are = record {
 pub limits-are : Limits
 unfolding computing
 limits-are = record {
-  least = refl; one-each = refl;
+  least = refl;
+  one-each = refl;
   most = refl;
   n-none = refl;
   τ-none = refl;

@@ -87,12 +87,7 @@ fn add_forms(
         witness,
         batching,
         vectors,
-        Dimensions {
-            n,
-            m,
-            tau,
-            degree,
-        },
+        Dimensions { n, m, tau, degree },
     );
 }
 

@@ -82,7 +82,11 @@ pub fn proof_form(proof: &[u8], s: Sizes) -> Walk
     };
     let spare = also(exact, proof_spare(proof, places, s), Reason::ProofSpareBit);
     Walk {
-        answer: also(spare, proof_elements(proof, places, s), Reason::ProofElement),
+        answer: also(
+            spare,
+            proof_elements(proof, places, s),
+            Reason::ProofElement,
+        ),
         places,
     }
 }

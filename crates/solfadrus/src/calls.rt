@@ -54,7 +54,14 @@ pub fn commit(key: &[u8], degree: u32, leaves: &[u8], witness: &[u8], out: &mut 
 }
 
 // The third step (01): batch. It takes the witness, and writes the sections QS0 and QS1.
-pub fn batch(key: &[u8], degree: u32, leaves: &[u8], witness: &[u8], batching: &[u8], out: &mut [u8]) -> Verdict
+pub fn batch(
+    key: &[u8],
+    degree: u32,
+    leaves: &[u8],
+    witness: &[u8],
+    batching: &[u8],
+    out: &mut [u8],
+) -> Verdict
     ensures { λ r. ⌜ answerOf r ≡ batchAnswer (setting degree) (now (key .entry)) (now (leaves .entry)) (now (witness .entry)) (now (batching .entry)) (now (out .entry)) ⌝ }
     ensures { λ r. ⌜ BatchOutput (setting degree) (now (key .entry)) (now (leaves .entry)) (now (witness .entry)) (now (batching .entry)) (now (out .entry)) (now (out .exit)) (answerOf r) ⌝ }
 {

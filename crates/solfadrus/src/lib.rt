@@ -22,14 +22,26 @@ pub extern "C" fn mq_test(key: &[u8], degree: u32, witness: &[u8]) -> u32
 }
 
 #[no_mangle]
-pub extern "C" fn mq_commit(key: &[u8], degree: u32, leaves: &[u8], witness: &[u8], out: &mut [u8]) -> u32
+pub extern "C" fn mq_commit(
+    key: &[u8],
+    degree: u32,
+    leaves: &[u8],
+    witness: &[u8],
+    out: &mut [u8],
+) -> u32
     ensures { λ r. ⌜ CommitWrites (setting degree) (now (key .entry)) (now (leaves .entry)) (now (witness .entry)) (now (out .entry)) (now (out .exit)) r ⌝ }
 {
     format::words::word_of(calls::commit(key, degree, leaves, witness, out))
 }
 
 #[no_mangle]
-pub extern "C" fn mq_hash(key: &[u8], degree: u32, leaves: &[u8], hash_matrix: &[u8], out: &mut [u8]) -> u32
+pub extern "C" fn mq_hash(
+    key: &[u8],
+    degree: u32,
+    leaves: &[u8],
+    hash_matrix: &[u8],
+    out: &mut [u8],
+) -> u32
     ensures { λ r. ⌜ HashWrites (setting degree) (now (key .entry)) (now (leaves .entry)) (now («hash_matrix» .entry)) (now (out .entry)) (now (out .exit)) r ⌝ }
 {
     format::words::word_of(calls::hash(key, degree, leaves, hash_matrix, out))
@@ -76,5 +88,13 @@ pub extern "C" fn mq_verify(
 ) -> u32
     ensures { λ r. ⌜ VerifyTold (setting degree) (now (key .entry)) (now (delta .entry)) (now («hash_matrix» .entry)) (now (batching .entry)) (now (opened .entry)) (now (proof .entry)) r ⌝ }
 {
-    format::words::word_of(verifier::verify(key, degree, delta, hash_matrix, batching, opened, proof))
+    format::words::word_of(verifier::verify(
+        key,
+        degree,
+        delta,
+        hash_matrix,
+        batching,
+        opened,
+        proof,
+    ))
 }

@@ -100,7 +100,13 @@ pub extern "C" fn mq_opened_size(n: usize, m: usize, tau: usize, t: usize, degre
 }
 
 #[no_mangle]
-pub extern "C" fn mq_hash_matrix_size(n: usize, m: usize, tau: usize, t: usize, degree: u32) -> usize
+pub extern "C" fn mq_hash_matrix_size(
+    n: usize,
+    m: usize,
+    tau: usize,
+    t: usize,
+    degree: u32,
+) -> usize
     ensures { λ r. ⌜ r ≡ sized (setting degree) (shape n m tau t) (λ A z. z .t * bytesFor (kOf A z)) ⌝ }
 {
     let s = Sizes {
@@ -149,11 +155,7 @@ pub extern "C" fn mq_delta_size(n: usize, m: usize, tau: usize, t: usize, degree
         degree: degree as usize,
         alphabet: BINARY,
     };
-    if in_range(s) {
-        s.tau
-    } else {
-        0
-    }
+    if in_range(s) { s.tau } else { 0 }
 }
 
 #[no_mangle]
