@@ -32,10 +32,10 @@ impl Shape {
     }
 
     /// From 01: "n variables 1..160, m equations 1..160, τ repetitions 1..48, t hash rows 1..160"; and from 02: "n and
-    /// m go to 320 and t to 288".
+    /// m go to 320 and t to 288" (request 1), "m = 0 is taken" (request 12).
     pub fn in_range(&self) -> bool {
         (1..=320).contains(&self.n)
-            && (1..=320).contains(&self.m)
+            && (0..=320).contains(&self.m)
             && (1..=48).contains(&self.tau)
             && (1..=288).contains(&self.t)
     }
@@ -60,7 +60,8 @@ impl Shape {
         bytes_for(self.l())
     }
 
-    /// "A has m matrices of n rows of ⌈n/8⌉ bytes ...; b has m rows of ⌈n/8⌉ bytes; y has m bits."
+    /// "A has m matrices of n rows of ⌈n/8⌉ bytes ...; b has m rows of ⌈n/8⌉ bytes; y has m bits." With
+    /// m = 0 "A, b and y are empty" (02, request 12).
     pub fn key_sections(&self) -> [usize; 3] {
         [
             self.m * self.n * bytes_for(self.n),
@@ -96,7 +97,7 @@ impl Shape {
         self.t * bytes_for(self.k())
     }
 
-    /// "χ, τ columns of m bytes".
+    /// "χ, τ columns of m bytes"; with m = 0 "χ has no bytes" (02, request 12).
     pub fn chi_length(&self) -> usize {
         self.tau * self.m
     }

@@ -1,4 +1,5 @@
-//! Edges of the ranges: n, m = 320, 321, 0, t = 288, 289, 0 and τ = 48, 49, 0.
+//! Edges of the ranges: n = 320, 321, 0, m = 320, 321, t = 288, 289, 0 and τ = 48, 49, 0. m = 0 is taken, and has a
+//! file of its own.
 
 use reference::cases::{case, Case};
 use reference::strings::write_section;
@@ -59,10 +60,10 @@ fn the_fast_set() {
 /// header alone is refused 3.
 #[test]
 fn headers_alone() {
-    for (place, highest) in [(0, 320), (1, 320), (2, 48), (3, 288)] {
+    for (place, lowest, highest) in [(0, 1, 320), (1, 0, 320), (2, 1, 48), (3, 1, 288)] {
         for number in [0, 1, 47, 160, 161, 255, 256, 257, highest, highest + 1] {
             for degree in [8, 4] {
-                let taken = (1..=highest).contains(&number);
+                let taken = (lowest..=highest).contains(&number);
                 let answer = test(&with_number(place, number)[..8], degree, &[0]);
                 assert_eq!(word(answer), if taken { 3 } else { 2 } * 65_536);
             }
@@ -91,6 +92,10 @@ fn refused_2_outside_at(degree: u32) {
     };
     for (place, highest) in [(0, 320), (1, 320), (2, 48), (3, 288)] {
         for outside in [0, highest + 1, 512, 512 + 5, 65_535] {
+            // "m = 0 is taken" (02, request 12).
+            if [place, outside] == [1, 0] {
+                continue;
+            }
             assert_eq!(test(&with_number(place, outside), degree, &[0]), refused_2);
             // Also where the whole key has the length of such a shape, and so only 2 is left.
             if outside == highest + 1 {

@@ -21,9 +21,14 @@ struct Lent {
 
 const DEGREES: [u32; 2] = [8, 4];
 
+/// Three equations.
 fn sitting(degree: u32) -> (Case, Lent) {
+    sitting_of(degree, 3)
+}
+
+fn sitting_of(degree: u32, m: usize) -> (Case, Lent) {
     // n, m, k, L and t leave spare bits: k = 29, L = 33 at degree 8, k = 17, L = 21 at degree 4.
-    let case = case(31, 5, 3, 3, 4, degree);
+    let case = case(31, 5, m, 3, 4, degree);
     let shape = case.shape;
     let mut proof = vec![0; case.proof_length()];
     assert_eq!(
@@ -61,8 +66,9 @@ fn sitting(degree: u32) -> (Case, Lent) {
 const CALLS: [&str; 6] = ["test", "commit", "hash", "batch", "prove", "verify"];
 
 /// The questions "that concern its inputs", by call, in the order in which they are put. 17 and 18 speak of
-/// degree 4 alone: at degree 8 "a byte is an element".
-fn questions(call: &str, degree: u32) -> Vec<u32> {
+/// degree 4 alone: at degree 8 "a byte is an element". A key with no equations has no spare bits, "11 never occurs
+/// there" (02, request 12), and of the challenges that 17 speaks of only Δ has bytes.
+fn questions(call: &str, degree: u32, m: usize) -> Vec<u32> {
     let mut numbers = match call {
         "test" => vec![16, 1, 2, 3, 4, 9, 11],
         "commit" => vec![16, 1, 2, 3, 4, 7, 8, 9, 10, 11],
@@ -72,6 +78,10 @@ fn questions(call: &str, degree: u32) -> Vec<u32> {
         _ => vec![16, 1, 2, 3, 4, 5, 6, 17, 7, 8, 12, 13, 18, 14, 15],
     };
     numbers.retain(|number| degree == 4 || ![17, 18].contains(number));
+    if m == 0 {
+        let has_bytes = |number: &u32| *number != 17 || call == "verify";
+        numbers.retain(|number| ![4, 11].contains(number) && has_bytes(number));
+    }
     numbers
 }
 
@@ -130,7 +140,7 @@ fn spoil(number: u32, call: &str, lent: &mut Lent) {
         5 => match call {
             "hash" => lent.h.push(0),
             "batch" => lent.chi.push(0),
-            "prove" => lent.chi.truncate(1),
+            "prove" => lent.chi.push(0),
             _ => lent.delta.push(0),
         },
         6 => lent.h[row(lent.degree) - 1] |= 0x80,
@@ -198,12 +208,13 @@ fn place_of(number: u32) -> u32 {
 #[test]
 fn honest_is_accepted_by_every_call() {
     for degree in DEGREES {
-        honest_is_accepted_by_every_call_at(degree);
+        honest_is_accepted_by_every_call_at(degree, 3);
+        honest_is_accepted_by_every_call_at(degree, 0);
     }
 }
 
-fn honest_is_accepted_by_every_call_at(degree: u32) {
-    let (_, lent) = sitting(degree);
+fn honest_is_accepted_by_every_call_at(degree: u32, m: usize) {
+    let (_, lent) = sitting_of(degree, m);
     for call in CALLS {
         assert_eq!(put(call, &lent, &lent.proof), Answer::Accepted);
     }
@@ -212,14 +223,15 @@ fn honest_is_accepted_by_every_call_at(degree: u32) {
 #[test]
 fn every_refusal_of_every_call() {
     for degree in DEGREES {
-        every_refusal_of_every_call_at(degree);
+        every_refusal_of_every_call_at(degree, 3);
+        every_refusal_of_every_call_at(degree, 0);
     }
 }
 
-fn every_refusal_of_every_call_at(degree: u32) {
-    let (_, lent) = sitting(degree);
+fn every_refusal_of_every_call_at(degree: u32, m: usize) {
+    let (_, lent) = sitting_of(degree, m);
     for call in CALLS {
-        for number in questions(call, degree) {
+        for number in questions(call, degree, m) {
             let mut spoiled = lent.clone();
             spoil(number, call, &mut spoiled);
             let answer = put(call, &spoiled, &lent.proof);
@@ -235,14 +247,15 @@ fn every_refusal_of_every_call_at(degree: u32) {
 #[test]
 fn the_earlier_question_ends_the_call() {
     for degree in DEGREES {
-        the_earlier_question_ends_the_call_at(degree);
+        the_earlier_question_ends_the_call_at(degree, 3);
+        the_earlier_question_ends_the_call_at(degree, 0);
     }
 }
 
-fn the_earlier_question_ends_the_call_at(degree: u32) {
-    let (_, lent) = sitting(degree);
+fn the_earlier_question_ends_the_call_at(degree: u32, m: usize) {
+    let (_, lent) = sitting_of(degree, m);
     for call in CALLS {
-        let numbers = questions(call, degree);
+        let numbers = questions(call, degree, m);
         for (index, earlier) in numbers.iter().enumerate() {
             for later in &numbers[index + 1..] {
                 let mut spoiled = lent.clone();

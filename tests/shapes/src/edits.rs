@@ -157,6 +157,16 @@ mod tests {
         );
     }
 
+    /// With no equations χ has no byte to edit.
+    #[test]
+    fn no_equations() {
+        let chi = |edit: &Edit| matches!(edit.what, What::Chi { .. });
+        let [shape, ..] = crate::no_equations(4);
+        assert!(!edits(shape).iter().any(chi));
+        assert!(edits(crate::small(4)).iter().any(chi));
+        assert_eq!(of_17(shape).len(), 8 * 2);
+    }
+
     #[test]
     fn places_are_within() {
         assert_eq!(places(0), [0usize; 0]);

@@ -14,6 +14,9 @@ pub const DEGREES: [u32; 2] = [8, 4];
 /// The greatest of each (01, and request 1 of 02).
 pub const LIMITS: [usize; 4] = [320, 320, 48, 288];
 
+/// The least of each (01, and request 12 of 02).
+pub const LEAST: [usize; 4] = [1, 0, 1, 1];
+
 /// What a threshold is of: the four sizes, as `LIMITS` has them, the bytes w of a leaf, and those of a row of H′.
 #[derive(Clone, Copy, Debug, PartialEq, Eq)]
 pub enum Of {
@@ -92,6 +95,16 @@ pub fn small(degree: u32) -> Sizes {
     (9, 3, 2, 5, degree)
 }
 
+/// Keys with no equations (request 12): with the other sizes small, least, and large.
+pub fn no_equations(degree: u32) -> [Sizes; 3] {
+    let (n, _, tau, t, _) = small(degree);
+    [
+        (n, 0, tau, t, degree),
+        (1, 0, 1, 1, degree),
+        (LIMITS[0], 0, 3, 161, degree),
+    ]
+}
+
 /// "The fast set" of request 3: sixteen leaves, 150 variables, 43 repetitions. The rendering takes a second for it.
 pub const FAST: Sizes = (150, 150, 43, 144, 4);
 
@@ -158,7 +171,7 @@ pub fn leaf_bits(shape: Sizes) -> usize {
 
 /// Each threshold with its neighbours at a degree, one at a time, the other sizes small. The first is the small shape
 /// itself; then the least, and the most variables with the fewest equations and the other way round; at degree 4 also
-/// the fast set with fewer equations.
+/// the fast set with fewer equations; then those with no equations.
 pub fn single(degree: u32) -> Vec<Sizes> {
     let mut shapes = vec![
         small(degree),
@@ -170,6 +183,7 @@ pub fn single(degree: u32) -> Vec<Sizes> {
         let (n, _, tau, t, _) = FAST;
         shapes.push((n, 3, tau, t, degree));
     }
+    shapes.extend(no_equations(degree));
     for threshold in THRESHOLDS {
         for size in beside(threshold, degree) {
             let shape = with(threshold.of, size, degree);
@@ -185,7 +199,8 @@ pub fn single(degree: u32) -> Vec<Sizes> {
 /// many bytes; and the most repetitions. With many variables there is one equation, since the time goes by n² and m.
 pub fn light(degree: u32) -> Vec<Sizes> {
     let bytes = |shape: Sizes| leaves(degree) * shape.2 * leaf_bits(shape).div_ceil(8);
-    let fewer = |(n, m, tau, t, degree): Sizes| (n, if n > 160 { 1 } else { m }, tau, t, degree);
+    let fewer =
+        |(n, m, tau, t, degree): Sizes| (n, if n > 160 { m.min(1) } else { m }, tau, t, degree);
     single(degree)
         .into_iter()
         .filter(|shape| bytes(*shape) <= 1 << 17 || shape.2 == LIMITS[2])
@@ -269,8 +284,8 @@ mod tests {
         for degree in DEGREES {
             for (n, m, tau, t, at) in single(degree).into_iter().chain(joint(degree)) {
                 assert_eq!(at, degree);
-                for (size, limit) in [n, m, tau, t].into_iter().zip(LIMITS) {
-                    assert!((1..=limit).contains(&size));
+                for (place, size) in [n, m, tau, t].into_iter().enumerate() {
+                    assert!((LEAST[place]..=LIMITS[place]).contains(&size));
                 }
             }
         }
@@ -303,6 +318,16 @@ mod tests {
         let large = |shape: &Sizes| shape.0 > 64 && shape.1 > 50 && width(*shape) > 16;
         for degree in DEGREES {
             assert!(joint(degree).iter().any(large));
+        }
+    }
+
+    #[test]
+    fn those_with_no_equations_are_among_them() {
+        for degree in DEGREES {
+            let light = light(degree);
+            assert!(no_equations(degree)
+                .iter()
+                .all(|shape| light.contains(shape)));
         }
     }
 
