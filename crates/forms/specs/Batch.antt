@@ -12,18 +12,22 @@
 --     coordinates of the vectors are elements
 --   BlockInputs d n m τ from count .. == the same, where A and b are the parts of a block of so many equations
 --   BatchInputs d n m τ qs0 qs1 cells A b x χ vs == the same for a witness x
+--   TableNarrow A s T == the first n coordinates in the lane of every repetition of a table are elements of the field of
+--     the alphabet A
 -- Assumes nothing.
 use mathlib.Core.Path.{_≡_}
 use mathlib.Core.Bool.{Bool, false}
 use mathlib.Core.List.{List}
 use Prim.Native.Nat.{ℕ, _+_, _*_, _<_, _≤_}
 use lib.ListN.{length}
-use Rattle.algebra.specs.Coded.{mulByte}
+use Rattle.algebra.specs.Field.{Field}
+use Rattle.algebra.specs.Coded.{Coded, mulByte}
 use Rattle.field.specs.Degrees.{fieldOf}
 use Rattle.protocol.specs.Strings.{bytesFor}
-use Rattle.protocol.specs.Shape.{mostVariables, mostEquations}
+use Rattle.protocol.specs.Alphabet.{Alphabet}
+use Rattle.protocol.specs.Shape.{Shape, mostVariables, mostEquations}
 use Rattle.strings.specs.Sums.{byteAt, xorSum}
-use Rattle.lanes.specs.Lanes.{lanes}
+use Rattle.lanes.specs.Lanes.{lanes, laneAt}
 use Rattle.chunks.specs.Chunks.{mostBlock}
 use Rattle.equations.specs.Equations.{rowOf, matrixOf}
 use Rattle.forms_columns.specs.Stacks.{VectorsRoom, IsBits}
@@ -71,3 +75,6 @@ abbrev pub BatchInputs : ℕ → ℕ → ℕ → ℕ → List ℕ → List ℕ �
 BatchInputs d n m τ qs0 qs1 cells A b x χ vs =
     (length qs0 ≡ lanes) × (length qs1 ≡ lanes) × (n ≤ mostVariables) × (τ ≤ lanes) × (0 < τ) × (length A ≡ m * (n * bytesFor n)) × (length b ≡ m * bytesFor n)
     × (length χ ≡ τ * m) × VectorsRoom vs × VectorsEnd n τ vs × CellsRoom cells × (length x ≡ bytesFor n) × (m ≤ mostEquations) × VectorsNarrow d τ vs
+
+abbrev pub TableNarrow : Alphabet → Shape → List ℕ → Type 0
+TableNarrow A s T = (e c : ℕ) → e < s .τ → c < s .n → laneAt T c e < A .K .base .size

@@ -92,9 +92,14 @@ vectors-are n τ count T l l′ few turned rest kept e c he hc = go (decLt c (co
 pub vectors-end : (n τ : ℕ) (T vs : List ℕ) → VectorsAre n τ T vs → VectorsEnd n τ vs
 vectors-end n τ T vs are e c he past hc = are e c he hc ∙ up-to-past n (λ k. laneAt T k e) c past
 
-pub vectors-narrow : (d n τ : ℕ) (T vs : List ℕ) → n ≤ mostVariables → ((e c : ℕ) → e < τ → c < n → laneAt T c e < 2 ^ degreeOf d) → VectorsAre n τ T vs → VectorsNarrow d τ vs
-vectors-narrow d n τ T vs most small are e c he hc = go (decLt c n)
+-- vectors that are taken from lanes whose coordinates are below b
+pub vectors-below : (b n τ : ℕ) (T vs : List ℕ) → 0 < b → VectorsAre n τ T vs → ((e c : ℕ) → e < τ → c < n → laneAt T c e < b)
+    → (e c : ℕ) → e < τ → c < mostVariables → coordinateOf vs e c < b
+vectors-below b n τ T vs pos are small e c he hc = go (decLt c n)
   where
-    go : Dec (c < n) → coordinateOf vs e c < 2 ^ degreeOf d
+    go : Dec (c < n) → coordinateOf vs e c < b
     go (yes lt) = rw (are e c he hc ∙ up-to-first n (λ k. laneAt T k e) c lt) (small e c he lt)
-    go (no ge) = rw (are e c he hc ∙ up-to-past n (λ k. laneAt T k e) c (omega arith)) (pow-pos (degreeOf d))
+    go (no ge) = rw (are e c he hc ∙ up-to-past n (λ k. laneAt T k e) c (omega arith)) pos
+
+pub vectors-narrow : (d n τ : ℕ) (T vs : List ℕ) → ((e c : ℕ) → e < τ → c < n → laneAt T c e < 2 ^ degreeOf d) → VectorsAre n τ T vs → VectorsNarrow d τ vs
+vectors-narrow d n τ T vs small are = vectors-below (2 ^ degreeOf d) n τ T vs (pow-pos (degreeOf d)) are small

@@ -24,7 +24,7 @@ use Rattle.tables.proofs.SumsMeaning.{table-v}
 use Rattle.questions.specs.Asking.{SizedKey}
 use Rattle.questions.specs.Facts.{KeyFacts, LeavesForm}
 use Rattle.prover.specs.Loaded.{Buffers, Loaded}
-use Rattle.prover.specs.Steps.{TableNarrow}
+use Rattle.forms.specs.Batch.{TableNarrow}
 
 pub leaves-long : (A : Alphabet) (s : Shape) (leaves : List ℕ) → LeavesForm A s leaves → length leaves ≡ s .τ * perTree A * wOf A s
 leaves-long A s leaves f = leaves-length A s leaves (f .leaves-exact)

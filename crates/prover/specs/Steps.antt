@@ -6,7 +6,6 @@
 --     form
 --   CommitWritten, HashWritten, BatchWritten == the output is the step's bytes
 --   RestReady, RestWritten == of the steps after the first, in a whole proof
---   TableNarrow table == its entries, as far as the forms take them, are elements of the field
 --   MasksReady, FormsReady == two rows of lanes, to which the masks and the batched forms are added, and what that
 --     needs
 -- Assumes nothing.
@@ -23,9 +22,10 @@ use Rattle.protocol.specs.Alphabet.{Alphabet}
 use Rattle.protocol.specs.Shape.{Shape, mostVariables, limits, wOf}
 use Rattle.protocol.specs.Sections.{bytesOf}
 use Rattle.protocol.specs.Prover.{cSection, dSection, ũSection, ṼSection, qs0Section, qs1Section, sectionsOf}
-use Rattle.lanes.specs.Lanes.{lanes, laneAt}
+use Rattle.lanes.specs.Lanes.{lanes}
 use Rattle.forms_columns.specs.Stacks.{VectorsRoom, coordinateOf}
 use Rattle.forms_batching.specs.Batched.{CellsRoom}
+use Rattle.forms.specs.Batch.{TableNarrow}
 use Rattle.forms_batching.specs.Lines.{VectorsEnd}
 use Rattle.questions.specs.Facts.{KeyFacts, WitnessForm, HashForm}
 use Rattle.prover.specs.Loaded.{Buffers, Loaded}
@@ -64,17 +64,13 @@ module _ (A : Alphabet) (s : Shape) where
   abbrev pub HashWritten : (H′ table sums out : List ℕ) → Type 0
   HashWritten H′ table sums out = (leaves : List ℕ) → Loaded A s leaves table sums → out ≡ hashFrame leaves H′
 
-  -- the first n coordinates of each v_e, in the lanes of a table, are elements
-  abbrev pub TableNarrow : List ℕ → Type 0
-  TableNarrow table = (e c : ℕ) → e < s .τ → c < s .n → laneAt table c e < A .K .base .size
-
   pub record BatchReady (key x χ space sums out : List ℕ) : Type 0 where
     pub key-facts : KeyFacts A s key
     pub witness-form : WitnessForm A s x
     pub batching-length : length χ ≡ s .τ * s .m
     pub buffers : Buffers A s space sums
     pub cells-room : CellsRoom space
-    pub narrow : TableNarrow space
+    pub narrow : TableNarrow A s space
     pub out-length : length out ≡ 8 + s .τ + s .τ
 
   abbrev pub BatchWritten : (key x χ table sums out : List ℕ) → Type 0
@@ -104,7 +100,7 @@ module _ (A : Alphabet) (s : Shape) where
     pub batching-length : length χ ≡ s .τ * s .m
     pub buffers : Buffers A s space sums
     pub cells-room : CellsRoom space
-    pub narrow : TableNarrow space
+    pub narrow : TableNarrow A s space
     pub out-length : length out ≡ 16 + bytesFor (s .t) + s .τ * s .t + s .τ + s .τ
 
   abbrev pub RestWritten : (key x H′ χ table sums out : List ℕ) → Type 0

@@ -24,7 +24,7 @@ use Rattle.format.specs.Verdict.{andThen}
 use Rattle.format.proofs.AskLaws.{then-ask}
 use Rattle.questions.specs.Asking.{verifyInputs, proofQuestions}
 use Rattle.questions.specs.Facts.{KeyFacts}
-use Rattle.verifier_product.specs.Product.{TableNarrow}
+use Rattle.forms.specs.Batch.{TableNarrow}
 use Rattle.verifier.specs.Given.{VerifyFacts, checkQuestions}
 
 challenge-of : (A : Alphabet) (s : Shape) (Δ : List ℕ) → ΔExact A s Δ ≡ true → length Δ ≡ s .τ

@@ -1,5 +1,5 @@
--- The product check on bytes, as the code makes it, and what is said of it. In SpaceRoom, TableNarrow and
--- FirstDiffers A is the alphabet, elsewhere a section of the key; g is the setting, and a d that comes first the degree.
+-- The product check on bytes, as the code makes it, and what is said of it. In SpaceRoom and FirstDiffers A is the
+-- alphabet, elsewhere a section of the key; g is the setting, and a d that comes first the degree.
 --   KeyLanes n d Δ T T′ == the first n coordinates of T′ are those of T plus δ_e·d, in every lane e
 --   EquationsOf s A b y χ == the sections of a key of sizes s that are in range, and its batching bytes
 --   valueByte m χ y e == Σ_i χ(e, i)·y_i
@@ -9,7 +9,6 @@
 --   maskedByte g s A b y χ e δ T f == the whole left side of repetition e: its mask, of the coordinates in lane e of
 --     the table T, plus productByte
 --   firstDiffering d == the first repetition whose left side is not QS0 + QS1·δ, or their number
---   TableNarrow A s T == the first n coordinates in the lane of every repetition are elements of the field
 --   SpaceRoom A s space == the space is no shorter than the table of the W_e, nor than the cells of the forms: it is
 --     first the one, and then the other
 --   FirstDiffers A s key Δ χ proof table r == r is the first repetition whose product differs, or their number,
@@ -60,9 +59,6 @@ maskedByte g s A b y χ e δ T f = bitXor (maskLane (g .degree) T (maskAt (alpha
 
 abbrev pub firstDiffering : ℕ → List ℕ → List ℕ → List ℕ → List ℕ → ℕ
 firstDiffering d left qs0 qs1 Δ = firstNot (length Δ) (λ e. eqb (byteAt left e) (bitXor (byteAt qs0 e) (mulByte (fieldOf d) (byteAt qs1 e) (byteAt Δ e))))
-
-abbrev pub TableNarrow : Alphabet → Shape → List ℕ → Type 0
-TableNarrow A s T = (e c : ℕ) → e < s .τ → c < s .n → laneAt T c e < A .K .base .size
 
 abbrev pub SpaceRoom : Alphabet → Shape → List ℕ → Type 0
 SpaceRoom A s space = (8 * wOf A s * lanes ≤ length space) × CellsRoom space

@@ -118,7 +118,7 @@ product-lanes-requires c κs =
         c .before .before .before .before .before .before .before .before .fill-vectors .kept .0,
         c .before .before .before .before .before .before .before .before .fill-vectors .ensures .1,
         omega (arith, c .before .before .before .before .before .before .before .before .before .before .before .before .before .before .before .before .before .add-difference .kept .0, s .pre .1 .0 .1 .1),
-        vectors-narrow (s .args .s .degree) (s .args .s .n) (s .args .s .tau) (c .before .before .before .before .before .before .before .before .before .before .before .before .before .before .before .before .before .add-difference .last .0) (c .before .before .before .before .before .before .before .before .fill-vectors .last .0) (bounds .n-most)
+        vectors-narrow (s .args .s .degree) (s .args .s .n) (s .args .s .tau) (c .before .before .before .before .before .before .before .before .before .before .before .before .before .before .before .before .before .add-difference .last .0) (c .before .before .before .before .before .before .before .before .fill-vectors .last .0)
             (key-narrow (s .args .s .degree) (s .args .s .n) (s .args .s .tau) (now (c .before .before .before .before .before .before .before .before .before .before .before .before .before .before .before .before .before .before .before .proof-section .result)) (c .before .before .before .before .before .before .before .before .before .before .before .before .before .before .before .before .before .before .before .before .before .before .load-challenge .last .0) (now (s .args .space)) (c .before .before .before .before .before .before .before .before .before .before .before .before .before .before .before .before .before .add-difference .last .0) (bounds .τ-most) (c .before .before .before .before .before .before .before .before .before .before .before .before .before .before .before .before .before .add-difference .ensures .0)
             (λ e l. rw (c .before .before .before .before .before .before .before .before .before .before .before .before .before .before .before .before .before .before .before .before .before .before .load-challenge .ensures e (omega (arith, s .pre .0 .2, l))) (element-lt (alphabetFor (s .args .s)) (now (s .args .delta)) (s .pre .1 .1 .0) e)) (s .pre .1 .1 .3))
             (c .before .before .before .before .before .before .before .before .fill-vectors .ensures .0),

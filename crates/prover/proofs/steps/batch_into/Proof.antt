@@ -23,7 +23,7 @@ use Rattle.lanes.specs.Lanes.{lanes, laneAt, maskLane, maskBits, firstMask}
 use Rattle.forms_choices.proofs.ChoiceLaws.{up-to-first}
 use Rattle.forms_columns.specs.Stacks.{coordinateOf}
 use Rattle.forms.specs.Batch.{formsByte, middlesByte}
-use Rattle.forms.proofs.NarrowLaws.{vectors-below}
+use Rattle.forms_batching.proofs.VectorLaws.{vectors-below}
 use Rattle.prover_sections.proofs.SumSections.{first-is-u}
 use Rattle.prover.proofs.BatchSections.{qs0-are, qs1-are}
 use Rattle.sections.proofs.Writes.{framed-one, framed-two, rest-length, part-starts, take-length}
