@@ -12,12 +12,4 @@ pub mod CheckLine
 pub mod ExampleFactors
 pub mod ChangedProofs
 pub mod CountedExample
-pub mod TreeLaws
-pub mod TableLaws
-pub mod FullSums
-pub mod FullExample
-pub mod FullChecks
-pub mod FullFactors
-pub mod ThreeSums
-pub mod FullThree
 pub mod ThreeProof

@@ -5,6 +5,4 @@ pub mod Hypotheses
 pub mod CheckLine
 pub mod ChangedProofs
 pub mod CountedExample
-pub mod FullExample
-pub mod FullThree
 pub mod ThreeProof

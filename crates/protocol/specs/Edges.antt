@@ -159,8 +159,8 @@ pub record FirstEquation : Type 0 where
   pub second-fails : proveAnswer four key leaves (changed witness 0 0x01) H′ χ (replicate 38 0x00) ≡ refused 11 1
 
 -- 01's numbers, over GF(256), at the sizes of its toy: k, L, w, the leaves of a tree and of an opened one.
--- Of the largest key k, L, w, and where the masks of the repetitions 1 and 47 begin. At degree 4 the leaves of a tree and
--- of an opened one, the mask coordinates of a repetition, and k and the mask of repetition 1 of SmallExample's key.
+-- Of the largest key k, L, w, and where the masks of the repetitions 1 and 47 begin. At degree 4 the leaves of a tree
+-- and of an opened one, the mask coordinates of a repetition, and k and the mask of repetition 1 of SmallExample's key.
 pub record Derived : Type 0 where
   pub k-is : kOf bits256 toy ≡ 10
   pub L-is : lOf bits256 toy ≡ 11

@@ -14,9 +14,9 @@ use Rattle.protocol.specs.Frames.{frame, count4}
 use Rattle.protocol.specs.Sections.{Sections, bytesOf}
 use Rattle.protocol.specs.Prover.{u, v, sectionsOf, proofOf}
 use Rattle.protocol.proofs.Computing.{computing}
-use Rattle.examples.specs.FullExample.{sizes, key, witness, leaves, H′, χ, proof, u-0, u-1, v-0, v-1, FullBytes, FullProof}
-use Rattle.examples.proofs.TableLaws.{entry, Near, near, cOf, maskedOf, ũOf, ṼOf, qs0Of, qs1Of, c-is, d-is, ũ-is, Ṽ-is, qs0-is, qs1-is}
-use Rattle.examples.proofs.FullSums.{full-sums}
+use Rattle.examples_full.specs.FullExample.{sizes, key, witness, leaves, H′, χ, proof, u-0, u-1, v-0, v-1, FullBytes, FullProof}
+use Rattle.examples_full.proofs.TableLaws.{entry, Near, near, cOf, maskedOf, ũOf, ṼOf, qs0Of, qs1Of, c-is, d-is, ũ-is, Ṽ-is, qs0-is, qs1-is}
+use Rattle.examples_full.proofs.FullSums.{full-sums}
 
 abbrev pub û : ℕ → ℕ → gf256 .base .R .F
 û zero = entry gf256 sizes u-0

@@ -1,7 +1,7 @@
--- u and v of the example with three repetitions, computed by walking the leaves.
+-- u and v of the full example, computed by walking the leaves.
 -- Assumes nothing.
 use mathlib.Core.Path.{_≡_, refl, ap, _∙_}
-use mathlib.Core.List.{List}
+use mathlib.Core.List.{List, [], _∷_}
 use Prim.Native.Nat.{ℕ}
 use Rattle.algebra.specs.Ring.{Ring}
 use Rattle.algebra.specs.Field.{Field}
@@ -9,8 +9,8 @@ use Rattle.algebra.specs.Coded.{Coded}
 use Rattle.field.specs.Gf256.{gf256}
 use Rattle.protocol.specs.Shape.{Shape, shapeOf}
 use Rattle.protocol.proofs.Computing.{computing}
-use Rattle.examples.specs.FullThree.{sizes, key, leaves, u-0, u-1, u-2, v-0, v-1, v-2, coordinates, ThreeSums}
-use Rattle.examples.proofs.TreeLaws.{weighed, u-walked, v-walked}
+use Rattle.examples_full.specs.FullExample.{sizes, key, leaves, u-0, u-1, v-0, v-1, coordinates, FullSums}
+use Rattle.examples_full.proofs.TreeLaws.{weighed, u-walked, v-walked}
 
 abbrev one : ℕ → gf256 .base .R .F
 one j = gf256 .base .R .𝟙
@@ -23,10 +23,6 @@ u-1-walked : coordinates (λ c. weighed gf256 sizes leaves 1 c one) ≡ u-1
 unfolding computing leaves u-1
 u-1-walked = refl
 
-u-2-walked : coordinates (λ c. weighed gf256 sizes leaves 2 c one) ≡ u-2
-unfolding computing leaves u-2
-u-2-walked = refl
-
 v-0-walked : coordinates (λ c. weighed gf256 sizes leaves 0 c (gf256 .elem)) ≡ v-0
 unfolding computing leaves v-0
 v-0-walked = refl
@@ -35,21 +31,15 @@ v-1-walked : coordinates (λ c. weighed gf256 sizes leaves 1 c (gf256 .elem)) �
 unfolding computing leaves v-1
 v-1-walked = refl
 
-v-2-walked : coordinates (λ c. weighed gf256 sizes leaves 2 c (gf256 .elem)) ≡ v-2
-unfolding computing leaves v-2
-v-2-walked = refl
-
 header : shapeOf key ≡ sizes
 unfolding computing key
 header = refl
 
-pub three-sums : ThreeSums
-three-sums = record {
+pub full-sums : FullSums
+full-sums = record {
   header-is = header;
   u-0-is = ap coordinates (λ i c. u-walked gf256 sizes leaves 0 c i) ∙ u-0-walked;
   u-1-is = ap coordinates (λ i c. u-walked gf256 sizes leaves 1 c i) ∙ u-1-walked;
-  u-2-is = ap coordinates (λ i c. u-walked gf256 sizes leaves 2 c i) ∙ u-2-walked;
   v-0-is = ap coordinates (λ i c. v-walked gf256 sizes leaves 0 c i) ∙ v-0-walked;
   v-1-is = ap coordinates (λ i c. v-walked gf256 sizes leaves 1 c i) ∙ v-1-walked;
-  v-2-is = ap coordinates (λ i c. v-walked gf256 sizes leaves 2 c i) ∙ v-2-walked;
 }

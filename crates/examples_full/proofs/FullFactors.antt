@@ -15,10 +15,10 @@ use Rattle.protocol.specs.Questions.{leavesExact}
 use Rattle.protocol.specs.Counting.{factor}
 use Rattle.protocol.specs.SmallExample.{changed}
 use Rattle.protocol.proofs.Computing.{computing}
-use Rattle.examples.specs.FullExample.{sizes, key, leaves, H′, χ, proof, u-0, u-1, v-0, v-1, factors, FullFactors}
-use Rattle.examples.proofs.ExampleFactors.{passedFrom, factor-from}
-use Rattle.examples.proofs.FullSums.{full-sums}
-use Rattle.examples.proofs.FullExample.{û, v̂, near-u, near-v}
+use Rattle.examples_full.specs.FullExample.{sizes, key, leaves, H′, χ, proof, u-0, u-1, v-0, v-1, factors, FullFactors}
+use Rattle.examples_full.proofs.FactorLaws.{passedFrom, factor-from}
+use Rattle.examples_full.proofs.FullSums.{full-sums}
+use Rattle.examples_full.proofs.FullExample.{û, v̂, near-u, near-v}
 
 exact : leavesExact bits256 (shapeOf key) (perTree bits256) leaves ≡ true
 unfolding computing key leaves

@@ -19,10 +19,10 @@ use Rattle.protocol.specs.Questions.{leavesExact}
 use Rattle.protocol.specs.Counting.{factor}
 use Rattle.protocol.specs.SmallExample.{changed}
 use Rattle.protocol.proofs.Computing.{computing}
-use Rattle.examples.specs.FullThree.{sizes, key, witness, leaves, H′, χ, proof, u-0, u-1, u-2, v-0, v-1, v-2, factors, ThreeBytes, ThreeProof, ThreeFactors}
-use Rattle.examples.proofs.TableLaws.{entry, Near, near, cOf, maskedOf, ũOf, ṼOf, qs0Of, qs1Of, c-is, d-is, ũ-is, Ṽ-is, qs0-is, qs1-is}
-use Rattle.examples.proofs.ExampleFactors.{passedFrom, factor-from}
-use Rattle.examples.proofs.ThreeSums.{three-sums}
+use Rattle.examples_full.specs.FullThree.{sizes, key, witness, leaves, H′, χ, proof, u-0, u-1, u-2, v-0, v-1, v-2, factors, ThreeBytes, ThreeProof, ThreeFactors}
+use Rattle.examples_full.proofs.TableLaws.{entry, Near, near, cOf, maskedOf, ũOf, ṼOf, qs0Of, qs1Of, c-is, d-is, ũ-is, Ṽ-is, qs0-is, qs1-is}
+use Rattle.examples_full.proofs.FactorLaws.{passedFrom, factor-from}
+use Rattle.examples_full.proofs.ThreeSums.{three-sums}
 
 abbrev û : ℕ → ℕ → gf256 .base .R .F
 û zero = entry gf256 sizes u-0

@@ -21,10 +21,10 @@ use Rattle.protocol.specs.Calls.{verifyForm}
 use Rattle.protocol.specs.CheckEdges.{eight}
 use Rattle.protocol.proofs.Computing.{computing}
 use Rattle.protocol.proofs.Theorems.{accepts-exactly}
-use Rattle.examples.specs.FullExample.{sizes, key, leaves, H′, χ, Δ, proof, opened, coordinates, FullOpening, FullAccepts}
-use Rattle.examples.proofs.TreeLaws.{openedWeighed, W-walked}
-use Rattle.examples.proofs.TableLaws.{entry, Near, near, consistent-is, product-is}
-use Rattle.examples.proofs.FullSums.{full-sums}
+use Rattle.examples_full.specs.FullExample.{sizes, key, leaves, H′, χ, Δ, proof, opened, coordinates, FullOpening, FullAccepts}
+use Rattle.examples_full.proofs.TreeLaws.{openedWeighed, W-walked}
+use Rattle.examples_full.proofs.TableLaws.{entry, Near, near, consistent-is, product-is}
+use Rattle.examples_full.proofs.FullSums.{full-sums}
 
 pub full-opening : FullOpening
 unfolding computing leaves Δ opened

@@ -1,0 +1,9 @@
+pub mod TreeLaws
+pub mod TableLaws
+pub mod FactorLaws
+pub mod FullSums
+pub mod FullExample
+pub mod FullChecks
+pub mod FullFactors
+pub mod ThreeSums
+pub mod FullThree

@@ -1,0 +1,2 @@
+pub mod FullExample
+pub mod FullThree
