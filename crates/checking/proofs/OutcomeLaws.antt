@@ -7,9 +7,8 @@ use Prim.Native.Nat.{ℕ, _≤_, _<_}
 use lib.Dec.{leb}
 use lib.ListN.{length}
 use Rattle.protocol.specs.Frames.{framed}
-use Rattle.protocol.specs.CheckEdges.{eight}
 use Rattle.protocol.specs.Calls.{verifyAnswer}
-use Rattle.protocol.specs.Check.{answered, unread, lengthsIn, readable, checkOf}
+use Rattle.protocol.specs.Check.{eight, answered, unread, lengthsIn, readable, checkOf}
 use Rattle.protocol.proofs.TestLaws.{leb-yes, leb-no, both-true}
 use Rattle.sections.proofs.SectionLaws.{and-no}
 use Rattle.checking.specs.Checked.{verifyParts}

@@ -10,9 +10,8 @@ use lib.ListN.{length, getD, take, drop, length-append, take-append-drop, List·
 use lib.Seq.{drop-at, drop-append-le, length-take-le}
 use Rattle.algebra.proofs.CountLaws.{and-left, and-right}
 use Rattle.protocol.specs.Frames.{num2, num4, count4, frame, framed, sectionNo, framedLength}
-use Rattle.protocol.specs.CheckEdges.{eight}
 use Rattle.protocol.specs.Calls.{verifyAnswer}
-use Rattle.protocol.specs.Check.{answered, lengthsIn, checkOf}
+use Rattle.protocol.specs.Check.{eight, answered, lengthsIn, checkOf}
 use Rattle.protocol.proofs.TestLaws.{leb-le}
 use Rattle.protocol.proofs.FrameLaws.{Short, count-back, frame-skip, frame-framed, frame-section, length-frame}
 use Rattle.sections.proofs.SectionLaws.{framed-length, decided}

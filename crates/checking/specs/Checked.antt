@@ -7,10 +7,9 @@
 use mathlib.Core.List.{List, [], _∷_, _++_}
 use Prim.Native.Nat.{ℕ}
 use Rattle.protocol.specs.Frames.{sectionNo}
-use Rattle.protocol.specs.CheckEdges.{eight}
 use Rattle.protocol.specs.Answers.{Answer}
 use Rattle.protocol.specs.Calls.{verifyAnswer}
-use Rattle.protocol.specs.Check.{answered, unread, decimal}
+use Rattle.protocol.specs.Check.{eight, answered, unread, decimal}
 use Rattle.protocol.specs.Check.{Checked as Outcome}
 use Rattle.format.specs.Verdict.{answerOf}
 use Rattle.checking.specs.declared.Checked.{Checked}

@@ -11,9 +11,8 @@ use mathlib.Core.List.{List, [], _∷_, _++_}
 use Prim.Native.Nat.{ℕ, _≤_, _<_}
 use lib.ListN.{length, take}
 use Rattle.protocol.specs.Frames.{frame}
-use Rattle.protocol.specs.CheckEdges.{eight}
 use Rattle.protocol.specs.Calls.{verifyAnswer}
-use Rattle.protocol.specs.Check.{answered, unread, checkOf}
+use Rattle.protocol.specs.Check.{eight, answered, unread, checkOf}
 
 abbrev pub six : List ℕ → List ℕ → List ℕ → List ℕ → List ℕ → List ℕ → List ℕ
 six k d h x o p = frame (k ∷ d ∷ h ∷ x ∷ o ∷ p ∷ [])

@@ -9,8 +9,7 @@ ghost use mathlib.Core.Path.{_≡_};
 ghost use mathlib.Core.List.{_++_};
 ghost use Prim.Native.Nat.{_≤_};
 ghost use lib.ListN.{length, drop};
-ghost use Rattle.protocol.specs.CheckEdges.{eight};
-ghost use Rattle.protocol.specs.Check.{checkLine};
+ghost use Rattle.protocol.specs.Check.{eight, checkLine};
 use format::Verdict;
 
 // What the program prints: an answer of the verifier, or that the input could not be read.

@@ -12,8 +12,7 @@ use Rattle.protocol.specs.Shape.{shapeOf}
 use Rattle.protocol.specs.Counting.{opening}
 use Rattle.protocol.specs.Answers.{Answer, accepted, refused}
 use Rattle.protocol.specs.Calls.{verifyAnswer}
-use Rattle.protocol.specs.Check.{answered, unread, lengthsIn, readable, checkOf, decimalDigits, decimal, lineOf, checkLine}
-use Rattle.protocol.specs.CheckEdges.{eight}
+use Rattle.protocol.specs.Check.{eight, answered, unread, lengthsIn, readable, checkOf, decimalDigits, decimal, lineOf, checkLine}
 use Rattle.examples.specs.Toy.{A, key, leaves, H′, χ, proofWith, answerWith}
 use Rattle.examples.specs.CheckLine.{inputWith, input, lineAccepted, line15, line14, lineUnread, CheckLines}
 use Rattle.examples.proofs.ToyComputing.{computing}

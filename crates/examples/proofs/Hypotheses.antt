@@ -18,7 +18,7 @@ use Rattle.protocol.specs.Questions.{solves}
 use Rattle.protocol.specs.Calls.{testForm, commitForm, batchForm, proveForm, verifyForm, honestForm, wellFormed}
 use Rattle.protocol.specs.Counting.{opening, factor}
 use Rattle.protocol.specs.Statements.{errorOf}
-use Rattle.protocol.specs.CheckEdges.{eight}
+use Rattle.protocol.specs.Check.{eight}
 use Rattle.protocol.proofs.TestLaws.{leb-le, all-at}
 use Rattle.protocol.proofs.Demands.{demand-3}
 use Rattle.examples.specs.Toy.{A, s, keyWith, key, key₀, leaves, x, H′, χ, out, proof, proofQS1, proofṼ}

@@ -26,7 +26,7 @@ use Rattle.protocol.specs.Calls.{wellFormed}
 use Rattle.protocol.specs.Counting.{acceptedCount, checksAt, factor}
 use Rattle.protocol.specs.Coefficients.{conditions}
 use Rattle.protocol.specs.Statements.{errorOf}
-use Rattle.protocol.specs.CheckEdges.{eight}
+use Rattle.protocol.specs.Check.{eight}
 use Rattle.protocol.proofs.TestLaws.{and-true}
 use Rattle.protocol.proofs.CountingLaws.{form-of, leaves-length, splits}
 use Rattle.protocol.proofs.CoefficientLaws.{checks-passing}

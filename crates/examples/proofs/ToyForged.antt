@@ -11,7 +11,7 @@ use Rattle.algebra.proofs.BitsLaws.{bit-same}
 use Rattle.algebra.proofs.LinearLaws.{everywhere-at}
 use Rattle.protocol.specs.Answers.{isAccepted}
 use Rattle.protocol.specs.Calls.{wellFormed}
-use Rattle.protocol.specs.CheckEdges.{eight}
+use Rattle.protocol.specs.Check.{eight}
 use Rattle.examples.specs.Toy.{A, key₀, leaves, H′, χ, proofQS1, answerWith}
 use Rattle.examples.proofs.ToyComputing.{computing}
 use Rattle.examples.proofs.ToyLeaves.{F}

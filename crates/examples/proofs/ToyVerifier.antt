@@ -19,7 +19,7 @@ use Rattle.protocol.specs.Answers.{Answer, accepted, refused, question, ask}
 use Rattle.protocol.specs.Questions.{treeOf, leavesExact, consistentIn, productIn, q14, q15}
 use Rattle.protocol.specs.Calls.{verifyQuestions, verifyAnswer, verifyForm}
 use Rattle.protocol.specs.Counting.{opening}
-use Rattle.protocol.specs.CheckEdges.{eight}
+use Rattle.protocol.specs.Check.{eight}
 use Rattle.protocol.proofs.AnswerLaws.{ask-after}
 use Rattle.protocol.proofs.CountingLaws.{leaves-length, tree-is}
 use Rattle.protocol.proofs.VoleLaws.{vole}

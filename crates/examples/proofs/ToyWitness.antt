@@ -6,7 +6,7 @@ use Rattle.protocol.specs.Answers.{refused}
 use Rattle.protocol.specs.Questions.{fails}
 use Rattle.protocol.specs.Calls.{testAnswer, commitAnswer, batchAnswer, proveAnswer}
 use Rattle.protocol.specs.Shape.{shapeOf}
-use Rattle.protocol.specs.CheckEdges.{eight}
+use Rattle.protocol.specs.Check.{eight}
 use Rattle.examples.specs.Toy.{A, key₀, leaves, x, H′, χ, out}
 use Rattle.examples.proofs.ToyComputing.{computing}
 use Rattle.examples.proofs.ToyLeaves.{one-not-zero}

@@ -11,8 +11,7 @@ use lib.ListN.{take}
 use Rattle.protocol.specs.Frames.{frame}
 use Rattle.protocol.specs.Shape.{shapeOf}
 use Rattle.protocol.specs.Counting.{opening}
-use Rattle.protocol.specs.Check.{checkLine}
-use Rattle.protocol.specs.CheckEdges.{eight}
+use Rattle.protocol.specs.Check.{eight, checkLine}
 use Rattle.examples.specs.Toy.{A, key, leaves, H′, χ, proof, proofQS1, proofũ}
 
 unfoldable pub inputWith : List ℕ → ℕ → List ℕ → List ℕ

@@ -17,7 +17,7 @@ use Rattle.protocol.specs.Prover.{u, v, sectionsOf, proofOf}
 use Rattle.protocol.specs.Answers.{accepted, refused, isAccepted}
 use Rattle.protocol.specs.Questions.{fails}
 use Rattle.protocol.specs.Calls.{testAnswer, commitAnswer, batchAnswer, proveAnswer}
-use Rattle.protocol.specs.CheckEdges.{eight}
+use Rattle.protocol.specs.Check.{eight}
 use Rattle.examples.specs.Toy.{A, s, key, key₀, leaves, x, H′, χ, out, proof, proofQS1, proofũ, answerWith}
 
 abbrev pub sections : Sections

@@ -17,7 +17,7 @@ use Rattle.protocol.specs.Shape.{Shape, shapeOf}
 use Rattle.protocol.specs.Answers.{Answer}
 use Rattle.protocol.specs.Calls.{verifyAnswer}
 use Rattle.protocol.specs.Counting.{opening}
-use Rattle.protocol.specs.CheckEdges.{eight}
+use Rattle.protocol.specs.Check.{eight}
 
 abbrev pub A : Alphabet
 A = bits256

@@ -18,7 +18,7 @@ use Rattle.protocol.specs.Sections.{Sections, sectionsIn}
 use Rattle.protocol.specs.Verifier.{W, consistent, productHolds, consistentAt, productAt}
 use Rattle.protocol.specs.Questions.{treeOf, consistentIn, productIn}
 use Rattle.protocol.specs.Calls.{verifyForm}
-use Rattle.protocol.specs.CheckEdges.{eight}
+use Rattle.protocol.specs.Check.{eight}
 use Rattle.protocol.proofs.Computing.{computing}
 use Rattle.protocol.proofs.Theorems.{accepts-exactly}
 use Rattle.examples_full.specs.FullExample.{sizes, key, leaves, H′, χ, Δ, proof, opened, coordinates, FullOpening, FullAccepts}

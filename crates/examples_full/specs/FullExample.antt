@@ -22,7 +22,7 @@ use Rattle.protocol.specs.Answers.{accepted}
 use Rattle.protocol.specs.Calls.{verifyAnswer}
 use Rattle.protocol.specs.Counting.{opening, factor}
 use Rattle.protocol.specs.SmallExample.{changed}
-use Rattle.protocol.specs.CheckEdges.{eight}
+use Rattle.protocol.specs.Check.{eight}
 
 abbrev pub sizes : Shape
 sizes = record { n = 9; m = 3; τ = 2; t = 5 }

@@ -8,8 +8,8 @@ use lib.Dec.{leb}
 use lib.ListN.{length}
 use Rattle.protocol.specs.Frames.{framed}
 use Rattle.protocol.specs.Calls.{verifyAnswer}
-use Rattle.protocol.specs.Check.{answered, unread, lengthsIn, readable, checkOf, decimal, decimalDigits}
-use Rattle.protocol.specs.CheckEdges.{eight, section, CheckReads, Decimals}
+use Rattle.protocol.specs.Check.{eight, answered, unread, lengthsIn, readable, checkOf, decimal, decimalDigits}
+use Rattle.protocol.specs.CheckEdges.{section, CheckReads, Decimals}
 use Rattle.protocol.proofs.TestLaws.{leb-yes, leb-no, both-true}
 
 and-false : (b : Bool) → (b && false) ≡ false

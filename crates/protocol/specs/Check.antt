@@ -2,6 +2,7 @@
 --   lengthsIn n s == the counts of the first n sections of s, as they stand
 --   readable n most input == input is at most `most` bytes: n whole sections and nothing more
 --   Checked == what is printed: an answer of the verifier, or unread;  decimal x == x in decimal digits
+--   eight == the setting of the check program, degree 8
 --   lineOf == the line;  checkLine input == the whole output
 -- Assumes nothing.
 use mathlib.Core.Bool.{Bool, true, false, _&&_}
@@ -10,7 +11,7 @@ use Prim.Native.Nat.{ℕ, zero, suc, _+_, _*_, _/_, _%_}
 use lib.Dec.{leb, ltb}
 use lib.ListN.{length, drop}
 use Rattle.protocol.specs.Frames.{num4, framed, sectionNo}
-use Rattle.protocol.specs.Setting.{Setting}
+use Rattle.protocol.specs.Setting.{Setting, setting}
 use Rattle.protocol.specs.Answers.{Answer, accepted, refused}
 use Rattle.protocol.specs.Calls.{verifyAnswer}
 
@@ -24,6 +25,10 @@ readable n most input = leb (length input) most && framed (lengthsIn n input) in
 pub data Checked : Type 0 where
   answered : Answer → Checked
   unread : Checked
+
+-- the setting of the check program
+abbrev pub eight : Setting
+eight = setting 8
 
 unfoldable pub checkOf : Setting → List ℕ → Checked
 checkOf g input =

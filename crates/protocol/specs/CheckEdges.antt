@@ -8,16 +8,11 @@ use mathlib.Core.List.{List, [], _∷_}
 use Prim.Native.Nat.{ℕ, _<_, _≤_}
 use lib.ListN.{length}
 use Rattle.protocol.specs.Frames.{framed, sectionNo}
-use Rattle.protocol.specs.Setting.{Setting, setting}
 use Rattle.protocol.specs.Calls.{verifyAnswer}
-use Rattle.protocol.specs.Check.{answered, unread, lengthsIn, checkOf, decimal}
+use Rattle.protocol.specs.Check.{eight, answered, unread, lengthsIn, checkOf, decimal}
 
 abbrev pub section : ℕ → List ℕ → List ℕ
 section i input = sectionNo (lengthsIn 6 input) i input
-
--- the setting of the check program: degree 8
-abbrev pub eight : Setting
-eight = setting 8
 
 -- "More than 65,536 bytes of input in all, a cut section or bytes left over give `unread 0 0`."
 pub record CheckReads : Type 0 where

@@ -1,10 +1,11 @@
 // The degree and the key: question 16, questions 1 to 4 of 01; and the sections of the key.
 ghost use mathlib.Core.Path.{_≡_};
-ghost use mathlib.Core.Bool.{true};
+ghost use mathlib.Core.Bool.{true, _&&_};
 ghost use Prim.Native.Nat.{_+_, _*_, _<_};
 ghost use lib.ListN.{length, getD, drop};
 ghost use Rattle.protocol.specs.Strings.{bytesFor};
 ghost use Rattle.protocol.specs.Frames.{sectionNo, framedLength};
+ghost use Rattle.protocol.specs.Setting.{served};
 ghost use Rattle.protocol.specs.Shape.{limits};
 ghost use Rattle.protocol.specs.Key.{keyLengths, keySpare, sectionA, sectionB, sectionY};
 ghost use Rattle.protocol.specs.Answers.{ask};
@@ -109,4 +110,11 @@ pub fn key_form(key: &[u8], s: Sizes) -> Verdict
         return refuse(Reason::DegreeUnserved, 0);
     }
     header_form(key, s)
+}
+
+// Are the sizes in range, and is the degree served?
+pub fn in_range(s: Sizes) -> bool
+    ensures { λ r. ⌜ r ≡ (served (settingFor s) && limits (shapeFor s)) ⌝ }
+{
+    degree_served(s) & in_limits(s)
 }

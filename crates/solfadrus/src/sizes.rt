@@ -1,27 +1,17 @@
 // The sizes of a key's data, for callers who allocate: 0 where a size or the degree is not served.
 ghost use mathlib.Core.Path.{_≡_};
-ghost use mathlib.Core.Bool.{_&&_};
 ghost use Prim.Native.Nat.{_+_, _*_};
 ghost use Rattle.protocol.specs.Strings.{bytesFor};
 ghost use Rattle.protocol.specs.Frames.{framedLength};
-ghost use Rattle.protocol.specs.Setting.{setting, served};
-ghost use Rattle.protocol.specs.Shape.{limits, perTree, perOpened, kOf, wOf};
+ghost use Rattle.protocol.specs.Setting.{setting};
+ghost use Rattle.protocol.specs.Shape.{perTree, perOpened, kOf, wOf};
 ghost use Rattle.protocol.specs.Key.{keyLengths};
 ghost use Rattle.protocol.specs.Sections.{lengths, commitLengths, hashLengths, batchLengths};
-ghost use Rattle.format.specs.Sizes.{settingFor, shapeFor};
 ghost use Rattle.solfadrus.specs.Sized.{shape, sized};
 use format::Sizes;
 use format::sizes::BINARY;
-use format::sizes::degree_served;
-use format::sizes::in_limits;
 use format::sizes::tree_leaves;
-
-// Are the sizes in range, and is the degree served?
-fn in_range(s: Sizes) -> bool
-    ensures { λ r. ⌜ r ≡ (served (settingFor s) && limits (shapeFor s)) ⌝ }
-{
-    degree_served(s) & in_limits(s)
-}
+use questions::key::in_range;
 
 #[no_mangle]
 pub extern "C" fn mq_key_size(n: usize, m: usize, tau: usize, t: usize, degree: u32) -> usize

@@ -1,10 +1,10 @@
--- `solfadrus::sizes::in_range` meets its contract: both questions get a yes.
+-- `questions::key::in_range` meets its contract: both questions get a yes.
 -- Assumes nothing.
 use mathlib.Core.Path.{ap₂}
 use mathlib.Core.Bool.{_&&_}
 use borrow.Author.Needs.{needs}
-use Rattle.solfadrus.proofs.sizes.in_range.Statement.{statement}
-use Rattle.solfadrus.proofs.sizes.in_range.Tie as tie
+use Rattle.questions.proofs.key.in_range.Statement.{statement}
+use Rattle.questions.proofs.key.in_range.Tie as tie
 
 degree-served-requires : tie.Need-degree-served-requires
 degree-served-requires c κs = search needs
