@@ -6,7 +6,8 @@
  *
  * Leaf sums. With U_j the sum of the leaves up to j, bit plane p of v is the sum of the U_j where 2^p
  * divides j + 1. Each U_j is added at its highest such p alone, and the planes are added up at the end:
- * two exclusive ors for a leaf. The elements of v, a byte for each coordinate, are the planes turned.
+ * two exclusive ors for a leaf. The elements of v, a byte for each coordinate, are the planes turned. Planes are
+ * as many as the degree says, 8 or 4; below, numbers are those of degree 8.
  *
  * Hash. A row of hash_matrix is public: four coordinates at a time are looked up in a table of their sixteen
  * sums, the bytes of all repetitions side by side. The table is made for a block of the row at a time.
@@ -41,11 +42,13 @@ enum {
     STRIDE = 128, /* a leaf has at most 124 bytes: eight registers */
     LANES = MQ_MAX_REPETITIONS,
     MAX_ROW = MQ_STRING_SIZE(MQ_MAX_VARIABLES),
-    MAX_HASH_ROW = MQ_HASH_ROW_SIZE(MQ_MAX_VARIABLES, MQ_MAX_EQUATIONS, MQ_MAX_REPETITIONS, MQ_MAX_HASH_ROWS),
+    MAX_HASH_ROW = MQ_HASH_ROW_SIZE(MQ_MAX_VARIABLES, MQ_MAX_EQUATIONS, MQ_MAX_REPETITIONS, MQ_MAX_HASH_ROWS,
+                                    DEGREE),
     PANELS = MQ_MAX_VARIABLES / 16,
     BLOCK_EQUATIONS = 160, /* as many go through the tables together */
     FIVES = BLOCK_EQUATIONS / 5,
-    PRODUCTS = 27
+    PRODUCTS = DEGREE == 8 ? 27 : 9,
+    STACK = 2 * DEGREE - 1
 };
 
 typedef __m128i reg;
@@ -57,14 +60,14 @@ INLINE void store(void *at, reg a) { _mm_storeu_si128((reg *)at, a); }
 
 /* ---- Leaf sums ---------------------------------------------------------------------------- */
 
-/* For one repetition: the sum u of its leaves, and the eight bit planes of v. Zero past w bytes. */
+/* For one repetition: the sum u of its leaves, and the bit planes of v. Zero past w bytes. */
 struct sums {
-    uint8_t u[STRIDE], plane[8][STRIDE];
+    uint8_t u[STRIDE], plane[DEGREE][STRIDE];
 };
 
 /* Sixteen leaves, one of them not there: with zeros in its place. */
 struct patch {
-    int number; /* which sixteen of the 256; -1 where all leaves are there */
+    int number; /* which sixteen of the leaves; -1 where all are there */
     uint8_t leaves[16 * STRIDE];
 };
 
@@ -78,14 +81,14 @@ static void make_patch(const uint8_t *opened, size_t w, size_t missing, struct p
     memcpy(patch->leaves + before + w, from + before, 15 * w - before);
 }
 
-/* Sixteen bytes of the sums, from 256 leaves that lie w bytes apart. */
+/* Sixteen bytes of the sums, from leaves that lie w bytes apart. */
 static void sum_sixteen(const uint8_t *leaf, size_t w, const struct patch *patch, struct sums *sums, size_t at)
 {
-    reg u = _mm_setzero_si128(), p[9];
+    reg u = _mm_setzero_si128(), p[DEGREE + 1];
     leaf += at;
-    for (int i = 0; i < 9; i++)
+    for (int i = 0; i <= DEGREE; i++)
         p[i] = u;
-    for (int b = 0; b < 16; b++) {
+    for (int b = 0; b < FIELD_SIZE / 16; b++) {
         const uint8_t *next = leaf + 16 * w;
         if (b == patch->number) {
             leaf = patch->leaves + at;
@@ -99,13 +102,13 @@ static void sum_sixteen(const uint8_t *leaf, size_t w, const struct patch *patch
         leaf = next;
     }
     store(sums->u + at, u);
-    for (int i = 7; i >= 0; i--) {
+    for (int i = DEGREE - 1; i >= 0; i--) {
         p[i] = xor(p[i], p[i + 1]);
         store(sums->plane[i] + at, p[i]);
     }
 }
 
-enum { NONE = MQ_FIELD_SIZE };
+enum { NONE = FIELD_SIZE };
 
 /* Where a leaf is missing, those after it stand one place earlier, and the sums have 0 for it. */
 static void sum_leaves(const uint8_t *leaves, size_t w, size_t missing, struct sums *sums)
@@ -114,8 +117,8 @@ static void sum_leaves(const uint8_t *leaves, size_t w, size_t missing, struct s
     patch.number = -1;
     memset(sums, 0, sizeof *sums);
     if (w < 16) {
-        uint8_t tree[MQ_FIELD_SIZE * 16] = { 0 };
-        for (size_t j = 0; j < MQ_FIELD_SIZE; j++)
+        uint8_t tree[FIELD_SIZE * 16] = { 0 };
+        for (size_t j = 0; j < FIELD_SIZE; j++)
             if (j != missing) {
                 memcpy(tree + 16 * j, leaves, w);
                 leaves += w;
@@ -224,10 +227,10 @@ INLINE unsigned parities(reg x)
 /* ---- Products ----------------------------------------------------------------------------- */
 
 /* The sums of planes that Karatsuba multiplies: 3 x 3 x 3, each digit the low half, the high half or
- * their sum. */
-INLINE void karatsuba_sums(const reg plane[8], reg out[PRODUCTS])
+ * their sum. Of four planes they are 3 x 3. */
+INLINE void karatsuba_sums(const reg plane[DEGREE], reg out[PRODUCTS])
 {
-    for (int i = 0; i < 3; i++) {
+    for (int i = 0; i < PRODUCTS / 9; i++) {
         reg four[4];
         for (int s = 0; s < 4; s++)
             four[s] = i == 0 ? plane[s] : i == 1 ? plane[s + 4] : xor(plane[s], plane[s + 4]);
@@ -241,7 +244,7 @@ INLINE void karatsuba_sums(const reg plane[8], reg out[PRODUCTS])
 }
 
 /* Adds the products of planes with others, whose sums are given. */
-INLINE void add_products(reg acc[PRODUCTS], const reg factor[PRODUCTS], const reg plane[8])
+INLINE void add_products(reg acc[PRODUCTS], const reg factor[PRODUCTS], const reg plane[DEGREE])
 {
     reg sum[PRODUCTS];
     karatsuba_sums(plane, sum);
@@ -262,9 +265,10 @@ INLINE void join(const reg *low, const reg *high, const reg *sums, int len, reg 
 }
 
 /* The planes of the added products. */
-INLINE void finish(const reg acc[PRODUCTS], reg plane[8])
+INLINE void finish(const reg acc[PRODUCTS], reg plane[DEGREE])
 {
-    reg two[9][3], four[3][7], all[15];
+#if DEGREE == 8
+    reg two[9][3], four[3][7], all[STACK];
     for (int i = 0; i < 9; i++)
         join(acc + 3 * i, acc + 3 * i + 1, acc + 3 * i + 2, 1, two[i]);
     for (int i = 0; i < 3; i++)
@@ -276,10 +280,21 @@ INLINE void finish(const reg acc[PRODUCTS], reg plane[8])
         all[i - 5] = xor(all[i - 5], all[i]);
         all[i - 4] = xor(all[i - 4], all[i]);
     }
-    for (int i = 0; i < 8; i++)
+#else
+    reg two[3][3], all[STACK];
+    for (int i = 0; i < 3; i++)
+        join(acc + 3 * i, acc + 3 * i + 1, acc + 3 * i + 2, 1, two[i]);
+    join(two[0], two[1], two[2], 2, all);
+    for (int i = 6; i >= 4; i--) { /* X^4 = X + 1 */
+        all[i - 4] = xor(all[i - 4], all[i]);
+        all[i - 3] = xor(all[i - 3], all[i]);
+    }
+#endif
+    for (int i = 0; i < DEGREE; i++)
         plane[i] = all[i];
 }
 
+#if DEGREE == 8
 /* Adds X^8 times seven words, each a plane, to eight, and reduces. */
 INLINE reg reduce_words(reg low, reg high)
 {
@@ -288,6 +303,14 @@ INLINE reg reduce_words(reg low, reg high)
     low = xor(low, xor(high, _mm_slli_si128(high, 2)));
     return xor(low, xor(_mm_slli_si128(high, 6), _mm_slli_si128(high, 8)));
 }
+#else
+/* Reduces seven words, each a plane, to the lowest four. */
+INLINE reg reduce_words(reg all)
+{
+    const reg high = _mm_srli_si128(all, 8);
+    return xor(all, xor(high, _mm_slli_si128(high, 2)));
+}
+#endif
 
 /* ---- What the steps work on --------------------------------------------------------------- */
 
@@ -298,7 +321,7 @@ struct work {
 static void sum_all(const struct key *key, const uint8_t *leaves, struct work *work)
 {
     for (size_t e = 0; e < key->tau; e++)
-        sum_leaves(leaves + e * MQ_FIELD_SIZE * key->w, key->w, NONE, &work->sums[e]);
+        sum_leaves(leaves + e * FIELD_SIZE * key->w, key->w, NONE, &work->sums[e]);
 }
 
 /* All else is made from the sums where it is used. */
@@ -312,7 +335,7 @@ static void make_all(const struct key *key, const uint8_t *leaves, size_t bytes,
 INLINE void turn_planes(const struct sums *sums, size_t at, reg r[8])
 {
     for (int p = 0; p < 8; p++)
-        r[p] = load(sums->plane[p] + at);
+        r[p] = p < DEGREE ? load(sums->plane[p % DEGREE] + at) : _mm_setzero_si128();
     turn(r);
 }
 
@@ -697,7 +720,7 @@ FOLD(fold_before_20, 16, 4)
 /* For each half of the equations, and each plane of each repetition: the numbers that its bits of five equations
  * make, times 4, as bytes. */
 struct picks {
-    uint64_t eight[2][MQ_MAX_REPETITIONS][8][FIVES / 16];
+    uint64_t eight[2][MQ_MAX_REPETITIONS][DEGREE][FIVES / 16];
 };
 
 /* Eight fives of bits, each in a byte, times 4. */
@@ -709,13 +732,19 @@ INLINE uint64_t spread_fives(uint64_t x)
     return x << 2;
 }
 
+/* Elements, each moved to the top of its byte. */
+INLINE reg to_the_top(reg elements)
+{
+    return DEGREE == 8 ? elements : _mm_slli_epi16(elements, 8 - DEGREE);
+}
+
 /* Bits of equations past the block may be set: there is nothing there to choose. */
 static void make_picks(const struct key *key, struct block block, const uint8_t *batching, struct picks *picks)
 {
     const uint8_t *end = batching + key->tau * key->m;
     batching += block.from;
     for (size_t e = 0; e < key->tau; e++, batching += key->m) {
-        uint8_t bits[8][24] = { { 0 } };
+        uint8_t bits[DEGREE][24] = { { 0 } };
         for (size_t i = 0; i < block.count; i += 16) {
             uint8_t copy[16] = { 0 };
             reg r;
@@ -724,13 +753,14 @@ static void make_picks(const struct key *key, struct block block, const uint8_t 
                 r = load(copy);
             } else
                 r = load(batching + i);
-            for (int p = 7; p >= 0; p--) {
+            r = to_the_top(r);
+            for (int p = DEGREE - 1; p >= 0; p--) {
                 const uint16_t word = (uint16_t)_mm_movemask_epi8(r);
                 memcpy(bits[p] + i / 8, &word, 2);
                 r = _mm_add_epi8(r, r);
             }
         }
-        for (int p = 0; p < 8; p++)
+        for (int p = 0; p < DEGREE; p++)
             for (size_t k = 0; k < FIVES / 8; k++) {
                 uint64_t word;
                 memcpy(&word, bits[p] + 5 * k, 8);
@@ -839,11 +869,11 @@ INLINE size_t line_regs(const struct key *key)
 struct batch {
     _Alignas(64) reg cells[MAX_SQUARES * SQUARE];
     reg sums[2][FIVES / 2 * 32 * 2];         /* the two tables */
-    reg planes[MQ_MAX_REPETITIONS][16];      /* of a square: two planes after the other, as they are looked up */
-    reg stacks[MQ_MAX_REPETITIONS][15][2];
+    reg planes[MQ_MAX_REPETITIONS][2 * DEGREE]; /* of a square: two planes after the other, as they are looked up */
+    reg stacks[MQ_MAX_REPETITIONS][STACK][2];
     reg columns[MQ_MAX_REPETITIONS][PANELS]; /* of v^T B: a word for each plane */
     reg vectors[MQ_MAX_REPETITIONS][PANELS]; /* v, 0 from n on */
-    reg lines[MQ_MAX_REPETITIONS][LINE_REGS][8]; /* the batched lines, so far */
+    reg lines[MQ_MAX_REPETITIONS][LINE_REGS][DEGREE]; /* the batched lines, so far */
     struct picks picks;
 };
 
@@ -862,7 +892,7 @@ INLINE size_t second_half(struct block block)
 static void sum_first(size_t tau, size_t fives, struct filling filling, struct batch *batch)
 {
     for (size_t e = 0; e < tau; e++) {
-        for (int p = 0; p < 8; p += 2) {
+        for (int p = 0; p < DEGREE; p += 2) {
             reg s[4];
             for (int i = 0; i < 4; i++)
                 s[i] = _mm_setzero_si128();
@@ -878,21 +908,21 @@ static void sum_first(size_t tau, size_t fives, struct filling filling, struct b
 static void absorb_square(size_t tau, size_t fives, size_t q, struct filling filling, struct batch *batch)
 {
     for (size_t e = 0; e < tau; e++) {
-        reg mask[8], v = batch->vectors[e][q];
-        for (int b = 7; b >= 0; b--) {
+        reg mask[DEGREE], v = to_the_top(batch->vectors[e][q]);
+        for (int b = DEGREE - 1; b >= 0; b--) {
             mask[b] = _mm_cmpgt_epi8(_mm_setzero_si128(), v);
             v = _mm_add_epi8(v, v);
         }
-        for (int p = 0; p < 8; p += 2) {
+        for (int p = 0; p < DEGREE; p += 2) {
             reg s[4], (*stack)[2] = batch->stacks[e] + p;
             for (int i = 0; i < 4; i++)
                 s[i] = batch->planes[e][2 * p + i];
             look_up_two(batch->sums[1], batch->picks.eight[1][e][p], batch->picks.eight[1][e][p + 1], fives, s);
             for (int h = 0; h < 2; h++) {
                 stack[0][h] = xor(stack[0][h], and(s[h], mask[0]));
-                for (int b = 1; b < 8; b++)
+                for (int b = 1; b < DEGREE; b++)
                     stack[b][h] = xor(stack[b][h], xor(and(s[h], mask[b]), and(s[h + 2], mask[b - 1])));
-                stack[8][h] = xor(stack[8][h], and(s[h + 2], mask[7]));
+                stack[DEGREE][h] = xor(stack[DEGREE][h], and(s[h + 2], mask[DEGREE - 1]));
             }
         }
         fill_some(&filling);
@@ -904,11 +934,16 @@ static void finish_panel(size_t tau, size_t J, struct batch *batch)
 {
     for (size_t e = 0; e < tau; e++) {
         const reg *stack = (const reg *)batch->stacks[e];
-        reg rest[16];
+        reg rest[16], reduced;
         for (int i = 0; i < 14; i++)
-            rest[i] = stack[16 + i];
+            rest[i] = stack[2 * STACK - 14 + i];
         rest[14] = rest[15] = _mm_setzero_si128();
-        batch->columns[e][J] = xor(batch->columns[e][J], reduce_words(add_up(stack), add_up(rest)));
+#if DEGREE == 8
+        reduced = reduce_words(add_up(stack), add_up(rest));
+#else
+        reduced = reduce_words(add_up(rest));
+#endif
+        batch->columns[e][J] = xor(batch->columns[e][J], reduced);
     }
     memset(batch->stacks, 0, tau * sizeof batch->stacks[0]);
 }
@@ -962,8 +997,8 @@ static void add_lines(const struct key *key, struct block block, size_t from, st
         fill_five(batch->cells + 10 * g, batch->sums[0] + 64 * g);
     sum_first(key->tau, half, second, batch);
     for (size_t e = 0; e < key->tau; e++)
-        for (int p = 0; p < 8; p += 2) {
-            reg s[4], (*line)[8] = batch->lines[e] + from;
+        for (int p = 0; p < DEGREE; p += 2) {
+            reg s[4], (*line)[DEGREE] = batch->lines[e] + from;
             for (int i = 0; i < 4; i++)
                 s[i] = batch->planes[e][2 * p + i];
             look_up_two(batch->sums[1], batch->picks.eight[1][e][p], batch->picks.eight[1][e][p + 1], rest, s);
@@ -983,12 +1018,14 @@ static void finish_forms(const struct key *key, const struct work *work, const u
     for (size_t c = 0; c < key->n; c++)
         valid[c / 8] |= (uint8_t)(1 << c % 8);
     for (size_t e = 0; e < key->tau; e++) {
-        reg v[8], w[8], factor[PRODUCTS], acc0[PRODUCTS], acc1[PRODUCTS], both[16];
+        reg v[DEGREE], w[8], factor[PRODUCTS], acc0[PRODUCTS], acc1[PRODUCTS], both[16];
+        for (int i = 0; i < 16; i++)
+            both[i] = _mm_setzero_si128();
         for (int i = 0; i < PRODUCTS; i++)
             acc0[i] = acc1[i] = _mm_setzero_si128();
         for (size_t h = 0; h < regs; h++) {
             reg words[8];
-            for (int p = 0; p < 8; p++) {
+            for (int p = 0; p < DEGREE; p++) {
                 const reg one = _mm_cvtsi32_si128(h + 1 == regs ? (last[e] >> p & 1) << 15 : 0);
                 v[p] = and(load(work->sums[e].plane[p] + 16 * h), load(valid + 16 * h));
                 v[p] = xor(v[p], _mm_slli_si128(one, 14));
@@ -1008,12 +1045,13 @@ static void finish_forms(const struct key *key, const struct work *work, const u
     }
 }
 
-/* The sum of alpha^s v[n + 8e + s]: bits n + 8e .. n + 8e + 7 of plane p are an element, taken times alpha^p. */
+/* The sum of alpha^s v[n + re + s], r being the degree: bits n + re .. n + re + r - 1 of plane p are an element, taken
+ * times alpha^p. */
 static uint8_t mask_of_v(const struct key *key, const struct sums *sums, size_t e)
 {
     unsigned sum = 0;
-    for (int p = 7; p >= 0; p--)
-        sum = (sum << 1) ^ (-(sum >> 7) & MQ_FIELD_MODULUS) ^ mask_of_u(key, sums->plane[p], e);
+    for (int p = DEGREE - 1; p >= 0; p--)
+        sum = (sum << 1) ^ (-(sum >> (DEGREE - 1)) & FIELD_MODULUS) ^ mask_of_u(key, sums->plane[p], e);
     return (uint8_t)sum;
 }
 
@@ -1121,14 +1159,14 @@ static void sum_opened(const struct key *key, const struct claim *in, const stru
 {
     const uint8_t delta = in->delta.at[e];
     uint8_t c[STRIDE] = { 0 };
-    sum_leaves(in->opened.at + e * (MQ_FIELD_SIZE - 1) * key->w, key->w, delta, sums);
+    sum_leaves(in->opened.at + e * (FIELD_SIZE - 1) * key->w, key->w, delta, sums);
     if (e > 0)
         memcpy(c, proof->c + (e - 1) * key->w, key->w);
     for (size_t b = 0; b < key->row; b++)
         c[b] ^= proof->d[b];
     for (size_t b = 0; b < key->w; b += 16) {
         const reg u = xor(load(sums->u + b), load(c + b));
-        for (int p = 0; p < 8; p++)
+        for (int p = 0; p < DEGREE; p++)
             store(sums->plane[p] + b, xor(load(sums->plane[p] + b), and(u, _mm_set1_epi8((char)-(delta >> p & 1)))));
     }
 }

@@ -1,6 +1,8 @@
 /*
- * The questions on form, as the programs of this folder put them: all but 11, 14 and 15. Each function
- * answers 0, or the number of the question that gets a no.
+ * The questions on form, as the programs of this folder put them: all but 11, 14 and 15, and 16, which is
+ * dispatch.c's. Each function answers 0, or the number of the question that gets a no.
+ *
+ * Each program is compiled for one degree, 8 or 4, which is a constant in it.
  *
  * The key is public. Leaves and witness are secret: their spare bits are gathered with no branch,
  * and only the answer is looked at.
@@ -12,6 +14,11 @@
 #include <string.h>
 
 #include "solfadrus.h"
+
+#ifndef DEGREE
+#error "the degree: -DDEGREE=8 or -DDEGREE=4"
+#endif
+enum { FIELD_SIZE = MQ_FIELD_SIZE(DEGREE), FIELD_MODULUS = MQ_FIELD_MODULUS(DEGREE) };
 
 /* A value that depends on secrets, but that the answer tells anyway. A test that marks secrets needs to know. */
 #ifdef MARK_SECRETS
@@ -103,7 +110,7 @@ static uint32_t ask_key(struct text lent, struct key *key)
         || !in_range(key->tau, MQ_MAX_REPETITIONS) || !in_range(key->t, MQ_MAX_HASH_ROWS))
         return MQ_REFUSED_SIZE_OUT_OF_RANGE;
     key->row = MQ_STRING_SIZE(key->n);
-    key->k = MQ_HASH_ROW_BITS(key->n, key->m, key->tau, key->t);
+    key->k = MQ_HASH_ROW_BITS(key->n, key->m, key->tau, key->t, DEGREE);
     key->L = key->k + key->t;
     key->w = MQ_STRING_SIZE(key->L);
     key->hash_row = MQ_STRING_SIZE(key->k);
@@ -120,7 +127,18 @@ static uint32_t ask_key(struct text lent, struct key *key)
     return MQ_ACCEPTED;
 }
 
-/* Questions 5 and 6, of the challenges that are not NULL. */
+/* Whether some byte is no element. Nothing here is secret. */
+static int no_elements(const uint8_t *at, size_t len)
+{
+    uint8_t all = 0;
+    if (DEGREE == 8)
+        return 0;
+    for (size_t i = 0; i < len; i++)
+        all |= at[i];
+    return all >> DEGREE != 0;
+}
+
+/* Questions 5, 6 and 17, of the challenges that are not NULL. */
 static uint32_t ask_challenges(const struct key *key, const struct text *hash_matrix, const struct text *batching,
                                const struct text *delta)
 {
@@ -129,6 +147,8 @@ static uint32_t ask_challenges(const struct key *key, const struct text *hash_ma
         return MQ_REFUSED_CHALLENGE_LENGTH;
     if (hash_matrix && spare_bits(hash_matrix->at, key->t, key->k))
         return MQ_REFUSED_HASH_SPARE_BIT;
+    if ((batching && no_elements(batching->at, batching->len)) || (delta && no_elements(delta->at, delta->len)))
+        return MQ_REFUSED_CHALLENGE_ELEMENT;
     return MQ_ACCEPTED;
 }
 
@@ -156,14 +176,14 @@ struct inputs {
     size_t out_len;
 };
 
-/* Questions 1 to 10, for a call that writes so many bytes, which may depend on the key. */
+/* Questions 1 to 10 and 17, for a call that writes so many bytes, which may depend on the key. */
 static uint32_t ask_form(const struct inputs *in, struct key *key, size_t (*to_be_written)(const struct key *))
 {
     uint32_t number = ask_key(in->key, key);
     if (!number)
         number = ask_challenges(key, in->hash_matrix, in->batching, NULL);
     if (!number)
-        number = ask_leaves(key, in->leaves, MQ_FIELD_SIZE);
+        number = ask_leaves(key, in->leaves, FIELD_SIZE);
     if (!number && in->witness)
         number = ask_witness(key, *in->witness);
     if (!number && in->out_len != to_be_written(key))
@@ -173,22 +193,22 @@ static uint32_t ask_form(const struct inputs *in, struct key *key, size_t (*to_b
 
 static size_t commit_size(const struct key *key)
 {
-    return MQ_COMMIT_SIZE(key->n, key->m, key->tau, key->t);
+    return MQ_COMMIT_SIZE(key->n, key->m, key->tau, key->t, DEGREE);
 }
 
 static size_t hash_size(const struct key *key)
 {
-    return MQ_HASH_SIZE(key->n, key->m, key->tau, key->t);
+    return MQ_HASH_SIZE(key->n, key->m, key->tau, key->t, DEGREE);
 }
 
 static size_t batch_size(const struct key *key)
 {
-    return MQ_BATCH_SIZE(key->n, key->m, key->tau, key->t);
+    return MQ_BATCH_SIZE(key->n, key->m, key->tau, key->t, DEGREE);
 }
 
 static size_t proof_size(const struct key *key)
 {
-    return MQ_PROOF_SIZE(key->n, key->m, key->tau, key->t);
+    return MQ_PROOF_SIZE(key->n, key->m, key->tau, key->t, DEGREE);
 }
 
 /* The sections of a proof, without their counts. The first correction of C is that of repetition 1. */
@@ -196,7 +216,7 @@ struct proof {
     const uint8_t *c, *d, *u, *v, *qs0, *qs1;
 };
 
-/* Questions 12 and 13. */
+/* Questions 12, 13 and 18. */
 static uint32_t ask_proof(const struct key *key, struct text rest, struct proof *proof)
 {
     const size_t lengths[6] = {
@@ -210,6 +230,9 @@ static uint32_t ask_proof(const struct key *key, struct text rest, struct proof 
         return MQ_REFUSED_PROOF_LENGTH;
     if (spare_bits(proof->c, key->tau - 1, key->L) | spare_bits(proof->d, 1, key->n) | spare_bits(proof->u, 1, key->t))
         return MQ_REFUSED_PROOF_SPARE_BIT;
+    if (no_elements(proof->v, key->tau * key->t) || no_elements(proof->qs0, key->tau)
+        || no_elements(proof->qs1, key->tau))
+        return MQ_REFUSED_PROOF_ELEMENT;
     return MQ_ACCEPTED;
 }
 
@@ -218,14 +241,14 @@ struct claim {
     struct text key, delta, hash_matrix, batching, opened, proof;
 };
 
-/* Questions 1 to 8, 12 and 13. */
+/* Questions 1 to 8, 12, 13, 17 and 18. */
 static uint32_t ask_claim(const struct claim *in, struct key *key, struct proof *proof)
 {
     uint32_t number = ask_key(in->key, key);
     if (!number)
         number = ask_challenges(key, &in->hash_matrix, &in->batching, &in->delta);
     if (!number)
-        number = ask_leaves(key, in->opened, MQ_FIELD_SIZE - 1);
+        number = ask_leaves(key, in->opened, FIELD_SIZE - 1);
     if (!number)
         number = ask_proof(key, in->proof, proof);
     return number;
@@ -235,10 +258,10 @@ static uint32_t ask_claim(const struct claim *in, struct key *key, struct proof 
 static inline uint8_t multiply(uint8_t a, uint8_t b)
 {
     unsigned product = 0;
-    for (int s = MQ_FIELD_DEGREE - 1; s >= 0; s--) {
+    for (int s = DEGREE - 1; s >= 0; s--) {
         product <<= 1;
-        if (product & MQ_FIELD_SIZE)
-            product ^= MQ_FIELD_MODULUS;
+        if (product & FIELD_SIZE)
+            product ^= FIELD_MODULUS;
         if (b >> s & 1)
             product ^= a;
     }
@@ -253,12 +276,14 @@ static inline uint8_t parity(uint8_t x)
     return (x ^ x >> 1) & 1;
 }
 
-/* The bits n + 8e .. n + 8e + 7 of u, which are repetition e's: as an element, the sum of alpha^s u[n + 8e + s]. */
+/* The bits n + re .. n + re + r - 1 of u, which are repetition e's, r being the degree: as an element, the sum of
+ * alpha^s u[n + re + s]. */
 static inline uint8_t mask_of_u(const struct key *key, const uint8_t *u, size_t e)
 {
-    const uint8_t *at = u + key->n / 8 + e;
-    const unsigned two = at[0] | (unsigned)at[1] << 8;
-    return (uint8_t)(two >> key->n % 8);
+    const size_t first = key->n + DEGREE * e;
+    const uint8_t *at = u + first / 8;
+    const unsigned next = first % 8 + DEGREE > 8 ? at[1] : 0, two = at[0] | next << 8;
+    return (uint8_t)(two >> first % 8 & (FIELD_SIZE - 1));
 }
 
 /* What the third step writes. */

@@ -15,8 +15,9 @@ enum {
     LANES = MQ_MAX_REPETITIONS,
     VECTORS = LANES / 16,
     MAX_ROW = MQ_STRING_SIZE(MQ_MAX_VARIABLES),
-    MAX_HASH_ROW = MQ_HASH_ROW_SIZE(MQ_MAX_VARIABLES, MQ_MAX_EQUATIONS, MQ_MAX_REPETITIONS, MQ_MAX_HASH_ROWS),
-    MAX_W = MQ_LEAF_SIZE(MQ_MAX_VARIABLES, MQ_MAX_EQUATIONS, MQ_MAX_REPETITIONS, MQ_MAX_HASH_ROWS)
+    MAX_HASH_ROW = MQ_HASH_ROW_SIZE(MQ_MAX_VARIABLES, MQ_MAX_EQUATIONS, MQ_MAX_REPETITIONS, MQ_MAX_HASH_ROWS,
+                                    DEGREE),
+    MAX_W = MQ_LEAF_SIZE(MQ_MAX_VARIABLES, MQ_MAX_EQUATIONS, MQ_MAX_REPETITIONS, MQ_MAX_HASH_ROWS, DEGREE)
 };
 
 /* Sixteen bytes, in the vectors that gcc and clang share. */
@@ -47,47 +48,50 @@ static inline vector top(vector x)
     return (vector)((signed_vector)x < 0);
 }
 
-/* to += a b in K, in every lane, by Horner from the highest bit of a. */
+/* to += a b in K, in every lane, by Horner from the highest bit of a. Elements stand at the top of their bytes. */
+enum { SHIFT = 8 - DEGREE };
+
 static inline void add_products(union lanes *to, const union lanes *a, const union lanes *b)
 {
-    const vector modulus = (vector){ 0 } + (MQ_FIELD_MODULUS & 0xFF);
+    const vector modulus = (vector){ 0 } + (uint8_t)(FIELD_MODULUS << SHIFT);
     for (int i = 0; i < VECTORS; i++) {
-        vector rest = a->part[i], product = { 0 };
-        for (int bit = 0; bit < MQ_FIELD_DEGREE; bit++) {
-            product = (product + product) ^ (top(product) & modulus) ^ (top(rest) & b->part[i]);
+        const vector factor = b->part[i] << SHIFT;
+        vector rest = a->part[i] << SHIFT, product = { 0 };
+        for (int bit = 0; bit < DEGREE; bit++) {
+            product = (product + product) ^ (top(product) & modulus) ^ (top(rest) & factor);
             rest += rest;
         }
-        to->part[i] ^= product;
+        to->part[i] ^= product >> SHIFT;
     }
 }
 
 /* ---- Leaf sums and tables ----------------------------------------------------------------- */
 
-enum { NONE = MQ_FIELD_SIZE };
+enum { NONE = FIELD_SIZE };
 
 /* Where a leaf is missing, those after it stand one place earlier, and the sums have 0 for it. */
 static void sum_leaves(const uint8_t *leaves, size_t w, size_t missing, uint8_t *u, uint8_t *planes)
 {
     memset(u, 0, w);
-    memset(planes, 0, 8 * w);
-    for (size_t j = 0; j < MQ_FIELD_SIZE; j++) {
+    memset(planes, 0, DEGREE * w);
+    for (size_t j = 0; j < FIELD_SIZE; j++) {
         if (j != missing) {
             add(u, leaves, w);
             leaves += w;
         }
-        for (size_t p = 0; p < 8; p++)
+        for (size_t p = 0; p < DEGREE; p++)
             if ((j ^ (j + 1)) >> p & 1)
                 add(planes + p * w, u, w);
     }
 }
 
-/* Puts the bit planes of one repetition into its lane: byte b of the eight planes gives eight coordinates. */
+/* Puts the bit planes of one repetition into its lane: byte b of the planes gives eight coordinates. */
 static void put_lane(const uint8_t *planes, size_t w, union lanes *v, size_t e)
 {
     for (size_t b = 0; b < w; b++)
         for (size_t s = 0; s < 8; s++) {
             uint8_t element = 0;
-            for (size_t p = 0; p < 8; p++)
+            for (size_t p = 0; p < DEGREE; p++)
                 element |= (uint8_t)((planes[p * w + b] >> s & 1) << p);
             v[8 * b + s].byte[e] = element;
         }
@@ -95,10 +99,10 @@ static void put_lane(const uint8_t *planes, size_t w, union lanes *v, size_t e)
 
 static void sum_all(const struct key *key, const uint8_t *leaves, struct work *work)
 {
-    uint8_t planes[8 * MAX_W];
+    uint8_t planes[DEGREE * MAX_W];
     memset(work->v, 0, sizeof work->v);
     for (size_t e = 0; e < key->tau; e++) {
-        sum_leaves(leaves + e * MQ_FIELD_SIZE * key->w, key->w, NONE, work->u[e], planes);
+        sum_leaves(leaves + e * FIELD_SIZE * key->w, key->w, NONE, work->u[e], planes);
         put_lane(planes, key->w, work->v, e);
     }
 }
@@ -220,14 +224,14 @@ static union lanes batching_lanes(const struct key *key, const uint8_t *batching
     return chi;
 }
 
-/* Adds the sum of alpha^s v[n + 8e + s]: each lane has its own coordinates. */
+/* Adds the sum of alpha^s v[n + re + s], r being the degree: each lane has its own coordinates. */
 static void add_masks(const struct key *key, const struct work *work, union lanes *to)
 {
-    for (size_t s = 0; s < MQ_FIELD_DEGREE; s++) {
+    for (size_t s = 0; s < DEGREE; s++) {
         union lanes alpha, own = { { { 0 } } };
         memset(&alpha, 1 << s, sizeof alpha);
         for (size_t e = 0; e < key->tau; e++)
-            own.byte[e] = work->v[key->n + MQ_FIELD_DEGREE * e + s].byte[e];
+            own.byte[e] = work->v[key->n + DEGREE * e + s].byte[e];
         add_products(to, &alpha, &own);
     }
 }
@@ -294,14 +298,14 @@ static uint8_t *write_hash(const struct key *key, const struct work *work, const
 /* W = v + delta (u + C), with the leaf at delta taken for 0. */
 static void sum_opened(const struct key *key, const struct claim *in, const struct proof *proof, struct work *work)
 {
-    uint8_t planes[8 * MAX_W];
+    uint8_t planes[DEGREE * MAX_W];
     memset(work->v, 0, sizeof work->v);
     for (size_t e = 0; e < key->tau; e++) {
         const uint8_t delta = in->delta.at[e];
-        sum_leaves(in->opened.at + e * (MQ_FIELD_SIZE - 1) * key->w, key->w, delta, work->u[e], planes);
+        sum_leaves(in->opened.at + e * (FIELD_SIZE - 1) * key->w, key->w, delta, work->u[e], planes);
         if (e > 0)
             add(work->u[e], proof->c + (e - 1) * key->w, key->w);
-        for (size_t p = 0; p < 8; p++)
+        for (size_t p = 0; p < DEGREE; p++)
             if (delta >> p & 1)
                 add(planes + p * key->w, work->u[e], key->w);
         put_lane(planes, key->w, work->v, e);

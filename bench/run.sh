@@ -7,8 +7,9 @@
 #   run.sh [--keep] [REPETITIONS]   --keep adds the ratios to bench/history.tsv, where they are kept (those up to
 #                                   981c830 are to an earlier and slower baseline.c)
 #   BEFORE=ARCHIVE run.sh ..        another libsolfadrus.a, of the same interface, is timed beside this one, at the sizes
-#                                   that it serves; with BEFORE_MASKS=shared one from before each repetition had a mask
-#                                   of its own, which is lent leaves of its own length
+#                                   and degrees that it serves; with BEFORE_DEGREE=none one whose calls take no degree;
+#                                   with BEFORE_MASKS=shared one of these from before each repetition had a mask of its
+#                                   own, which is lent leaves of its own length
 #   run.sh --once                   the gate's run: each program is built and makes each call once. The timing program
 #                                   holds the bytes against the library's, and the comparison is left out
 set -eu
@@ -31,18 +32,28 @@ lib=$(library)
 work=target/bench
 mkdir -p "$work"
 
-# A program of this folder, under a prefix of its own; and as a whole libsolfadrus.a, for the comparison.
-build() {
-    compiler=$1
+# compiled COMPILER PROGRAM FOLDER FLAGS...: a program of this folder, compiled for each degree, and what hands on to
+# them.
+compiled() {
+    compile="$1 -std=c11 -O3 -Wall -Wextra -Werror -Iinclude -Ibench"
     program=$2
-    flags="-std=c11 -O3 -Wall -Wextra -Werror -Iinclude -Ibench"
-    $compiler $flags "-DPREFIX=${program}_${compiler}_" -c "bench/$program.c" -o "$work/${program}_$compiler.o"
-    archive=$work/${program}_$compiler
-    mkdir -p "$archive"
-    $compiler $flags -c "bench/$program.c" -o "$archive/$program.o"
-    $compiler $flags -c bench/archive.c -o "$archive/archive.o"
+    to=$3
+    shift 3
+    mkdir -p "$to"
+    for degree in 8 4; do
+        $compile "$@" "-DDEGREE=$degree" -c "bench/$program.c" -o "$to/at_$degree.o"
+    done
+    $compile "$@" -c bench/dispatch.c -o "$to/dispatch.o"
+}
+
+# The same under a prefix of its own; and as a whole libsolfadrus.a, for the comparison.
+build() {
+    compiled "$1" "$2" "$work/$2_$1_named" "-DPREFIX=$2_$1_"
+    archive=$work/$2_$1
+    compiled "$1" "$2" "$archive"
+    $compile -c bench/archive.c -o "$archive/archive.o"
     rm -f "$archive/libsolfadrus.a"
-    ar crs "$archive/libsolfadrus.a" "$archive/$program.o" "$archive/archive.o"
+    ar crs "$archive/libsolfadrus.a" "$archive"/*.o
 }
 
 for compiler in gcc clang; do
@@ -54,11 +65,12 @@ for compiler in gcc clang; do
     done
 done
 
-case ${BEFORE_MASKS-} in
-'') masks= ;;
-shared) masks=-DBEFORE_SHARED ;;
+case ${BEFORE_DEGREE-},${BEFORE_MASKS-} in
+,) interface= ;;
+none,) interface=-DBEFORE_BARE ;;
+none,shared | ,shared) interface='-DBEFORE_BARE -DBEFORE_SHARED' ;;
 *)
-    echo "BEFORE_MASKS is not 'shared'" >&2
+    echo "BEFORE_DEGREE is not 'none', or BEFORE_MASKS is not 'shared'" >&2
     exit 2
     ;;
 esac
@@ -77,10 +89,9 @@ fi
 
 cargo build --quiet --release --offline -j1 --manifest-path bench/rendering/Cargo.toml --target-dir "$work/rendering"
 # shellcheck disable=SC2086 # empty, or words
-gcc -std=c11 -O2 -Wall -Wextra -Werror -Iinclude -Itests ${before:+-DBEFORE $before} $masks bench/bench.c \
-    "$work"/baseline_gcc.o "$work"/baseline_clang.o \
-    "$work"/plain_gcc.o "$work"/plain_clang.o "$lib/libsolfadrus.a" "$work/rendering/release/librendering.a" \
-    -lpthread -ldl -lm -o "$work/bench"
+gcc -std=c11 -O2 -Wall -Wextra -Werror -Iinclude -Itests ${before:+-DBEFORE $before} $interface bench/bench.c \
+    "$work"/*_named/*.o "$lib/libsolfadrus.a" "$work/rendering/release/librendering.a" -lpthread -ldl -lm \
+    -o "$work/bench"
 echo
 gcc --version | head -n 1
 clang --version | head -n 1
@@ -90,8 +101,8 @@ echo
 stamp="$(date -u +%Y-%m-%d)	$(git describe --always --dirty 2>/dev/null || echo unknown)"
 rm -f "$work/ratios.tsv" "$work/verify.svg"
 "$work/bench" "$work/verify.svg" "$work/ratios.tsv" "$stamp" "$@"
-# Three shapes with three calls each.
-if [ "$(wc -l <"$work/ratios.tsv")" != 9 ] || [ ! -s "$work/verify.svg" ]; then
+# Five shapes with three calls each.
+if [ "$(wc -l <"$work/ratios.tsv")" != 15 ] || [ ! -s "$work/verify.svg" ]; then
     echo "ratios or plot are missing" >&2
     exit 1
 fi

@@ -47,9 +47,9 @@
  *     degree 8   K = GF(256), products modulo X^8 + X^4 + X^3 + X + 1, as in FIPS 197
  *     degree 4   K = GF(16), products modulo X^4 + X + 1
  *
- * A tree has as many leaves as K has elements, 2^r: 256 or 16. So the same key serves at both
- * degrees, and nothing else does: leaves, challenges and proof are those of one degree. For the same
- * assurance degree 4 takes more repetitions: SECURITY.md.
+ * A tree has as many leaves as K has elements, 2^r: 256 or 16. A key and its witness serve at both
+ * degrees; leaves, challenges and proof are those of one. For the same assurance degree 4 takes more
+ * repetitions: SECURITY.md.
  *
  * From these  k = n + r tau  (r mask coordinates for each repetition: those of repetition e are
  * n + re .. n + re + r - 1),  L = k + t  (bits of a leaf),  w = ceil(L / 8)  (bytes of a leaf).

@@ -50,7 +50,10 @@ cargo build --quiet --release --offline -j1 --manifest-path tests/shapes/Cargo.t
 cases=$("$work/shapes/release/shapes" | wc -l)
 # Those of degree 8 come first: this is the number of the first case of degree 4.
 four=$("$work/shapes/release/shapes" | grep -c ' 8$')
-[ "$four" -gt 1 ] && [ "$cases" -gt $((four + 1)) ] || { echo "no shapes" >&2 && exit 1; }
+if [ "$four" -lt 2 ] || [ "$cases" -lt $((four + 2)) ]; then
+    echo "no shapes" >&2
+    exit 1
+fi
 # seed NAME HEX...: a file of these bytes.
 seed() {
     name=$1

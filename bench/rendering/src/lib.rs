@@ -11,11 +11,13 @@ use std::slice::{from_raw_parts, from_raw_parts_mut};
 pub unsafe extern "C" fn rendering_test(
     key: *const u8,
     key_len: usize,
+    degree: u32,
     witness: *const u8,
     witness_len: usize,
 ) -> u32 {
     word(reference::test(
         from_raw_parts(key, key_len),
+        degree,
         from_raw_parts(witness, witness_len),
     ))
 }
@@ -26,6 +28,7 @@ pub unsafe extern "C" fn rendering_test(
 pub unsafe extern "C" fn rendering_commit(
     key: *const u8,
     key_len: usize,
+    degree: u32,
     leaves: *const u8,
     leaves_len: usize,
     witness: *const u8,
@@ -35,6 +38,7 @@ pub unsafe extern "C" fn rendering_commit(
 ) -> u32 {
     word(reference::commit(
         from_raw_parts(key, key_len),
+        degree,
         from_raw_parts(leaves, leaves_len),
         from_raw_parts(witness, witness_len),
         from_raw_parts_mut(out, out_len),
@@ -47,6 +51,7 @@ pub unsafe extern "C" fn rendering_commit(
 pub unsafe extern "C" fn rendering_hash(
     key: *const u8,
     key_len: usize,
+    degree: u32,
     leaves: *const u8,
     leaves_len: usize,
     hash_matrix: *const u8,
@@ -56,6 +61,7 @@ pub unsafe extern "C" fn rendering_hash(
 ) -> u32 {
     word(reference::hash(
         from_raw_parts(key, key_len),
+        degree,
         from_raw_parts(leaves, leaves_len),
         from_raw_parts(hash_matrix, hash_matrix_len),
         from_raw_parts_mut(out, out_len),
@@ -68,6 +74,7 @@ pub unsafe extern "C" fn rendering_hash(
 pub unsafe extern "C" fn rendering_batch(
     key: *const u8,
     key_len: usize,
+    degree: u32,
     leaves: *const u8,
     leaves_len: usize,
     witness: *const u8,
@@ -79,6 +86,7 @@ pub unsafe extern "C" fn rendering_batch(
 ) -> u32 {
     word(reference::batch(
         from_raw_parts(key, key_len),
+        degree,
         from_raw_parts(leaves, leaves_len),
         from_raw_parts(witness, witness_len),
         from_raw_parts(batching, batching_len),
@@ -92,6 +100,7 @@ pub unsafe extern "C" fn rendering_batch(
 pub unsafe extern "C" fn rendering_prove(
     key: *const u8,
     key_len: usize,
+    degree: u32,
     leaves: *const u8,
     leaves_len: usize,
     witness: *const u8,
@@ -105,6 +114,7 @@ pub unsafe extern "C" fn rendering_prove(
 ) -> u32 {
     word(reference::prove(
         from_raw_parts(key, key_len),
+        degree,
         from_raw_parts(leaves, leaves_len),
         from_raw_parts(witness, witness_len),
         from_raw_parts(hash_matrix, hash_matrix_len),
@@ -119,6 +129,7 @@ pub unsafe extern "C" fn rendering_prove(
 pub unsafe extern "C" fn rendering_verify(
     key: *const u8,
     key_len: usize,
+    degree: u32,
     delta: *const u8,
     delta_len: usize,
     hash_matrix: *const u8,
@@ -132,6 +143,7 @@ pub unsafe extern "C" fn rendering_verify(
 ) -> u32 {
     word(reference::verify(
         from_raw_parts(key, key_len),
+        degree,
         from_raw_parts(delta, delta_len),
         from_raw_parts(hash_matrix, hash_matrix_len),
         from_raw_parts(batching, batching_len),
