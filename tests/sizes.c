@@ -128,7 +128,8 @@ static void out_of_range(uint32_t degree)
     int which, bad, l;
     for (which = 0; which < 4; which++) {
         const size_t values[] = {
-            which == 1 ? SIZE_MAX - 1 : 0, limits[which] + 1, 512 + 1, 65535, 65536 + 1, SIZE_MAX / 65536 + 2, SIZE_MAX / 2 + 2, SIZE_MAX
+            which == 1 ? SIZE_MAX - 1 : 0, limits[which] + 1, 512 + 1, 65535, 65536 + 1, SIZE_MAX / 65536 + 2,
+            SIZE_MAX / 2 + 2, SIZE_MAX
         };
         for (bad = 0; bad < (int)(sizeof values / sizeof values[0]); bad++) {
             size_t least[4] = { 1, 1, 1, 1 }, most[4];
