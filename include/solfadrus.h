@@ -38,7 +38,7 @@
  * Four sizes, which stand at the head of the key, fix every length:
  *
  *     n     variables      1 .. MQ_MAX_VARIABLES
- *     m     equations      1 .. MQ_MAX_EQUATIONS
+ *     m     equations      0 .. MQ_MAX_EQUATIONS
  *     tau   repetitions    1 .. MQ_MAX_REPETITIONS
  *     t     hash rows      1 .. MQ_MAX_HASH_ROWS
  *
@@ -50,6 +50,10 @@
  * A tree has as many leaves as K has elements, 2^r: 256 or 16. A key and its witness serve at both
  * degrees; leaves, challenges and proof are those of one. For the same assurance degree 4 takes more
  * repetitions: SECURITY.md.
+ *
+ * A key with no equations, m = 0, is for practice: A, b, y and batching are empty, the key has 20 bytes,
+ * any witness fits, QS0 and QS1 are the masks alone, and 11 is never answered. A proof for it shows
+ * nothing: a verifier who takes keys from others looks at m first.
  *
  * From these  k = n + r tau  (r mask coordinates for each repetition: those of repetition e are
  * n + re .. n + re + r - 1),  L = k + t  (bits of a leaf),  w = ceil(L / 8)  (bytes of a leaf).
@@ -69,7 +73,8 @@
  *   witness      x, n bits. SECRET.
  *   leaves       for each repetition e, rising, 2^r leaves of L bits, j rising from 0. SECRET.
  *   hash_matrix  H', t rows of k bits.
- *   batching     chi, for each repetition, rising, m elements of K, one for each equation, rising.
+ *   batching     chi, for each repetition, rising, m elements of K, one for each equation, rising. No bytes
+ *                where m = 0: it is lent with length 0, and any pointer, NULL too.
  *   delta        for each repetition one element of K.
  *   opened       for each repetition e, rising, the 2^r - 1 leaves with j other than delta[e],
  *                rising: leaf j stands at place j below delta[e], and at place j - 1 above it.
@@ -185,7 +190,7 @@ extern "C" {
 #define MQ_VERSION_PATCH 0
 #define MQ_VERSION (MQ_VERSION_MAJOR * 65536 + MQ_VERSION_MINOR * 256 + MQ_VERSION_PATCH)
 
-/* Limits. The least value of each size is 1. */
+/* Limits. The least value of each size is 1, and of m it is 0. */
 #define MQ_MAX_VARIABLES 320
 #define MQ_MAX_EQUATIONS 320
 #define MQ_MAX_REPETITIONS 48
@@ -231,7 +236,8 @@ extern "C" {
  * not the length depends on each.
  *
  * The macros are right for sizes in range and degree 8 or 4, and test nothing. The functions answer
- * 0 where a size is out of range or the degree is another; no length that is in range is 0.
+ * 0 where a size is out of range or the degree is another. In range no length is 0, but that of
+ * batching with no equations: to learn whether sizes are in range, ask mq_key_size, which then is not 0.
  *
  *     macro                   function              bytes
  *     MQ_KEY_SIZE             mq_key_size           a key

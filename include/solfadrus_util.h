@@ -30,7 +30,7 @@ struct mq_sizes {
 
 /*
  * The sizes that stand at the head of a key. Answers 0 where the key is shorter than its header, or a
- * size is out of range. Nothing else of the key is looked at.
+ * size is out of range; m may be 0. Nothing else of the key is looked at.
  */
 static inline int mq_key_sizes(const uint8_t *key, size_t key_len, struct mq_sizes *sizes)
 {
@@ -41,7 +41,7 @@ static inline int mq_key_sizes(const uint8_t *key, size_t key_len, struct mq_siz
     m = key[2] | (size_t)key[3] << 8;
     tau = key[4] | (size_t)key[5] << 8;
     t = key[6] | (size_t)key[7] << 8;
-    if (n < 1 || n > MQ_MAX_VARIABLES || m < 1 || m > MQ_MAX_EQUATIONS || tau < 1
+    if (n < 1 || n > MQ_MAX_VARIABLES || m > MQ_MAX_EQUATIONS || tau < 1
         || tau > MQ_MAX_REPETITIONS || t < 1 || t > MQ_MAX_HASH_ROWS)
         return 0;
     sizes->n = n;
@@ -109,7 +109,7 @@ static inline unsigned mq_util_parity(unsigned byte)
 /*
  * Writes the section y of a key so that the witness solves every equation: y_i = x^T A_i x + b_i x. Header,
  * A and b stand in the key already, and the witness has no spare bit. Counts are neither read nor written. It
- * takes no degree: a key serves at both.
+ * takes no degree: a key serves at both. With no equations there is no y, and it writes nothing.
  *
  * The witness is secret: no branch and no address goes by it, a bit of it selects by a mask. (tests/util.sh
  * tests that of what gcc makes of it.)

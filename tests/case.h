@@ -53,7 +53,7 @@ static uint64_t draw(uint64_t *state)
 
 static struct lent lend(size_t len)
 {
-    struct lent lent = { calloc(len, 1), len };
+    struct lent lent = { calloc(len ? len : 1, 1), len }; /* batching has no bytes where m is 0 */
     if (!lent.at)
         abort();
     return lent;

@@ -54,21 +54,30 @@ if [ "$four" -lt 2 ] || [ "$cases" -lt $((four + 2)) ]; then
     echo "no shapes" >&2
     exit 1
 fi
+# The case of the small sizes with no equations, at each degree.
+none=$("$work/shapes/release/shapes" | grep -n '^9 0 2 5 [84]$' | cut -d: -f1)
+[ "$(echo "$none" | wc -w)" = 2 ] || { echo "no shapes with no equations" >&2 && exit 1; }
 # seed NAME HEX...: a file of these bytes.
 seed() {
-    name=$1
+    seed_file=$seeds/$1
     shift
     for hex; do
         byte "0x$hex"
-    done >"$seeds/$name"
+    done >"$seed_file"
 }
 # Bytes are words.
 # shellcheck disable=SC2086
 grep -v '^#' tests/fuzz/seeds.txt | while read -r name bytes; do
-    seed "$name" $bytes
     case $bytes in
     00*) seed "$name-at-4" "$(printf %02X "$four")" ${bytes#00} ;;
+    m0*)
+        for line in $none; do
+            seed "$name-$line" "$(printf %02X $((line - 1)))" ${bytes#m0}
+        done
+        continue
+        ;;
     esac
+    seed "$name" $bytes
 done
 # One for each case as it is, by its number; and the last of each degree, of long leaves, opened at other challenges.
 case=0

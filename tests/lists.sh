@@ -261,11 +261,11 @@ defined() {
 says() {
     sed 's/^ \* *//; s|^//! *||' "$1" | tr -s '\n' ' ' | grep -qF "$2" || { echo "$1 does not say: $2" >&2 && exit 1; }
 }
-[ "$(defined MQ_MAX_EQUATIONS)" = "$(defined MQ_MAX_VARIABLES)" ]
-says $list "n and m are 1 to $(defined MQ_MAX_VARIABLES), τ is 1 to $(defined MQ_MAX_REPETITIONS)"
+says $list "n is 1 to $(defined MQ_MAX_VARIABLES), m is 0 to $(defined MQ_MAX_EQUATIONS), τ is 1 to \
+$(defined MQ_MAX_REPETITIONS)"
 says $list "t is 1 to $(defined MQ_MAX_HASH_ROWS)"
-says bindings/rust/src/size.rs "(n, m: 1 to $(defined MQ_MAX_VARIABLES); tau: 1 to $(defined MQ_MAX_REPETITIONS); t: 1 to \
-$(defined MQ_MAX_HASH_ROWS))"
+says bindings/rust/src/size.rs "(n: 1 to $(defined MQ_MAX_VARIABLES); m: 0 to $(defined MQ_MAX_EQUATIONS); tau: 1 to \
+$(defined MQ_MAX_REPETITIONS); t: 1 to $(defined MQ_MAX_HASH_ROWS))"
 kib=$(($(defined MQ_STACK_BYTES) / 1024))
 for file in $header $page SECURITY.md bindings/rust/src/lib.rs; do
     [ "$(grep -o '[0-9]* KiB' "$file" | sort -u)" = "$kib KiB" ] ||

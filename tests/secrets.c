@@ -34,10 +34,11 @@ static const struct sizes shapes[] = {
     { 1, 1, 1, 1, 4 },    { 9, 3, 2, 5, 4 },   { 16, 9, 3, 8, 4 },       { 33, 4, 17, 12, 4 },
     { 24, 5, 48, 3, 4 },  { 257, 3, 1, 9, 4 }, { 320, 1, 2, 288, 4 },    { 3, 257, 1, 2, 4 },
     { 1, 320, 2, 288, 4 }, { 150, 150, 43, 144, 4 }, { 320, 320, 48, 288, 4 },
+    { 9, 0, 2, 5, 8 },    { 257, 0, 1, 9, 8 }, { 9, 0, 2, 5, 4 },        { 257, 0, 1, 9, 4 },
 };
 
 /* The shapes of the traces, which are long: small ones, and four at which every kernel has more than one round, the
- * first and the third of them at degree 4 too.
+ * first and the third of them at degree 4 too; and one with no equations at each degree.
  * The first has leaves of a chunk of sixteen bytes and a part of one, a second set of four panels of sixteen columns,
  * rows of more than one word of eight bytes, and equations in more than one word of ten fives. The second has three
  * chunks, a third set, and columns past the first sixteen bytes of a row. The third has matrices in more than one piece
@@ -66,6 +67,8 @@ static const struct sizes traced[] = {
     { 9, 3, 2, 5, 4 },
     { KERNEL_N, KERNEL_M, KERNEL_TAU, KERNEL_T, 4 },
     { PIECES_N, PIECES_M, PIECES_TAU, PIECES_T, 4 },
+    { 9, 0, 2, 5, 8 },
+    { 9, 0, 2, 5, 4 },
 };
 enum { SHAPES = sizeof shapes / sizeof shapes[0], TRACED = sizeof traced / sizeof traced[0], SMALL = 3 };
 
@@ -131,7 +134,7 @@ static void mark(uint8_t *at, size_t count, size_t bits)
 {
     const size_t len = MQ_STRING_SIZE(bits);
     uint8_t last = last_bits(bits);
-    for (size_t i = 0; i < count; i++, at += len) {
+    for (size_t i = 0; len && i < count; i++, at += len) {
         VALGRIND_MAKE_MEM_UNDEFINED(at, len);
         (void)VALGRIND_SET_VBITS(at + len - 1, &last, 1);
     }
@@ -356,11 +359,12 @@ static int mark_and_call(struct sizes s, struct words words, int fails)
     return answer == (fails && !(only && only->make == call_hash) ? refused : 0);
 }
 
+/* With no equations none can fail. */
 static int mark_all_shapes(struct words words)
 {
     int right = 1;
     for (size_t i = 0; i < SHAPES; i++)
-        for (int fails = 0; fails <= words.fails; fails++)
+        for (int fails = 0; fails <= (words.fails && shapes[i].m > 0); fails++)
             right &= mark_and_call(shapes[i], words, fails);
     return !right;
 }

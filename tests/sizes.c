@@ -54,6 +54,8 @@ enum { LENGTHS = sizeof lengths / sizeof lengths[0] };
 /* The toy of the scope paper: its key has 24 bytes and its proof 29. These lines compile only
  * where the macros are constant expressions, for the compiler and for the preprocessor. */
 typedef char toy_key_has_24_bytes[MQ_KEY_SIZE(2, 1, 1, 1, 8) == 24 ? 1 : -1];
+/* With no equations, m = 0, the key has its header and three counts, and batching no bytes. */
+typedef char no_equations_20_bytes[MQ_KEY_SIZE(2, 0, 1, 1, 8) == 20 && MQ_BATCHING_SIZE(2, 0, 1, 1, 8) == 0 ? 1 : -1];
 typedef char toy_proof_has_29_bytes[MQ_PROOF_SIZE(2, 1, 1, 1, 8) == 29 ? 1 : -1];
 /* Each repetition has as many mask coordinates of its own as the degree says. */
 typedef char row_has_704_bits[MQ_HASH_ROW_BITS(320, 320, 48, 288, 8) == 704 ? 1 : -1];
@@ -85,25 +87,39 @@ static void compare(const struct length *l, size_t n, size_t m, size_t tau, size
                l->name, n, m, tau, t, (unsigned long)degree, answered, expected);
 }
 
-/* The next value of a grid that has 1, 2, 3, and each multiple of 8 with its neighbours. */
+static void expect(int yes, const char *what)
+{
+    compared++;
+    if (!yes) {
+        failures++;
+        printf("%s\n", what);
+    }
+}
+
+/* The next value of a grid that has those to 3, and each multiple of 8 with its neighbours. */
 static size_t next(size_t value)
 {
     return value < 3 || value % 8 == 7 || value % 8 == 0 ? value + 1 : value / 8 * 8 + 7;
 }
 
+/* No length is 0 but that of batching with no equations. */
 static void in_range(uint32_t degree)
 {
     size_t n, m, tau, t;
     int l;
     for (n = 1; n <= MQ_MAX_VARIABLES; n = next(n))
-        for (m = 1; m <= MQ_MAX_EQUATIONS; m = next(m))
+        for (m = 0; m <= MQ_MAX_EQUATIONS; m = next(m))
             for (tau = 1; tau <= MQ_MAX_REPETITIONS; tau = next(tau))
                 for (t = 1; t <= MQ_MAX_HASH_ROWS; t = next(t))
-                    for (l = 0; l < LENGTHS; l++)
-                        compare(&lengths[l], n, m, tau, t, degree, lengths[l].macro(n, m, tau, t, degree));
+                    for (l = 0; l < LENGTHS; l++) {
+                        const size_t length = lengths[l].macro(n, m, tau, t, degree);
+                        compare(&lengths[l], n, m, tau, t, degree, length);
+                        if (length == 0)
+                            expect(m == 0 && lengths[l].function == mq_batching_size, "a length in range is 0");
+                    }
 }
 
-/* Values that no size may have: 0, past the limit, and numbers whose low 8, 16 or 32 bits would do. */
+/* Values that no size may have: 0, but for m, past the limit, and numbers whose low 8, 16 or 32 bits would do. */
 static void out_of_range(uint32_t degree)
 {
     static const size_t limits[4] = {
@@ -112,7 +128,8 @@ static void out_of_range(uint32_t degree)
     int which, bad, l;
     for (which = 0; which < 4; which++) {
         const size_t values[] = {
-            0, limits[which] + 1, 512 + 1, 65535, 65536 + 1, SIZE_MAX / 65536 + 2, SIZE_MAX / 2 + 2, SIZE_MAX
+            which == 1 ? SIZE_MAX - 1 : 0, limits[which] + 1, 512 + 1, 65535, 65536 + 1, SIZE_MAX / 65536 + 2,
+            SIZE_MAX / 2 + 2, SIZE_MAX
         };
         for (bad = 0; bad < (int)(sizeof values / sizeof values[0]); bad++) {
             size_t least[4] = { 1, 1, 1, 1 }, most[4];
@@ -142,15 +159,6 @@ static void out_of_degree(void)
             compare(&lengths[l], MQ_MAX_VARIABLES, MQ_MAX_EQUATIONS, MQ_MAX_REPETITIONS, MQ_MAX_HASH_ROWS, unserved[i],
                     0);
         }
-}
-
-static void expect(int yes, const char *what)
-{
-    compared++;
-    if (!yes) {
-        failures++;
-        printf("%s\n", what);
-    }
 }
 
 /* Each call of nothing: lengths 0 are taken with any pointer. It must be refused with this number. */

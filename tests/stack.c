@@ -16,6 +16,8 @@ static const struct sizes shapes[] = {
     { 150, 150, 43, 144, 4 },
     { 1, 1, 1, 1, 8 },
     { 1, 1, 1, 1, 4 },
+    { 1, 0, 1, 1, 8 },
+    { 1, 0, 1, 1, 4 },
 };
 
 static struct made made;
@@ -89,8 +91,8 @@ static int holds(struct sizes sizes, size_t bare)
     for (size_t i = 0; i < sizeof calls / sizeof calls[0]; i++) {
         const size_t depth = depth_of(calls[i].run) - bare;
         const char *fault = word ? ": refused" : depth >= MQ_STACK_BYTES ? ": more than the header says" : "";
-        printf("n = %zu, degree %u, %s: %zu bytes of stack%s\n", sizes.n, (unsigned)sizes.degree, calls[i].name, depth,
-               fault);
+        printf("n = %zu, m = %zu, degree %u, %s: %zu bytes of stack%s\n", sizes.n, sizes.m, (unsigned)sizes.degree,
+               calls[i].name, depth, fault);
         right &= !*fault;
     }
     free(out);

@@ -20,6 +20,7 @@ static const struct sizes shapes[] = {
     { 64, 3, 2, 65, 8 },    { 64, 3, 2, 65, 4 },    { 24, 5, 48, 3, 8 },    { 24, 5, 48, 3, 4 },
     { 150, 150, 19, 144, 8 }, { 150, 150, 43, 144, 4 }, { 160, 160, 48, 160, 8 },
     { 320, 2, 1, 3, 8 },    { 320, 2, 1, 3, 4 },    { 2, 320, 1, 3, 8 },    { 2, 320, 1, 3, 4 },
+    { 9, 0, 3, 8, 8 },      { 9, 0, 3, 8, 4 },      { 8, 0, 1, 1, 8 },      { 8, 0, 1, 1, 4 },
     { 320, 320, 48, 288, 4 }, { 320, 320, 48, 288, 8 },
 };
 enum { SHAPES = sizeof shapes / sizeof shapes[0] };
@@ -89,10 +90,31 @@ static struct made draw_case(uint64_t seed, struct sizes s)
     made.delta.at[0] = (uint8_t)(tree_leaves(s) - 1); /* the edges, where there is a second repetition both */
     if (s.tau > 1)
         made.delta.at[1] = 0;
+    if (s.m == 0) { /* then batching is lent as NULL */
+        free(made.batching.at);
+        made.batching.at = NULL;
+    }
     return made;
 }
 
 /* ---- Sizes and y -------------------------------------------------------------------------- */
+
+/* The header with m = 0 is taken, and then the key has 20 bytes. */
+static void test_no_equations(const struct made *made)
+{
+    const struct sizes s = made->sizes;
+    uint8_t key[MQ_HEADER_SIZE + 3 * MQ_COUNT_SIZE + 1] = { 0 };
+    struct mq_sizes got = { 7, 7, 7, 7 };
+    memcpy(key, made->key.at, MQ_HEADER_SIZE);
+    put(key + 2, 0, 2);
+    check(mq_key_sizes(key, MQ_HEADER_SIZE, &got) && got.n == s.n && got.m == 0, "mq_key_sizes does not take m = 0", s);
+    for (size_t len = MQ_HEADER_SIZE; len <= sizeof key; len++) {
+        const int whole = len + 1 == sizeof key;
+        check(mq_test(key, len, s.degree, made->witness.at, made->witness.len)
+                  == (whole ? MQ_ACCEPTED : MQ_REFUSED_KEY_LENGTH * 65536), "mq_test of a key with no equations", s);
+        check(mq_make_y(key, len, made->witness.at, made->witness.len) == whole, "mq_make_y with no equations", s);
+    }
+}
 
 static void test_sizes(struct made *made)
 {
@@ -103,7 +125,7 @@ static void test_sizes(struct made *made)
         check(!mq_key_sizes(made->key.at, len, &got), "mq_key_sizes takes a key that has no header", s);
     for (size_t i = 0; i < 4; i++) {
         uint8_t header[MQ_HEADER_SIZE];
-        const size_t wrong[3] = { 0, most[i] + 1, 513 };
+        const size_t wrong[3] = { i == 1 ? 65535 : 0, most[i] + 1, 513 }; /* m may be 0 */
         memcpy(header, made->key.at, sizeof header);
         for (size_t k = 0; k < 3; k++) {
             put(header + 2 * i, wrong[k], 2);
@@ -115,6 +137,7 @@ static void test_sizes(struct made *made)
     check(got.n == 7 && got.m == 7 && got.tau == 7 && got.t == 7, "mq_key_sizes writes where it answers 0", s);
     check(mq_key_sizes(made->key.at, MQ_HEADER_SIZE, &got), "mq_key_sizes does not take a header", s);
     check(got.n == s.n && got.m == s.m && got.tau == s.tau && got.t == s.t, "mq_key_sizes", s);
+    test_no_equations(made);
 }
 
 static uint32_t test_witness(const struct made *made)
@@ -351,7 +374,7 @@ static void test_spare(struct made *made)
     };
     for (size_t i = 0; i < sizeof all / sizeof all[0]; i++) {
         const size_t len = MQ_STRING_SIZE(all[i].bits);
-        for (size_t c = all[i].bits; c < 8 * len; c++) {
+        for (size_t c = all[i].bits; all[i].count > 0 && c < 8 * len; c++) {
             const size_t row = all[i].count - 1;
             all[i].rows[row * len + len - 1] |= (uint8_t)(1 << c % 8);
             check(mq_prove(LENT_KEY, LENT(leaves), LENT(witness), LENT(hash_matrix), LENT(batching), LENT(proof))
@@ -423,7 +446,7 @@ static int run_marked(void)
         right &= mq_open_leaves(made.key.at, made.key.len, s.degree, made.delta.at, made.delta.len, made.leaves.at,
                                 made.leaves.len, made.opened.at, made.opened.len);
         VALGRIND_DISABLE_ERROR_REPORTING;
-        right &= marked(made.key.at + AT(Y), MQ_STRING_SIZE(s.m));
+        right &= s.m == 0 || marked(made.key.at + AT(Y), MQ_STRING_SIZE(s.m));
         right &= marked(made.opened.at, made.opened.len);
         VALGRIND_ENABLE_ERROR_REPORTING;
         drop_case(&made);

@@ -45,6 +45,7 @@ fault() {
 }
 fault "a size that is out of range" 's/t > MQ_MAX_HASH_ROWS/t > MQ_MAX_HASH_ROWS + 1/'
 fault "no variable" 's/n < 1 || //'
+fault "no equation, which is taken" 's/m > MQ_MAX_EQUATIONS/m < 1 || &/'
 fault "a header that is not there whole" 's/key_len < MQ_HEADER_SIZE/key_len < MQ_HEADER_SIZE - 1/'
 fault "the high byte of a size" 's/key\[0\] | (size_t)key\[1\] << 8/key[0]/'
 for name in A B Y C D U V QS0 QS1; do

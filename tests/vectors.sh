@@ -64,7 +64,8 @@ if "$work/check" "$work"/anew/*.rsp >"$work/log"; then
     echo "a file without a case is taken" >&2
     exit 1
 fi
-if "$work/check" vectors/answers.rsp >"$work/log" || ! grep -q 'no case in which mq_commit answers 0 at degree 4' "$work/log"; then
+if "$work/check" vectors/proofs.rsp vectors/digests.rsp >"$work/log" ||
+    ! grep -q 'no case in which mq_commit answers 9 at degree 4' "$work/log"; then
     echo "that an answer of a call never comes is not reported" >&2
     exit 1
 fi

@@ -3,7 +3,8 @@
 //!
 //! SAFETY, of each call below: every pointer comes from a slice, and is valid for its length, an input for reading and
 //! `out` for writing; `out` is borrowed alone, so it overlaps no input, and nobody else touches any of them until the
-//! call returns. An empty slice is lent with a pointer that points nowhere, which length 0 allows.
+//! call returns. An empty slice, as `batching` is with no equations, is lent with a pointer that points nowhere, which
+//! length 0 allows.
 
 use crate::degree::Degree;
 use crate::ffi;

@@ -2,8 +2,8 @@
 //! degree.
 //!
 //! Each takes n variables, m equations, tau repetitions, t hash rows and the degree, whether or not the length depends
-//! on each, and answers 0 where a size is out of range (n, m: 1 to 320; tau: 1 to 48; t: 1 to 288). No
-//! length that is in range is 0.
+//! on each, and answers 0 where a size is out of range (n: 1 to 320; m: 0 to 320; tau: 1 to 48; t: 1 to 288). In range
+//! no length is 0, but that of [`batching`] with no equations, m = 0: whether sizes are in range is told by [`key`].
 
 use crate::degree::Degree;
 use crate::ffi;
@@ -30,7 +30,7 @@ lengths! {
     opened = mq_opened_size;
     /// The challenge `hash_matrix`.
     hash_matrix = mq_hash_matrix_size;
-    /// The challenge `batching`.
+    /// The challenge `batching`: none with no equations, where an empty slice is lent.
     batching = mq_batching_size;
     /// The challenge `delta`.
     delta = mq_delta_size;

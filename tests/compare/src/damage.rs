@@ -70,6 +70,7 @@ const DEGREES: [u32; 8] = [8, 4, 0, 1, 5, 12, 260, u32::MAX];
 
 /// The limits of n, m, τ, t, in the header's order.
 const LIMITS: [usize; 4] = shapes::LIMITS;
+const LEAST: [usize; 4] = shapes::LEAST;
 
 impl Damage {
     /// The input that it damages; none for the output, the key for the degree beside it.
@@ -103,7 +104,11 @@ impl Damage {
     pub fn apply(self, inputs: &mut Inputs, random: &mut Random) -> bool {
         let shape = inputs.shape;
         match self {
-            Damage::Empty(name) => inputs.get_mut(name).clear(),
+            Damage::Empty(name) => {
+                let some = !inputs.get(name).is_empty();
+                inputs.get_mut(name).clear();
+                return some;
+            }
             Damage::OneByteLess(name) => return inputs.get_mut(name).pop().is_some(),
             Damage::OneByteMore(name) => inputs.get_mut(name).push(random.number() as u8 & 1),
             Damage::OneRowLess(name) => return shorten(inputs.get_mut(name), row_of(name, &shape)),
@@ -114,10 +119,12 @@ impl Damage {
             Damage::Double(name) => {
                 let again = inputs.get(name).to_vec();
                 inputs.get_mut(name).extend_from_slice(&again);
+                return !again.is_empty();
             }
             Damage::Cut(name) => {
-                let len = random.below(inputs.get(name).len().max(1));
-                inputs.get_mut(name).truncate(len);
+                let whole = inputs.get(name).len();
+                inputs.get_mut(name).truncate(random.below(whole.max(1)));
+                return whole > 0;
             }
             Damage::CutAtCount(name, section) => {
                 let len = section_start(name, &shape, section) + random.below(5);
@@ -265,7 +272,7 @@ fn set_size(key: &mut [u8], which: usize, size: Size, random: &mut Random) -> bo
         Size::PastLimit => limit + 1,
         Size::Largest => 65_535,
         Size::HighByte => old ^ (256 << random.below(8)),
-        Size::OtherInRange => 1 + random.below(limit),
+        Size::OtherInRange => LEAST[which] + random.below(limit + 1 - LEAST[which]),
     };
     key[at] = new as u8;
     key[at + 1] = (new >> 8) as u8;
@@ -356,7 +363,7 @@ fn fill(inputs: &mut Inputs, name: Name, index: usize, ones: bool) -> bool {
     let section = sections(name, &inputs.shape)[index];
     let rows = section_start(name, &inputs.shape, index) + section.count_length();
     let end = rows + section.rows * section.row_length();
-    if section.rows == 0 || inputs.get(name).len() < end {
+    if end == rows || inputs.get(name).len() < end {
         return false;
     }
     for row in inputs.get_mut(name)[rows..end].chunks_mut(section.row_length()) {

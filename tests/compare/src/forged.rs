@@ -51,24 +51,38 @@ const FORGERIES: [Forgery; 15] = [
     Forgery::AllRandom,
 ];
 
+impl Forgery {
+    /// Whether it changes an equation.
+    fn of_y(self) -> bool {
+        use Forgery::{YAndBothQs, YAndQs0, YAndQs1, YHidden, Y};
+        [Y, YAndQs0, YAndQs1, YAndBothQs, YHidden].contains(&self)
+    }
+}
+
 impl Run<'_> {
-    /// Every forgery of every repetition. The factors 0, 1, 2 and the field's size must all come up.
+    /// Every forgery of every repetition. The factors 0, 1, 2 and the field's size must all come up; with no equations
+    /// nothing is quadratic, and 2 must not.
     pub fn forged(&mut self, sizes: Sizes) -> Result<(), String> {
         let mut honest = self.inputs(sizes);
         add_proof(&mut honest)?;
         let mut met = Vec::new();
-        for forgery in FORGERIES {
+        let none = honest.shape.m == 0;
+        for forgery in FORGERIES
+            .into_iter()
+            .filter(|forgery| !none || !forgery.of_y())
+        {
             for e in 0..honest.shape.tau {
                 let mut inputs = honest.clone();
                 self.forge(&mut inputs, forgery, e);
                 let factor = self.count(&mut inputs, e)?;
                 met.push(factor);
-                if !explained(forgery, factor, honest.shape.field.size) {
+                let size = honest.shape.field.size;
+                if !explained(forgery, factor, size) || none && factor == 2 {
                     return Err(format!("{forgery:?} in repetition {e} has factor {factor}"));
                 }
             }
         }
-        let all = [0, 1, 2, honest.shape.field.size];
+        let all = [0, 1, if none { 1 } else { 2 }, honest.shape.field.size];
         match all.iter().find(|factor| !met.contains(factor)) {
             None => Ok(()),
             Some(factor) => Err(format!("no forgery with the factor {factor}")),

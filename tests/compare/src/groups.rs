@@ -35,6 +35,8 @@ pub enum Group {
     Repetitions(Sizes),
     /// Equations that fail: each of them the first, alone and with others after it.
     Equations(Sizes),
+    /// A key with no equations, its answers as the card has them: see `no_equations`.
+    NoEquations(Sizes),
     /// Degrees that are not served, and bytes that are no elements: see `shapes::edits`.
     Edits(Sizes),
     /// A shape and damages at random.
@@ -44,28 +46,38 @@ pub enum Group {
 /// Those of `shapes::small`.
 const SMALL: Four = (9, 3, 2, 5);
 
+/// The same with no equations.
+const NO_EQUATIONS: Four = (9, 0, 2, 5);
+
 /// Small, and with spare bits in every section.
-const PAIRED: [Four; 2] = [SMALL, (3, 9, 1, 2)];
+const PAIRED: [Four; 3] = [SMALL, (3, 9, 1, 2), NO_EQUATIONS];
 
 /// With leaves of less and of more than 16 bytes, and repetitions to 1, 16, 17 and 48.
-const CHALLENGED: [Four; 5] = [
+const CHALLENGED: [Four; 6] = [
     SMALL,
+    NO_EQUATIONS,
     (1, 2, 1, 1),
     (65, 4, 16, 63),
     (12, 5, 17, 20),
     (7, 3, 48, 9),
 ];
 
-const FORGED: [Four; 3] = [SMALL, (3, 2, 3, 2), (66, 1, 1, 60)];
+const FORGED: [Four; 4] = [SMALL, (3, 2, 3, 2), (66, 1, 1, 60), NO_EQUATIONS];
 
 /// Two, three, a register of sixteen and one more, and the most.
-const REPEATED: [Four; 4] = [SMALL, (5, 2, 3, 4), (3, 2, 17, 2), (1, 1, 48, 1)];
+const REPEATED: [Four; 5] = [
+    SMALL,
+    (5, 2, 3, 4),
+    (3, 2, 17, 2),
+    (1, 1, 48, 1),
+    NO_EQUATIONS,
+];
 
 /// With several bytes of y, and the most.
 const FAILING: [Four; 2] = [(9, 21, 2, 5), (3, 320, 1, 2)];
 
 /// One repetition, two, and more than a register of sixteen.
-const EDITED: [Four; 3] = [SMALL, (3, 2, 1, 1), (5, 4, 17, 3)];
+const EDITED: [Four; 4] = [SMALL, (3, 2, 1, 1), (5, 4, 17, 3), NO_EQUATIONS];
 
 /// Beside those of the thresholds: the set of 150 variables of 003, and the limits of 01 together.
 const LARGE: [Four; 3] = [(160, 160, 1, 160), (150, 150, 19, 144), (160, 160, 48, 160)];
@@ -114,6 +126,8 @@ fn at(degree: u32) -> Vec<Group> {
     groups.extend(REPEATED.map(at).map(Group::Repetitions));
     groups.extend(FAILING.map(at).map(Group::Equations));
     groups.extend(EDITED.map(at).map(Group::Edits));
+    let none = shapes::no_equations(degree);
+    groups.extend(none.map(Group::NoEquations));
     groups.extend(shapes::single(degree).into_iter().map(Group::Shape));
     groups.extend(shapes::joint(degree).into_iter().map(Group::Kernels));
     groups.extend(FAR.map(at).map(Group::Kernels));
@@ -197,6 +211,7 @@ impl Run<'_> {
             Group::Forged(sizes) => self.forged(sizes),
             Group::Repetitions(sizes) => self.repetitions(sizes),
             Group::Equations(sizes) => self.equations(sizes),
+            Group::NoEquations(sizes) => self.no_equations(sizes),
             Group::Edits(sizes) => self.edits(sizes),
             Group::Random => self.random_damages(),
         }
@@ -222,7 +237,7 @@ impl Run<'_> {
 
     /// Every call on honest inputs; the steps' bytes are those of the whole. The rendering's proof is added to
     /// the inputs.
-    fn honest(&mut self, inputs: &mut Inputs) -> Result<(), String> {
+    pub fn honest(&mut self, inputs: &mut Inputs) -> Result<(), String> {
         add_proof(inputs)?;
         let dear = dear(&inputs.shape);
         let known = |call: &Call| Expected {
@@ -537,14 +552,14 @@ impl Run<'_> {
                     small[which]
                 };
                 let limit = if large == 4 { limits[which] / 3 } else { limit };
-                self.random_size(limit)
+                self.random_size(limit).max(shapes::LEAST[which])
             })
             .collect();
         let degree = DEGREES[self.random.below(2)];
         (sizes[0], sizes[1], sizes[2], sizes[3], degree)
     }
 
-    /// Half of the time a multiple of 8 or beside one.
+    /// Half of the time a multiple of 8 or beside one; 0 among them.
     fn random_size(&mut self, limit: usize) -> usize {
         let beside = 8 * self.random.below(limit / 8 + 1) + self.random.below(3);
         let anywhere = 1 + self.random.below(limit);
@@ -553,7 +568,7 @@ impl Run<'_> {
         } else {
             beside.saturating_sub(1)
         };
-        size.clamp(1, limit)
+        size.min(limit)
     }
 
     /// A size out of range is refused 2 by every call, whatever else is right; at the limit it is taken.

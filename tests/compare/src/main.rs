@@ -12,6 +12,7 @@ mod groups;
 mod inputs;
 mod judge;
 mod memory;
+mod no_equations;
 mod repetitions;
 mod selftest;
 mod sizes;
@@ -119,7 +120,12 @@ fn one_group(judge: &mut Judge, seed: u64, number: usize) -> Result<(), String> 
 
 fn lengths() -> Result<(), String> {
     for degree in DEGREES {
-        for (n, m, tau, t) in [(1, 1, 1, 1), (9, 3, 2, 5), (320, 320, 48, 288)] {
+        for (n, m, tau, t) in [
+            (1, 1, 1, 1),
+            (9, 3, 2, 5),
+            (9, 0, 2, 5),
+            (320, 320, 48, 288),
+        ] {
             if !sizes::own_lengths_agree(&Shape::new(n, m, tau, t, degree)) {
                 return Err("the lengths of this program are not the rendering's".to_string());
             }

@@ -47,6 +47,19 @@ fn situations(random: &mut Random, degree: u32) -> Result<Vec<Situation>, String
         let what = format!("{} accepted", call.name);
         situations.push((what, call, honest.clone(), vec![]));
     }
+    // With no equations, accepted too, and 5 for a batching byte.
+    let [shape, ..] = shapes::no_equations(degree);
+    let mut none = Inputs::honest(random.number(), shape);
+    add_proof(&mut none)?;
+    for call in CALLS {
+        let what = format!("{} accepted, with no equations", call.name);
+        situations.push((what, call, none.clone(), vec![]));
+    }
+    for call in [&BATCH, &PROVE, &VERIFY] {
+        let mut inputs = none.clone();
+        inputs.get_mut(Name::Batching).push(0);
+        situations.push((format!("{} refused 5", call.name), call, inputs, vec![]));
+    }
     for call in [&COMMIT, &HASH, &BATCH, &PROVE] {
         let mut inputs = honest.clone();
         inputs.output = Output::More(1);
@@ -106,7 +119,9 @@ fn tampers(call: &Call, inputs: &Inputs) -> Vec<Tamper> {
         Tamper::GuardBefore,
         Tamper::GuardAfter,
     ];
-    tampers.extend((0..call.takes.len()).map(Tamper::Input));
+    let some = |index: &usize| !inputs.get(call.takes[*index]).is_empty();
+    let lent = (0..call.takes.len()).filter(some);
+    tampers.extend(lent.map(Tamper::Input));
     if call.writes.length(&inputs.shape) > 0 {
         let last = call.writes.length(&inputs.shape) - 1;
         tampers.extend((0..=last).map(Tamper::Output));

@@ -56,7 +56,7 @@ pub fn compare(random: &mut Random, off: usize) -> Result<u64, String> {
     for which in 0..4 {
         for other in 0..4 {
             for size in 0..=limits[which] + 1 {
-                for rest in [1, 8, limits[other], limits[other] + 1] {
+                for rest in [0, 1, 8, limits[other], limits[other] + 1] {
                     let mut sizes = limits.map(|limit| 1 + random.below(limit));
                     sizes[other] = rest;
                     sizes[which] = size;
@@ -69,8 +69,9 @@ pub fn compare(random: &mut Random, off: usize) -> Result<u64, String> {
     }
     for _ in 0..20_000 {
         let mut sizes = [0; 4];
-        for (size, limit) in sizes.iter_mut().zip(limits) {
-            *size = 1 + random.below(limit);
+        for (which, size) in sizes.iter_mut().enumerate() {
+            let least = shapes::LEAST[which];
+            *size = least + random.below(limits[which] + 1 - least);
         }
         // Sometimes one size out of range, also such that its low bits would do.
         if random.below(4) == 0 {

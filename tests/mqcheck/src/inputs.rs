@@ -184,11 +184,11 @@ pub fn counts() -> Vec<Input> {
     inputs
 }
 
-/// 01 and request 1: n = 320 taken, 321 refused 2; 0 refused 2. m likewise. τ = 48 taken, 49 refused 2. t = 288 taken,
-/// 289 refused 2.
+/// 01 and request 1: n = 320 taken, 321 refused 2; 0 refused 2. m likewise, but 0 is taken (request 12). τ = 48 taken, 49
+/// refused 2. t = 288 taken, 289 refused 2.
 pub fn headers() -> Vec<Input> {
     let mut inputs = Vec::new();
-    for (field, most) in [(0, 320), (1, 320), (2, 48), (3, 288)] {
+    for (field, least, most) in [(0, 1, 320), (1, 0, 320), (2, 1, 48), (3, 1, 288)] {
         for number in [
             0,
             1,
@@ -207,7 +207,7 @@ pub fn headers() -> Vec<Input> {
             key[2 * field] = (number % 256) as u8;
             key[2 * field + 1] = (number / 256) as u8;
             // A header alone is refused 3 where its numbers are taken.
-            let line = if (1..=most).contains(&number) {
+            let line = if (least..=most).contains(&number) {
                 "refused 3 0"
             } else {
                 "refused 2 0"
@@ -265,6 +265,9 @@ pub fn limits() -> Vec<Input> {
         (9, 3, 48, 16, "unread 0 0"),
         (1, 1, 1, 288, "accepted 0 0"),
         (256, 1, 1, 288, "accepted 0 0"),
+        (1, 0, 1, 1, "accepted 0 0"),
+        (9, 0, 14, 5, "accepted 0 0"),
+        (320, 0, 1, 288, "accepted 0 0"),
     ]
     .iter()
     .map(|&(n, m, tau, t, line)| {
@@ -275,6 +278,26 @@ pub fn limits() -> Vec<Input> {
             bytes,
             Some(line),
         )
+    })
+    .collect()
+}
+
+/// A key with no equations: the section of χ is empty, and any other length is refused 5; the key has 20 bytes.
+pub fn no_equations() -> Vec<Input> {
+    let sections = honest(&case(3, 9, 0, 2, 5, DEGREE));
+    [
+        (3, vec![], "accepted 0 0"),
+        (3, vec![0], "refused 5 0"),
+        (3, vec![0, 0], "refused 5 0"),
+        (0, sections[0][..19].to_vec(), "refused 3 0"),
+        (0, [&sections[0][..], &[0]].concat(), "refused 3 0"),
+    ]
+    .into_iter()
+    .map(|(i, other, line)| {
+        let name = format!("no equations, section {i} of {} bytes", other.len());
+        let mut sections = sections.clone();
+        sections[i] = other;
+        input(name, framed(&sections), Some(line))
     })
     .collect()
 }
@@ -379,7 +402,7 @@ pub fn random() -> Vec<Input> {
     let mut random = Random::new(3);
     let mut inputs = Vec::new();
     for seed in 0..60 {
-        let (n, m) = (1 + random.below(20), 1 + random.below(12));
+        let (n, m) = (1 + random.below(20), random.below(13));
         let (tau, t) = (1 + random.below(5), 1 + random.below(20));
         let case = case(100 + seed, n, m, tau, t, DEGREE);
         let sections = honest(&case);
@@ -391,8 +414,9 @@ pub fn random() -> Vec<Input> {
         for change in 0..12 {
             let mut other = sections.clone();
             let i = random.below(6);
-            let at = random.below(other[i].len());
+            let at = random.below(other[i].len().max(1));
             match change % 4 {
+                _ if other[i].is_empty() => other[i].push(random.below(256) as u8),
                 0 | 1 => other[i][at] ^= 1 << random.below(8),
                 2 => drop(other[i].remove(at)),
                 _ => other[i].insert(at, random.below(256) as u8),

@@ -37,6 +37,7 @@ fn all() -> Vec<Input> {
     inputs.extend(inputs::counts());
     inputs.extend(inputs::headers());
     inputs.extend(inputs::limits());
+    inputs.extend(inputs::no_equations());
     inputs.extend(inputs::totals());
     inputs.extend(vectors::all());
     inputs.extend(inputs::random());

@@ -27,8 +27,8 @@ const LONGEST_KEY_AT_4: Sizes = (320, 320, 1, 288, 4);
 /// Both, and each request is made for one of them.
 const DEGREES: [u32; 2] = [8, 4];
 
-/// n, m, τ, t of the small requests; one far from the other too.
-const SHAPES: [(usize, usize, usize, usize); 10] = [
+/// n, m, τ, t of the small requests; one far from the other too, and with no equations.
+const SHAPES: [(usize, usize, usize, usize); 12] = [
     (1, 1, 1, 1),
     (2, 1, 1, 1),
     (9, 3, 2, 5),
@@ -39,6 +39,8 @@ const SHAPES: [(usize, usize, usize, usize); 10] = [
     (3, 17, 17, 1),
     (320, 1, 1, 161),
     (1, 320, 1, 288),
+    (9, 0, 2, 5),
+    (1, 0, 1, 1),
 ];
 
 pub fn pool(random: &mut Random) -> Vec<Request> {
@@ -63,6 +65,7 @@ pub fn pool(random: &mut Random) -> Vec<Request> {
             }
         }
         for degree in DEGREES {
+            pool.extend(no_equations(random, call, degree));
             pool.extend(one_of_each(random, call, degree));
         }
         for _ in 0..20 {
@@ -215,6 +218,27 @@ fn one_of_each(random: &mut Random, call: usize, degree: u32) -> Vec<Request> {
             change(&mut changed);
             let made = request(format!("made for {number}"), call, &changed);
             assert_eq!(made.word >> 16, number, "{}", made.what);
+            requests.push(made);
+        }
+    }
+    requests
+}
+
+/// With no equations any witness fits, and χ has no bytes: one is too many. The key has 20.
+fn no_equations(random: &mut Random, call: usize, degree: u32) -> Vec<Request> {
+    let inputs = honest(random, (9, 0, 2, 5, degree), &CALLS[call]);
+    let mut requests = Vec::new();
+    for (number, name) in [(0, WITNESS), (5, CHI), (3, KEY), (2, KEY)] {
+        let mut changed = inputs.clone();
+        match number {
+            0 => changed.strings[name][0] ^= 0xFF,
+            2 => changed.strings[name][0] = 0, // n
+            _ => changed.strings[name].push(0),
+        }
+        if CALLS[call].takes.contains(&name) {
+            let what = format!("no equations, made for {number}");
+            let made = request(what, call, &changed);
+            assert_eq!(made.word, number << 16, "{}", made.what);
             requests.push(made);
         }
     }

@@ -2,7 +2,10 @@
 //! the questions are put.
 
 use crate::calls::{Call, CALLS};
-use crate::damages::{change_all_y, change_proof, change_y, spare_in_last, Damage, DAMAGES};
+use crate::damages::{
+    add_to_key_count, change_all_y, change_proof, change_y, set_size, spare_in_last, Damage,
+    DAMAGES,
+};
 use crate::lent::{honest, toy, toy_at_degree_4, Lent};
 use crate::rsp::File;
 
@@ -25,6 +28,7 @@ pub fn file() -> String {
         notes(&mut file, &base);
         first_equations(&mut file, degree);
         last_places(&mut file, degree);
+        no_equations(&mut file, degree);
     }
     toy_answers(&mut file);
     toy_answers_at_degree_4(&mut file);
@@ -143,6 +147,67 @@ fn last_places(file: &mut File, degree: u32) {
         let what = format!("{name} of repetition {last} of {tau} is changed");
         let word = number * 65_536 + last as u32;
         add(file, Call::Verify, &lent, &what, word);
+    }
+}
+
+/// A key with no equations: any witness fits, batching has no bytes, and nothing sees a changed d.
+fn no_equations(file: &mut File, degree: u32) {
+    let mut honest = honest(12, [3, 0, 2, 2], degree);
+    honest.open_at(&[0x05, 0x0C]);
+    let cases: [(u32, &str, &str, fn(&mut Lent)); 17] = [
+        (0, "key", "", |_| {}),
+        (0, "witness", ", another witness", |l| l.witness[0] ^= 7),
+        (9, "witness", ", a spare bit in the witness", |l| {
+            spare_in_last(&mut l.witness)
+        }),
+        (2, "key", ", n is 0", |l| set_size(l, 0, 0)),
+        (2, "key", ", tau is 0", |l| set_size(l, 2, 0)),
+        (2, "key", ", t is 0", |l| set_size(l, 3, 0)),
+        (3, "key", ", the key has 21 bytes", |l| l.key.push(0)),
+        (3, "key", ", the key has 19 bytes", |l| l.key.truncate(19)),
+        (3, "key", ", the count of y is 1", |l| {
+            add_to_key_count(l, 2, 1)
+        }),
+        (3, "key", ", m is 1 in the header alone", |l| {
+            set_size(l, 1, 1)
+        }),
+        (5, "batching", ", one byte of batching", |l| {
+            l.batching.push(0)
+        }),
+        (
+            5,
+            "batching",
+            ", a byte of batching for each repetition",
+            |l| l.batching = vec![1, 1],
+        ),
+        (7, "leaves", ", leaves with one byte less", |l| {
+            l.leaves.truncate(l.leaves.len() - 1)
+        }),
+        (0, "proof", ", d is changed", |l| change_proof(l, 1, 0)),
+        (14, "proof", ", V~ of repetition 0 is changed", |l| {
+            change_proof(l, 3, 0)
+        }),
+        (15, "proof", ", QS0 of repetition 0 is changed", |l| {
+            change_proof(l, 4, 0)
+        }),
+        (15, "proof", ", QS1 of repetition 0 is changed", |l| {
+            change_proof(l, 5, 0)
+        }),
+    ];
+    for call in CALLS {
+        for (number, input, what, make) in cases {
+            if call.inputs(&honest).iter().any(|(name, _)| *name == input) {
+                let mut lent = honest.clone();
+                make(&mut lent);
+                add(
+                    file,
+                    call,
+                    &lent,
+                    &format!("no equations{what}"),
+                    number * 65_536,
+                );
+            }
+        }
     }
 }
 

@@ -41,7 +41,7 @@ const fn placed(
     }
 }
 
-fn set_size(lent: &mut Lent, which: usize, size: u16) {
+pub fn set_size(lent: &mut Lent, which: usize, size: u16) {
     lent.key[2 * which..2 * which + 2].copy_from_slice(&size.to_le_bytes());
 }
 
@@ -55,7 +55,7 @@ fn largest_count(bytes: &mut [u8], at: usize) {
     bytes[at..at + 4].fill(0xFF);
 }
 
-fn add_to_key_count(lent: &mut Lent, section: usize, more: u32) {
+pub fn add_to_key_count(lent: &mut Lent, section: usize, more: u32) {
     let at = lent.key_section(section);
     add_to_count(&mut lent.key, at, more);
 }
@@ -127,12 +127,12 @@ pub const DAMAGES: &[Damage] = &[
 
     damage(2, "key", "n is 0", |l| set_size(l, 0, 0)),
     damage(2, "key", "n is 321", |l| set_size(l, 0, 321)),
-    damage(2, "key", "m is 0", |l| set_size(l, 1, 0)),
     damage(2, "key", "m is 321", |l| set_size(l, 1, 321)),
     damage(2, "key", "tau is 0", |l| set_size(l, 2, 0)),
     damage(2, "key", "tau is 49", |l| set_size(l, 2, 49)),
     damage(2, "key", "t is 0", |l| set_size(l, 3, 0)),
     damage(2, "key", "t is 289", |l| set_size(l, 3, 289)),
+    damage(2, "key", "n and m are 0", |l| { set_size(l, 0, 0); set_size(l, 1, 0) }),
     damage(2, "key", "n is 515, whose low byte is in range", |l| set_size(l, 0, 515)),
     damage(2, "key", "n is 321 and the key has 8 bytes", |l| { set_size(l, 0, 321); l.key.truncate(8) }),
 
@@ -140,12 +140,14 @@ pub const DAMAGES: &[Damage] = &[
     damage(3, "key", "the key has one byte less", |l| { l.key.pop(); }),
     damage(3, "key", "n is 320 and the key has 8 bytes", |l| { set_size(l, 0, 320); l.key.truncate(8) }),
     damage(3, "key", "m is 320 and the key has 8 bytes", |l| { set_size(l, 1, 320); l.key.truncate(8) }),
+    damage(3, "key", "m is 0 and the key has 8 bytes", |l| { set_size(l, 1, 0); l.key.truncate(8) }),
     damage(3, "key", "t is 288 and the key has 8 bytes", |l| { set_size(l, 3, 288); l.key.truncate(8) }),
     damage(3, "key", "the count of A is one more", |l| add_to_key_count(l, 0, 1)),
     damage(3, "key", "the count of A is FFFFFFFF", |l| { let at = l.key_section(0); largest_count(&mut l.key, at) }),
     damage(3, "key", "the count of b is one less", |l| add_to_key_count(l, 1, u32::MAX)),
     damage(3, "key", "the count of y is one more", |l| add_to_key_count(l, 2, 1)),
     damage(3, "key", "n is 9, and the sections are those of n = 3", |l| set_size(l, 0, 9)),
+    damage(3, "key", "m is 0, and the sections are those of m = 3", |l| set_size(l, 1, 0)),
 
     damage(4, "key", "a spare bit in the last row of A", |l| spare_in_key(l, 0)),
     damage(4, "key", "a spare bit in the first row of A", |l| { let at = l.key_section(0) + 4; l.key[at] |= 0x80 }),

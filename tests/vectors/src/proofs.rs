@@ -30,6 +30,8 @@ fn shapes(degree: u32) -> Vec<[usize; 4]> {
         [3, 2, 1, 288],
     ]);
     shapes.push([70, 17, 3, 65]);
+    // No equations.
+    shapes.extend([[1, 0, 1, 1], [9, 0, 2, 5], [320, 0, 1, 3]]);
     shapes
 }
 
