@@ -1,25 +1,26 @@
 -- Demand 1 and demand 2 of the exports.
 -- Assumes nothing.
 use mathlib.Core.Path.{_≡_, refl, sym, ap, ap₂, _∙_, subst}
-use mathlib.Core.Bool.{true}
+use mathlib.Core.Bool.{true, false}
 use mathlib.Core.List.{List, [], _∷_, _++_}
-use Prim.Native.Nat.{ℕ}
-use lib.ListN.{length}
+use Prim.Native.Nat.{ℕ, _*_}
+use native.Mathlib.Omega.{arith}
+use lib.ListN.{length, drop}
 use Rattle.field.specs.Degrees.{fieldOf}
 use Rattle.protocol.specs.Alphabet.{Alphabet, elementsIn, Lawful}
-use Rattle.protocol.specs.Setting.{Setting, alphabetOf}
+use Rattle.protocol.specs.Setting.{Setting, served, q16, alphabetOf}
 use Rattle.protocol.specs.Shape.{Shape, shapeOf, limits, perTree}
 use Rattle.protocol.specs.Frames.{framed}
 use Rattle.protocol.specs.Sections.{Sections, bytesOf, lengths, sectionsIn}
 use Rattle.protocol.specs.Prover.{sectionsOf, proofOf}
 use Rattle.protocol.specs.Answers.{Answer, Question, ask, word, Published}
 use Rattle.protocol.specs.Questions.{hExact, χExact, solves}
-use Rattle.protocol.specs.Calls.{hashQuestions, commitPuts, batchPuts, provePuts, testAnswer, commitAnswer, hashAnswer, batchAnswer, proveAnswer, verifyAnswer, honestQuestions, honestForm}
+use Rattle.protocol.specs.Calls.{hashQuestions, testPuts, commitPuts, batchPuts, provePuts, verifyPuts, testAnswer, commitAnswer, hashAnswer, batchAnswer, proveAnswer, verifyAnswer, honestQuestions, honestForm}
 use Rattle.protocol.specs.Counting.{opening}
 use Rattle.protocol.specs.Statements.{SomeFails, RefusedIff}
 use Rattle.protocol.proofs.TestLaws.{all-true, true-all}
 use Rattle.protocol.proofs.Published.{all-published, refuses-exactly-when}
-use Rattle.protocol.proofs.AnswerLaws.{ask-accepts, Yes, all-yes, yes-all}
+use Rattle.protocol.proofs.AnswerLaws.{ask-no, ask-accepts, Yes, all-yes, yes-all}
 use Rattle.protocol.proofs.BinaryLaws.{binary-lawful}
 use Rattle.protocol.proofs.LimitLaws.{bounds-of}
 use Rattle.protocol.proofs.HonestLaws.{exact, sections-back}
@@ -27,7 +28,7 @@ use Rattle.protocol.proofs.Theorems.{steps-are-whole, first-named}
 use Rattle.protocol.proofs.Demands.{accepts-exactly-when, honest-proof-accepted}
 use Rattle.sections.specs.Reading.{Reads}
 use Rattle.sections.proofs.ReadingLaws.{proof-read}
-use Rattle.solfadrus.specs.Demands.{CommitWrites, HashWrites, BatchWrites, ProveWrites, VerifyTold, RefusedByEleven, EveryAnswerListed, EveryQuestionPut, PlacesNamed, RefusedKeeps, AcceptedWrites, RefusedWhenFails, VerifierAcceptsExactly, WrittenIsAccepted, StepsMakeWhole, StepsAreAccepted, ReadsBack}
+use Rattle.solfadrus.specs.Demands.{CommitWrites, HashWrites, BatchWrites, ProveWrites, VerifyTold, RefusedByEleven, EveryAnswerListed, EveryQuestionPut, PlacesNamed, RefusedKeeps, AcceptedWrites, RefusedWhenFails, VerifierAcceptsExactly, WrittenIsAccepted, StepsMakeWhole, StepsAreAccepted, ReadsBack, UnservedRefused, NoEleven}
 use Rattle.solfadrus.proofs.ToldLaws.{word-accepted, only-accepted, not-zero, kept, wrote, asked-told, refusal-told}
 
 pub refused-keeps : RefusedKeeps
@@ -168,3 +169,27 @@ module _ (g : Setting) where
       let s = shapeOf key in
       read-as s after (sectionsOf A s leaves key x H′ χ) (accepted-writes .prove-writes key leaves x H′ χ before after writes) (sections-back A laws s leaves key x H′ χ)
       (exact A laws s leaves key x H′ χ (bounds-of s (proved key leaves x H′ χ before after writes .2)))
+
+  -- a list that begins with 16 is refused by it
+  by-sixteen : (qs : List Question) (r : ℕ) → served g ≡ false → r ≡ word (ask (q16 g ∷ qs)) → r ≡ 16 * 65536
+  unfolding word
+  by-sixteen qs r h w = w ∙ ap word (ask-no (q16 g) qs h)
+
+  pub unserved-refused : UnservedRefused g
+  unfolding testAnswer commitAnswer hashAnswer batchAnswer proveAnswer verifyAnswer
+  unserved-refused = record {
+    test-unserved = λ key x r h t. by-sixteen (drop 1 (testPuts g key x)) r h t;
+    commit-unserved = λ key leaves x before after r h t. by-sixteen (drop 1 (commitPuts g key leaves x before)) r h (t .0);
+    hash-unserved = λ key leaves H′ before after r h t. by-sixteen (drop 1 (hashQuestions g key leaves H′ before)) r h (t .0);
+    batch-unserved = λ key leaves x χ before after r h t. by-sixteen (drop 1 (batchPuts g key leaves x χ before)) r h (t .0);
+    prove-unserved = λ key leaves x H′ χ before after r h t. by-sixteen (drop 1 (provePuts g key leaves x H′ χ before)) r h (t .0);
+    verify-unserved = λ key Δ H′ χ opened proof r h t. by-sixteen (drop 1 (verifyPuts g key Δ H′ χ opened proof)) r h t;
+  }
+
+  pub no-eleven : NoEleven g
+  no-eleven = record {
+    test-eleven = λ key x i none l t. absurd (omega (arith, none, places-named .test-names key x i l t .0 .0));
+    commit-eleven = λ key leaves x before after i none l t. absurd (omega (arith, none, places-named .commit-names key leaves x before after i l t .0 .0));
+    batch-eleven = λ key leaves x χ before after i none l t. absurd (omega (arith, none, places-named .batch-names key leaves x χ before after i l t .0 .0));
+    prove-eleven = λ key leaves x H′ χ before after i none l t. absurd (omega (arith, none, places-named .prove-names key leaves x H′ χ before after i l t .0 .0));
+  }

@@ -10,12 +10,12 @@
 -- Assumes nothing.
 use mathlib.Core.Path.{_≡_}
 use mathlib.Core.Logic.{_⊎_, _↔_, _≢_}
-use mathlib.Core.Bool.{true}
+use mathlib.Core.Bool.{true, false}
 use mathlib.Core.List.{List, [], _∷_, _++_}
 use Prim.Native.Nat.{ℕ, _+_, _*_, _<_}
 use lib.ListN.{length}
 use Rattle.protocol.specs.Alphabet.{Alphabet, elementsIn}
-use Rattle.protocol.specs.Setting.{Setting, alphabetOf}
+use Rattle.protocol.specs.Setting.{Setting, served, alphabetOf}
 use Rattle.protocol.specs.Shape.{Shape, shapeOf}
 use Rattle.protocol.specs.Prover.{sectionsOf, commitBytes, hashBytes, batchBytes, proofOf}
 use Rattle.protocol.specs.Sections.{lengths}
@@ -140,3 +140,19 @@ module _ (g : Setting) where
   abbrev pub ReadsBack : Type 0
   ReadsBack = (key leaves x H′ χ before after : List ℕ) → ProveWrites key leaves x H′ χ before after 0
       → let p = sectionsOf A (shapeOf key) leaves key x H′ χ in Reads after 0 (lengths A (shapeOf key)) (p .C ∷ p .d ∷ p .ũ ∷ p .Ṽ ∷ p .QS0 ∷ p .QS1 ∷ [])
+
+  -- Request 3: "16, degree neither 8 nor 4, first of all questions", whatever else is lent.
+  pub record UnservedRefused : Type 0 where
+    pub test-unserved : (key x : List ℕ) (r : ℕ) → served g ≡ false → TestTold key x r → r ≡ 16 * 65536
+    pub commit-unserved : (key leaves x before after : List ℕ) (r : ℕ) → served g ≡ false → CommitWrites key leaves x before after r → r ≡ 16 * 65536
+    pub hash-unserved : (key leaves H′ before after : List ℕ) (r : ℕ) → served g ≡ false → HashWrites key leaves H′ before after r → r ≡ 16 * 65536
+    pub batch-unserved : (key leaves x χ before after : List ℕ) (r : ℕ) → served g ≡ false → BatchWrites key leaves x χ before after r → r ≡ 16 * 65536
+    pub prove-unserved : (key leaves x H′ χ before after : List ℕ) (r : ℕ) → served g ≡ false → ProveWrites key leaves x H′ χ before after r → r ≡ 16 * 65536
+    pub verify-unserved : (key Δ H′ χ opened proof : List ℕ) (r : ℕ) → served g ≡ false → VerifyTold key Δ H′ χ opened proof r → r ≡ 16 * 65536
+
+  -- Request 12: with no equations "11 never occurs". Hash and verify do not ask it of any key.
+  pub record NoEleven : Type 0 where
+    pub test-eleven : (key x : List ℕ) (i : ℕ) → shapeOf key .m ≡ 0 → i < 65536 → TestTold key x (11 * 65536 + i) → ⊥
+    pub commit-eleven : (key leaves x before after : List ℕ) (i : ℕ) → shapeOf key .m ≡ 0 → i < 65536 → CommitWrites key leaves x before after (11 * 65536 + i) → ⊥
+    pub batch-eleven : (key leaves x χ before after : List ℕ) (i : ℕ) → shapeOf key .m ≡ 0 → i < 65536 → BatchWrites key leaves x χ before after (11 * 65536 + i) → ⊥
+    pub prove-eleven : (key leaves x H′ χ before after : List ℕ) (i : ℕ) → shapeOf key .m ≡ 0 → i < 65536 → ProveWrites key leaves x H′ χ before after (11 * 65536 + i) → ⊥
