@@ -28,7 +28,7 @@ pub struct Sizes {
 // The symbols of the one alphabet that is served: bits.
 pub const BINARY: usize = 2;
 
-// The limits of 01, in one place.
+// The limits of 01 and of requests 1 and 12, in one place.
 pub const MOST_VARIABLES: usize = 320;
 
 // A key may have no equations (request 12); of everything else it has at least one.
@@ -182,7 +182,7 @@ pub fn batching_bytes(s: Sizes) -> usize
     s.tau * s.m
 }
 
-// The bytes of so many leaves for each repetition: 256 for the prover, 255 for the verifier.
+// The bytes of so many leaves for each repetition: those of a tree for the prover, one fewer for the verifier.
 pub fn leaves_bytes(s: Sizes, per: usize) -> usize
     requires { ⌜ (limits (shapeFor s) ≡ true) × (per ≤ 256) ⌝ }
     ensures { λ r. ⌜ r ≡ s .tau * per * wOf (alphabetFor s) (shapeFor s) ⌝ }

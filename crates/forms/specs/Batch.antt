@@ -12,8 +12,8 @@
 --     coordinates of the vectors are elements
 --   BlockInputs d n m τ from count .. == the same, where A and b are the parts of a block of so many equations
 --   BatchInputs d n m τ qs0 qs1 cells A b x χ vs == the same for a witness x
---   TableNarrow A s T == the first n coordinates in the lane of every repetition of a table are elements of the field of
---     the alphabet A
+--   TableNarrow A s T == the first n coordinates in the lane of every repetition of a table are elements of the field
+--     of the alphabet A
 -- Assumes nothing.
 use mathlib.Core.Path.{_≡_}
 use mathlib.Core.Bool.{Bool, false}

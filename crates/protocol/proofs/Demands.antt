@@ -22,7 +22,7 @@ use Rattle.algebra.proofs.CountLaws.{words-congr}
 use Rattle.algebra.proofs.StringLaws.{strings-length, strings-once}
 use Rattle.protocol.specs.Lists.{allBelow, table}
 use Rattle.protocol.specs.Strings.{bytes}
-use Rattle.protocol.specs.Alphabet.{Alphabet, sym as symbol, Lawful}
+use Rattle.protocol.specs.Alphabet.{Alphabet, sym as symbol, elementsIn, Lawful}
 use Rattle.protocol.specs.Setting.{Setting, setting, served, alphabetOf, sizeOf}
 use Rattle.protocol.specs.Shape.{Shape, shapeOf}
 use Rattle.protocol.specs.Sections.{Sections, sectionsIn}
@@ -81,8 +81,13 @@ sizes-are = record {
   four = (refl, refl);
   no-other = λ g h. go g (eqb (g .degree) 8) (eqb (g .degree) 4) refl refl h;
   every-byte = λ s b. elements-bytes (alphabetOf (setting 8)) refl s b;
+  above-15 = λ s i h. past s (elementsIn (alphabetOf (setting 4)) s) refl i h;
 }
   where
+    past : (s : List ℕ) (b : Bool) → elementsIn (alphabetOf (setting 4)) s ≡ b → (i : ℕ) → 15 < getD s i 0 → b ≡ false
+    past s true e i h = absurd (omega (arith, h, element-lt (alphabetOf (setting 4)) s e i))
+    past s false e i h = refl
+
     go : (g : Setting) (b c : Bool) → eqb (g .degree) 8 ≡ b → eqb (g .degree) 4 ≡ c → (b || c) ≡ true → (g ≡ setting 8) ⊎ (g ≡ setting 4)
     go g true c e k h = inl (ap setting (eqb-eq (g .degree) 8 e))
     go g false true e k h = inr (ap setting (eqb-eq (g .degree) 4 k))

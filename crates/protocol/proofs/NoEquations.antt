@@ -8,6 +8,7 @@ use Prim.Native.Nat.{ℕ, zero, suc, _+_, _*_, _^_, _≤_, _<_}
 use native.Mathlib.Nat.{pow-zero, mul-zero, zero-mul}
 use native.Mathlib.Omega.{arith}
 use lib.ListN.{length}
+use Rattle.field.specs.Degrees.{fieldOf}
 use Rattle.algebra.specs.Ring.{Ring}
 use Rattle.algebra.specs.Field.{Field}
 use Rattle.algebra.specs.Coded.{Coded}
@@ -30,8 +31,9 @@ use Rattle.protocol.specs.Sections.{sectionsIn}
 use Rattle.protocol.specs.Verifier.{batchedError}
 use Rattle.protocol.specs.Questions.{χExact, solves}
 use Rattle.protocol.specs.Coefficients.{conditions}
-use Rattle.protocol.specs.NoEquations.{NoEquations, NoElevens, NoSquares}
+use Rattle.protocol.specs.NoEquations.{NoEquations, NoElevens, NoSquares, PracticeKeys}
 use Rattle.protocol.proofs.TestLaws.{all-of, eqb-eq}
+use Rattle.protocol.proofs.BinaryLaws.{binary-lawful}
 use Rattle.protocol.proofs.CountingLaws.{form-of}
 use Rattle.protocol.proofs.Theorems.{first-named, factor-is}
 
@@ -107,3 +109,7 @@ module _ (g : Setting) (key : List ℕ) (none : shapeOf key .m ≡ 0) where
       let A = alphabetOf g in
       let c = conditions A (shapeOf key) key leaves H′ χ (sectionsIn A (shapeOf key) proof) e in
       rw (factor-is A key leaves H′ χ proof (form-of g key leaves H′ χ proof h .k7) e l) (lines-alone (A .K .base) c (batch-none A (shapeOf key) none χ e _))
+
+pub practice-keys : (g : Setting) → PracticeKeys g
+practice-keys g key none =
+    (no-equations (alphabetOf g) (shapeOf key) none (binary-lawful (fieldOf (g .degree))), no-elevens g key none, no-squares g key none)

@@ -8,12 +8,15 @@ pub practice-key : PracticeKey
 unfolding computing key leaves proof
 practice-key = record {
   key-length = refl;
+  well-formed = refl;
+  QS1-well-formed = refl;
   proof-is = refl;
   any-fits = refl;
   prove-taken = refl;
   verify-taken = refl;
   one-byte-batch = refl;
   one-byte-prove = refl;
+  one-byte-verify = refl;
   no-variables = refl;
   honest-passes = refl;
   QS1-passes = refl;

@@ -3,7 +3,8 @@
 --   readable n most input == input is at most `most` bytes: n whole sections and nothing more
 --   Checked == what is printed: an answer of the verifier, or unread;  decimal x == x in decimal digits
 --   eight == the setting of the check program, degree 8
---   lineOf == the line;  checkLine input == the whole output
+--   checkOf g input == what is printed of the input, in the setting g;  lineOf == the line;  checkLine g input == the
+--     whole output
 -- Assumes nothing.
 use mathlib.Core.Bool.{Bool, true, false, _&&_}
 use mathlib.Core.List.{List, [], _∷_, _++_}
@@ -26,7 +27,6 @@ pub data Checked : Type 0 where
   answered : Answer → Checked
   unread : Checked
 
--- the setting of the check program
 abbrev pub eight : Setting
 eight = setting 8
 

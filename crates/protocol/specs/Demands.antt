@@ -12,7 +12,7 @@ use mathlib.Core.Bool.{true, false}
 use mathlib.Core.List.{List, _++_, map}
 use Prim.Native.Nat.{ℕ, _-_, _^_, _<_}
 use lib.Dec.{eqb}
-use lib.ListN.{length}
+use lib.ListN.{length, getD}
 use Rattle.algebra.specs.Ring.{Ring}
 use Rattle.algebra.specs.Field.{Field}
 use Rattle.algebra.specs.Coded.{Coded}
@@ -41,6 +41,8 @@ pub record SizesAre : Type 0 where
   pub no-other : (g : Setting) → served g ≡ true → (g ≡ setting 8) ⊎ (g ≡ setting 4)
   -- at degree 8 every byte is an element: questions 17 and 18 refuse nothing
   pub every-byte : (s : List ℕ) → bytes s → elementsIn (alphabetOf (setting 8)) s ≡ true
+  -- and at degree 4 none above 15 is
+  pub above-15 : (s : List ℕ) (i : ℕ) → 15 < getD s i 0 → elementsIn (alphabetOf (setting 4)) s ≡ false
 
 module _ (g : Setting) where
   abbrev pub A : Alphabet
@@ -58,8 +60,8 @@ module _ (g : Setting) where
   abbrev pub InAll : ℕ → Type 0
   InAll n = length (strings (A .K .base) n) ≡ size ^ n
 
-  -- Demand 2. "The prover's every byte equals what the published protocol's equations give for that key, witness, leaves
-  -- and challenges": `proofOf` is these bytes, and the contracts of the calls cite it.
+  -- Demand 2. "The prover's every byte equals what the published protocol's equations give for that key, witness,
+  -- leaves and challenges": `proofOf` is these bytes, and the contracts of the calls cite it.
   -- Here: the three steps' bytes, one after the other, are the whole call's.
   abbrev pub StepBytes : Type 0
   StepBytes = (key leaves x H′ χ : List ℕ) → commitBytes A key leaves x ++ (hashBytes A key leaves H′ ++ batchBytes A key leaves x χ) ≡ proofOf A key leaves x H′ χ
@@ -136,8 +138,8 @@ module _ (g : Setting) where
     ColumnsIfSolving = (e : ℕ) → ((i : ℕ) → i < shapeOf key .m → errorOf A key leaves proof e i ≡ 𝟎)
         → zeroColumns (A .K .base) (shapeOf key .m) (errorOf A key leaves proof e) ≡ size ^ (shapeOf key .m)
 
-    -- "all batching columns": any m elements of K. Each stands exactly once among the columns that are counted, and they
-    -- are size^m.
+    -- "all batching columns": any m elements of K. Each stands exactly once among the columns that are counted, and
+    -- they are size^m.
     abbrev pub EveryColumnOnce : Type 0
     EveryColumnOnce = EachOnce (shapeOf key .m)
 

@@ -1,9 +1,9 @@
 -- A key with no equations (request 12): "A, b and y are empty, χ has no bytes, and QS0 and QS1 are the masks alone",
 -- "11 never occurs there", "The single empty column counts as one column with sum zero".
 -- proofs/NoEquations proves each statement.
---   NoEquations A s == of the equations' level, for sizes with m = 0
---   NoElevens g key == no call answers 11, for a key with m = 0
---   NoSquares g key .. == of a well-formed proof, each factor is 0, 1 or the field's size: nothing is quadratic
+--   NoEquations A s == of the equations, at sizes s;  NoElevens g key == no call answers 11
+--   NoSquares g key == of a well-formed proof, each factor is 0, 1 or the field's size: nothing is quadratic
+--   PracticeKeys g == all three hold of every key with m = 0
 -- Assumes nothing.
 use mathlib.Core.Path.{_≡_}
 use mathlib.Core.Logic.{_≢_}
@@ -36,7 +36,7 @@ module _ (A : Alphabet) (s : Shape) where
 
   pub record NoEquations : Type 0 where
     pub sections-empty : keyLengths A s ≡ 0 ∷ 0 ∷ 0 ∷ []
-    -- eight of the header, and three counts
+    -- eight bytes of the header, and three counts
     pub key-length : 8 + framedLength (keyLengths A s) ≡ 20
     pub χ-empty : (χ : List ℕ) → χExact A s χ ≡ true → χ ≡ []
     pub any-solves : (key x : List ℕ) → solves A s key x ≡ true
@@ -55,3 +55,6 @@ module _ (g : Setting) (key : List ℕ) where
   abbrev pub NoSquares : Type 0
   NoSquares = (leaves H′ χ proof : List ℕ) → wellFormed g key leaves H′ χ proof ≡ true → (e : ℕ) → e < shapeOf key .τ
       → ZeroOneAll (sizeOf g) (factor (alphabetOf g) key leaves H′ χ proof e)
+
+abbrev pub PracticeKeys : Setting → Type 0
+PracticeKeys g = (key : List ℕ) → shapeOf key .m ≡ 0 → NoEquations (alphabetOf g) (shapeOf key) × NoElevens g key × NoSquares g key

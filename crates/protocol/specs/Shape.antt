@@ -9,7 +9,8 @@
 --   kOf == k = n + rτ, r mask coordinates for each repetition: the coordinates that H′ covers
 --   lOf == L = k + t, all coordinates
 --   wOf == w = ⌈L/8⌉, the bytes of a leaf
---   perTree == the leaves of a tree, 256;  perOpened == those of an opened tree, 255
+--   perTree == the leaves of a tree, as many as the field has elements;  perOpened == those of an opened tree, one
+--     fewer
 -- Assumes nothing.
 use mathlib.Core.Bool.{Bool, _&&_}
 use mathlib.Core.List.{List, [], _∷_}

@@ -1,4 +1,5 @@
--- What is proved of the definitions: of the equations for any alphabet that is lawful, and of the calls in every setting.
+-- What is proved of the definitions: of the equations for any alphabet that is lawful, and of the calls in every
+-- setting.
 -- `Demands` gives the client's sentences.
 -- Assumes nothing.
 use mathlib.Core.Path.{_≡_}

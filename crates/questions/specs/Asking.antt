@@ -1,7 +1,8 @@
 -- How the code puts its questions: those on the key first, then one input after the other, each only where all before
 -- got a yes.
 -- In each definition A is the alphabet, and g the setting.
---   headerQuestions key == questions 1 to 4, on the key alone;  outputQuestion ls n == question 10, of an output of n bytes
+--   headerQuestions key == questions 1 to 4, on the key alone;  outputQuestion ls n == question 10, of an output of n
+--     bytes
 --   leafQuestions s per leaves == questions 7 and 8, of `per` leaves for each repetition
 --   commitInputs s .., hashInputs, batchInputs, proveInputs, verifyInputs == the questions of a call after those on the
 --     key, by the sizes s

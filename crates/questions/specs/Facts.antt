@@ -4,7 +4,8 @@
 --   ProofForm s proof == the proof is its sections, each of its length (question 12)
 --   PlacesOf s proof places == so it is, and the reader has stood at these places
 --   SectionIs s proof i r == r is section i of the proof, and has its length
---   ProofAsked s proof walk == the answer to questions 12, 13 and 18; and where that is accepted, where the reader stood
+--   ProofAsked s proof walk == the answer to questions 12, 13 and 18; and where that is accepted, where the reader
+--     stood
 --   TestFacts, CommitFacts, HashFacts, BatchFacts, ProveFacts == of all inputs that a call goes on with, and of its
 --     output's length
 -- Assumes nothing.

@@ -1,4 +1,4 @@
-// The questions on form of each call, in order: all of its questions but 11 to 15 and 18.
+// The questions on form of each call, in order, but for those on the proof (`proof`).
 ghost use mathlib.Core.Path.{_≡_};
 ghost use mathlib.Core.Bool.{true};
 ghost use Rattle.protocol.specs.Shape.{limits};

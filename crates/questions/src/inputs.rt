@@ -1,5 +1,5 @@
-// Questions 5 to 10 of 01 and 17 of request 3, one input at a time. Each takes the answer so far, and puts its own only where that is
-// accepted.
+// Questions 5 to 10 of 01 and 17 of request 3, one input at a time. Each takes the answer so far, and puts its own only
+// where that is accepted.
 ghost use mathlib.Core.Path.{_≡_};
 ghost use mathlib.Core.Bool.{true};
 ghost use mathlib.Core.List.{[], _∷_};

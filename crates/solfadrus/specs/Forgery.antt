@@ -3,8 +3,8 @@
 --   Answers key H′ χ proof call == call Δ opened is a number that mq_verify may answer, for every Δ and every string of
 --     opened leaves, of bytes as C lends them
 --   accepts key leaves call Δ == the call answers 0 at the challenge string Δ, with the leaves opened there
---   acceptedBy key leaves call == how many of the challenge strings it accepts, of τ elements of the field of the setting
---     g
+--   acceptedBy key leaves call == how many of the challenge strings it accepts, of τ elements of the field of the
+--     setting g
 -- Assumes nothing.
 use mathlib.Core.Path.{_≡_}
 use mathlib.Core.Bool.{Bool, true, false}
@@ -58,8 +58,8 @@ module _ (g : Setting) where
     pub full-spells-candidate : FullSpellsCandidate g key leaves H′ χ proof
     pub candidate-is-witness : CandidateWitness g key leaves H′ χ proof
     pub that-sum : ThatSum g key leaves H′ χ proof
-    -- "exactly 256 to the power m−1 of all batching columns for m equations make that sum zero if it fails any equation,
-    -- and all of them if it fails none."
+    -- "exactly 256 to the power m−1 of all batching columns for m equations make that sum zero if it fails any
+    -- equation, and all of them if it fails none."
     pub columns-if-failing : ColumnsIfFailing g key leaves H′ χ proof
     pub columns-if-solving : ColumnsIfSolving g key leaves H′ χ proof
     pub every-column-once : EveryColumnOnce g key leaves H′ χ proof

@@ -1,4 +1,5 @@
--- What the size functions answer: a size of a key's data where the sizes are in range and the degree is served, and else
+-- What the size functions answer: a size of a key's data where the sizes are in range and the degree is served, and
+-- else
 -- 0.
 --   shape n m τ t == the shape with those sizes
 --   sized g z f == f at the alphabet of g and at z, where g is served and z in range, else 0

@@ -1,4 +1,5 @@
-// The calls that C makes. Each takes the degree of the field right after the key (request 3), and answers with one number: 0 for accepted, else number × 65,536 + place.
+// The calls that C makes. Each takes the degree of the field right after the key (request 3), and answers with one
+// number: 0 for accepted, else number × 65,536 + place.
 ghost use mathlib.Core.Path.{_≡_};
 ghost use Rattle.protocol.specs.Setting.{setting};
 ghost use Rattle.solfadrus.specs.Demands.{TestTold, CommitWrites, HashWrites, BatchWrites, ProveWrites, VerifyTold};

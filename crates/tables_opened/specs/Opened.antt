@@ -10,8 +10,8 @@
 --   OpenedInputs table opened Δ C τ w r == these have the lengths of τ such trees, and Δ has leaves' numbers
 --   OpenedTableIs table opened Δ C τ w count == a table has the lanes W_e, for each repetition e below τ; a tree has
 --     count leaves
---   Opened A s Δ opened proof table == the lanes of the table, with which a space may begin, are W_e of every repetition
---     of a proof of shape s over the alphabet A
+--   Opened A s Δ opened proof table == the lanes of the table, with which a space may begin, are W_e of every
+--     repetition of a proof of shape s over the alphabet A
 -- Assumes nothing.
 use mathlib.Core.Path.{_≡_}
 use mathlib.Core.Bool.{cond}

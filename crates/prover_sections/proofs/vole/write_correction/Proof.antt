@@ -1,4 +1,5 @@
--- `prover_sections::vole::write_correction` meets its contract. The sum of two rows of the sums is put in row e of the section.
+-- `prover_sections::vole::write_correction` meets its contract. The sum of two rows of the sums is put in row e of the
+-- section.
 -- Assumes nothing.
 use Prim.Native.Nat.{ℕ, _+_, _*_, _-_, _≤_, _<_}
 use mathlib.Core.Path.{_≡_, ap, ap₂, _∙_}

@@ -1,5 +1,5 @@
--- `prover_sections::vole::write_difference` meets its contract. The bits of the sum below n are kept, and those from n on are 0,
--- so that it is packed.
+-- `prover_sections::vole::write_difference` meets its contract. The bits of the sum below n are kept, and those from n
+-- on are 0, so that it is packed.
 -- Assumes nothing.
 use mathlib.Core.Path.{_≡_, ap, _∙_}
 use native.Mathlib.Omega.{arith}

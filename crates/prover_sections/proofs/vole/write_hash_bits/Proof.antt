@@ -1,4 +1,5 @@
--- `prover_sections::vole::write_hash_bits` meets its contract. The invariant: the bits below rho are done, the others are 0.
+-- `prover_sections::vole::write_hash_bits` meets its contract. The invariant: the bits below rho are done, the others
+-- are 0.
 -- Assumes nothing.
 use borrow.Author.Needs.{needs}
 use borrow.Author.Count.{below-more}
