@@ -43,7 +43,7 @@ quick_folder() {
 
 # rt proves each crate from nothing, tries the must-fail edits, and runs each program.
 crates=$(grep -c : crates.txt)
-echo "Every proof and every test, from nothing: 25 to 35 minutes on two cores. First $crates crates, then" \
+echo "Every proof and every test, from nothing: about 35 minutes on two cores. First $crates crates, then" \
     "$(find crates -name '*.edit' | wc -l) edits that must be refused."
 with_progress "$crates" "$log" env TMPDIR="$(quick_folder)" rt ci || {
     tail -n 60 "$log"
