@@ -10,9 +10,9 @@
  * The rendering is slow, and is repeated less often: the table says how often. With one repetition it is not
  * asked past 160 variables.
  *
- * With BEFORE an earlier archive is timed too, at the sizes that it serves. With BEFORE_BARE it is one whose calls take no
- * degree, and is timed at degree 8. With BEFORE_SHARED it is one from before each repetition had a mask of its own, and is
- * lent leaves and a hash_matrix of its own lengths, and proves itself.
+ * With BEFORE an earlier archive is timed too, at the sizes that it serves. With BEFORE_BARE it is one whose calls take
+ * no degree, and is timed at degree 8. With BEFORE_SHARED it is one from before each repetition had a mask of its own,
+ * and is lent leaves and a hash_matrix of its own lengths, and proves itself.
  */
 #define _XOPEN_SOURCE 700
 #include <math.h>
@@ -576,8 +576,8 @@ static void bench(struct sizes sizes, int repetitions, FILE *history, const char
 
 /* ---- The verifier at several shapes ------------------------------------------------------- */
 
-/* The second, and n, m and tau changed one at a time; then what the limits were, and what they are; then the fast set at
- * both degrees. */
+/* The second, and n, m and tau changed one at a time; then what the limits were, and what they are; then the fast set
+ * at both degrees. */
 enum { SHAPES = 11, BASE = 1, FORMER = 7, LARGEST = 8, FAST_AT_8 = 9, FAST = 10 };
 static const struct sizes shapes[SHAPES] = {
     { 40, 160, 16, 80, 8 },   { 80, 160, 16, 80, 8 },   { 160, 160, 16, 80, 8 },  { 320, 160, 16, 80, 8 },

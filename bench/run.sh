@@ -6,10 +6,10 @@
 #
 #   run.sh [--keep] [REPETITIONS]   --keep adds the ratios to bench/history.tsv, where they are kept (those up to
 #                                   981c830 are to an earlier and slower baseline.c)
-#   BEFORE=ARCHIVE run.sh ..        another libsolfadrus.a, of the same interface, is timed beside this one, at the sizes
-#                                   and degrees that it serves; with BEFORE_DEGREE=none one whose calls take no degree;
-#                                   with BEFORE_MASKS=shared one of these from before each repetition had a mask of its
-#                                   own, which is lent leaves of its own length
+#   BEFORE=ARCHIVE run.sh ..        another libsolfadrus.a, of the same interface, is timed beside this one, at the
+#                                   sizes and degrees that it serves; with BEFORE_DEGREE=none one whose calls take no
+#                                   degree; with BEFORE_MASKS=shared one of these from before each repetition had a
+#                                   mask of its own, which is lent leaves of its own length
 #   run.sh --once                   the gate's run: each program is built and makes each call once. The timing program
 #                                   holds the bytes against the library's, and the comparison is left out
 set -eu

@@ -12,8 +12,8 @@ kernels='lanes chunks trees tables tables_opened hash equations
     forms_choices forms_columns forms_folds forms_planes forms_batching forms_pieces forms'
 
 # The limits; the most equations in one pass; the elements of the field, and those besides 0; and lengths of buffers
-# that follow from them: the cells, the table of sums of a block, the table of the v_e, Ṽ, the vectors, and a leaf for each
-# repetition.
+# that follow from them: the cells, the table of sums of a block, the table of the v_e, Ṽ, the vectors, and a leaf for
+# each repetition.
 numbers='320 288 160 256 255 133120 32768 47616 13824 15360 5952'
 
 fail() {

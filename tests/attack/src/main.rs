@@ -7,8 +7,8 @@
 //! none; and that the last two repetitions share one must be seen. Then the library's proofs are attacked, and the
 //! attack must do no better than guessing. All at both degrees.
 //!
-//! With `--bare` the library is one whose calls take no degree, and is attacked at degree 8; with `--shared` it is one of
-//! those that had one mask, and the attack must recover every witness.
+//! With `--bare` the library is one whose calls take no degree, and is attacked at degree 8; with `--shared` it is one
+//! of those that had one mask, and the attack must recover every witness.
 
 mod attack;
 mod case;

@@ -184,8 +184,8 @@ pub fn counts() -> Vec<Input> {
     inputs
 }
 
-/// 01 and request 1: n = 320 taken, 321 refused 2; 0 refused 2. m likewise, but 0 is taken (request 12). τ = 48 taken, 49
-/// refused 2. t = 288 taken, 289 refused 2.
+/// 01 and request 1: n = 320 taken, 321 refused 2; 0 refused 2. m likewise, but 0 is taken (request 12). τ = 48 taken,
+/// 49 refused 2. t = 288 taken, 289 refused 2.
 pub fn headers() -> Vec<Input> {
     let mut inputs = Vec::new();
     for (field, least, most) in [(0, 1, 320), (1, 0, 320), (2, 1, 48), (3, 1, 288)] {

@@ -1,6 +1,6 @@
 //! A toy at degree 4 in the spirit of 01's "Toy sitting": one table, always the same lines. Nothing here is in 01 or 02
-//! but the rules; what is lent was chosen by the rendering so that no sum of the leaves, no mask and no section is 0, the
-//! leaf that is left out is not 0, and the products go past the modulus.
+//! but the rules; what is lent was chosen by the rendering so that no sum of the leaves, no mask and no section is 0,
+//! the leaf that is left out is not 0, and the products go past the modulus.
 
 use crate::calls::{test, verify, Answer};
 use crate::cases::{key_bytes, Case};

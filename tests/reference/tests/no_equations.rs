@@ -162,8 +162,8 @@ fn the_masks_alone() {
     }
 }
 
-/// The toys without their equation, by hand: 01's has 02 at the first mask coordinate of v and 1 in u, else 0; the one at
-/// degree 4 has the masks 09 and 0B.
+/// The toys without their equation, by hand: 01's has 02 at the first mask coordinate of v and 1 in u, else 0; the one
+/// at degree 4 has the masks 09 and 0B.
 #[test]
 fn the_toys_without_their_equation() {
     let key = [2, 0, 0, 0, 1, 0, 1, 0, 0, 0, 0, 0, 0, 0, 0, 0, 0, 0, 0, 0];
@@ -204,8 +204,8 @@ fn accepted_at_every_delta() {
     }
 }
 
-/// With no equations nothing is quadratic: each factor is 0, 1 or the size, and all three occur. A change of d is seen by
-/// nothing.
+/// With no equations nothing is quadratic: each factor is 0, 1 or the size, and all three occur. A change of d is seen
+/// by nothing.
 #[test]
 fn factors_are_0_1_or_the_size() {
     for degree in DEGREES {
