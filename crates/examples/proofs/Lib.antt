@@ -13,3 +13,5 @@ pub mod ExampleFactors
 pub mod ChangedProofs
 pub mod CountedExample
 pub mod ThreeProof
+pub mod PracticeFactors
+pub mod Refusals

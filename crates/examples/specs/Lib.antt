@@ -6,3 +6,5 @@ pub mod CheckLine
 pub mod ChangedProofs
 pub mod CountedExample
 pub mod ThreeProof
+pub mod PracticeFactors
+pub mod Refusals

@@ -9,23 +9,18 @@ use Rattle.protocol.specs.ThreeRepetitions.{ThreeRepetitions}
 use Rattle.protocol.specs.PracticeKey.{PracticeKey}
 use Rattle.protocol.specs.QuestionNumbers.{QuestionNumbers}
 use Rattle.protocol.specs.Edges.{Limits, Forms, Numbers, Lengths, Order, Derived, Extents, Words}
-use Rattle.protocol.specs.Refusals.{Refusals, Taken}
 use Rattle.protocol.proofs.MaskPlaces.{mask-places}
 use Rattle.protocol.proofs.SmallExample.{small-key, small-columns, small-bytes, small-proof, small-replies}
 use Rattle.protocol.proofs.ThreeRepetitions.{three-repetitions}
 use Rattle.protocol.proofs.PracticeKey.{practice-key}
 use Rattle.protocol.proofs.QuestionNumbers.{question-numbers}
 use Rattle.protocol.proofs.Edges.{limits-are, forms-are, numbers-are, lengths-are, order-is, derived-are, extents-are, words-are}
-use Rattle.protocol.proofs.Refusals.{refusals-are, all-taken}
 
 pub examples : SmallKey × SmallColumns × SmallBytes × SmallProof × SmallReplies × ThreeRepetitions × PracticeKey
 examples = (small-key, small-columns, small-bytes, small-proof, small-replies, three-repetitions, practice-key)
 
 pub edges : Limits × Forms × Numbers × Lengths × Order × Derived × Extents × Words
 edges = (limits-are, forms-are, numbers-are, lengths-are, order-is, derived-are, extents-are, words-are)
-
-pub calls : Refusals × Taken
-calls = (refusals-are, all-taken)
 
 pub masks-placed : (A : Alphabet) → MaskPlaces A
 masks-placed = mask-places

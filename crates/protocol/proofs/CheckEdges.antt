@@ -4,13 +4,13 @@ use mathlib.Core.Path.{_≡_, refl}
 use mathlib.Core.Bool.{Bool, true, false, _&&_}
 use mathlib.Core.List.{List}
 use Prim.Native.Nat.{ℕ}
+use borrow.Author.Tests.{le-leb, lt-leb}
 use lib.Dec.{leb}
 use lib.ListN.{length}
 use Rattle.protocol.specs.Frames.{framed}
 use Rattle.protocol.specs.Calls.{verifyAnswer}
 use Rattle.protocol.specs.Check.{eight, answered, unread, lengthsIn, readable, checkOf, decimal, decimalDigits}
 use Rattle.protocol.specs.CheckEdges.{section, CheckReads, Decimals}
-use Rattle.protocol.proofs.TestLaws.{leb-yes, leb-no, both-true}
 
 and-false : (b : Bool) → (b && false) ≡ false
 and-false true = refl
@@ -28,9 +28,9 @@ read-is input h = rw (checkOf, h)
 pub check-reads : CheckReads
 unfolding readable
 check-reads = record {
-  too-long = λ input h. unread-is input (rw (leb-no (length input) 65536 h));
+  too-long = λ input h. unread-is input (rw (lt-leb (length input) 65536 h));
   not-whole = λ input h. unread-is input (rw h (and-false (leb (length input) 65536)));
-  whole = λ input l h. read-is input (both-true _ _ (leb-yes (length input) 65536 l) h);
+  whole = λ input l h. read-is input (rw (le-leb (length input) 65536 l, h));
 }
 
 pub decimals-are : Decimals

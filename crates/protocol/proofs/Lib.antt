@@ -4,7 +4,6 @@ pub mod QuestionNumbers
 pub mod SmallExample
 pub mod ThreeRepetitions
 pub mod Edges
-pub mod Refusals
 pub mod CheckEdges
 pub mod Agreement
 pub mod TestLaws

@@ -8,8 +8,6 @@ pub practice-key : PracticeKey
 unfolding computing key leaves proof
 practice-key = record {
   key-length = refl;
-  well-formed = refl;
-  QS1-well-formed = refl;
   proof-is = refl;
   any-fits = refl;
   prove-taken = refl;
@@ -18,7 +16,4 @@ practice-key = record {
   one-byte-prove = refl;
   one-byte-verify = refl;
   no-variables = refl;
-  honest-passes = refl;
-  QS1-passes = refl;
-  QS0-passes = refl;
 }

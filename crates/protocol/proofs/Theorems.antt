@@ -32,9 +32,9 @@ use Rattle.protocol.specs.Verifier.{candidate, correctionAt}
 use Rattle.protocol.specs.Answers.{accepted, refused, isAccepted, Question, ask, allYes}
 use Rattle.protocol.specs.Questions.{ΔExact, hExact, χExact, solves, witnessForm, proofSpare, proofElements, leavesExact, consistentIn, productIn, q5, q6, q14, q15, q17}
 use Rattle.protocol.specs.Calls.{testQuestions, commitQuestions, batchQuestions, proveQuestions, verifyQuestions, honestQuestions, wellFormedQuestions, keyQuestions, verifyPuts, testAnswer, commitAnswer, batchAnswer, proveAnswer, verifyAnswer, honestForm, verifyForm, wellFormed}
-use Rattle.protocol.specs.Counting.{opening, acceptedCount, checksAt, factor}
+use Rattle.protocol.specs.Counting.{opening, acceptedCount, checksAt, factor, candidateBytes}
 use Rattle.protocol.specs.Coefficients.{conditions}
-use Rattle.protocol.specs.Statements.{OpenedByPlace, OpenedForm, VoleIdentity, Expansion, ProverExpansion, HonestAccepted, HonestWellFormed, AcceptsExactly, FirstNamed, StepsAreWhole, ProofReadsBack, CandidateIsWitness, candidateBytes, ForgeryCount, HidingColumns, errorOf, factorOf}
+use Rattle.protocol.specs.Statements.{OpenedByPlace, OpenedForm, VoleIdentity, Expansion, ProverExpansion, HonestAccepted, HonestWellFormed, AcceptsExactly, FirstNamed, StepsAreWhole, ProofReadsBack, CandidateIsWitness, ForgeryCount, HidingColumns, errorOf, factorOf}
 use Rattle.protocol.proofs.TestLaws.{both-true, all-at, all-of, all-true, true-all, eqb-same, passes-all}
 use Rattle.protocol.proofs.FrameLaws.{frame-append}
 use Rattle.protocol.proofs.LeafLaws.{open-place}

@@ -6,4 +6,4 @@ use Rattle.protocol.proofs.Computing.{computing}
 
 pub three-repetitions : ThreeRepetitions
 unfolding computing key leaves H′ χ Δ proofWith
-three-repetitions = record { header-is = refl; C-is = refl; accepts = refl; exchanged = refl; first-spare-set = refl; second-spare-set = refl }
+three-repetitions = record { header-is = refl; C-is = refl; first-spare-set = refl; second-spare-set = refl }

@@ -1,5 +1,6 @@
 -- The words of the forgery count.
 --   opening s leaves Δ == the leaves opened at Δ
+--   candidateBytes key leaves proof e == the candidate witness of repetition e, as bytes
 --   acceptedCount == how many Δ of τ elements the verifier's call accepts, the leaves opened anew for each. A byte that
 --     is no element is refused 17 (Demands: OtherBytesRefused)
 --   checksAt == both checks hold in repetition e at δ
@@ -17,7 +18,7 @@ use Rattle.protocol.specs.Setting.{Setting, alphabetOf}
 use Rattle.protocol.specs.Shape.{Shape, shapeOf, perTree, wOf}
 use Rattle.protocol.specs.Sections.{Sections, sectionsIn}
 use Rattle.protocol.specs.Leaves.{openTree, openLeaves}
-use Rattle.protocol.specs.Verifier.{consistentAt, productAt}
+use Rattle.protocol.specs.Verifier.{consistentAt, productAt, candidate}
 use Rattle.protocol.specs.Answers.{isAccepted}
 use Rattle.protocol.specs.Calls.{verifyAnswer}
 
@@ -28,6 +29,9 @@ module _ (A : Alphabet) where
 
   unfoldable pub opening : Shape → List ℕ → List ℕ → List ℕ
   opening s leaves Δ = openLeaves (perTree A) (wOf A s) (s .τ) leaves Δ
+
+  abbrev pub candidateBytes : List ℕ → List ℕ → List ℕ → ℕ → List ℕ
+  candidateBytes key leaves proof e = A .pack (shapeOf key .n) (λ c. A .symbolOf (candidate A (shapeOf key) leaves (sectionsIn A (shapeOf key) proof) e c))
 
   module _ (key leaves H′ χ : List ℕ) where
     unfoldable pub checksAt : Shape → Sections → ℕ → ℕ → Bool

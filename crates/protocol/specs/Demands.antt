@@ -31,8 +31,8 @@ use Rattle.protocol.specs.Verifier.{batchedError}
 use Rattle.protocol.specs.Answers.{accepted, refused}
 use Rattle.protocol.specs.Questions.{solves, consistentIn, productIn}
 use Rattle.protocol.specs.Calls.{proveAnswer, verifyAnswer, proveForm, honestForm, verifyForm, wellFormed}
-use Rattle.protocol.specs.Counting.{opening, acceptedCount, factor}
-use Rattle.protocol.specs.Statements.{RefusedIff, errorOf, CandidateIsWitness, candidateBytes}
+use Rattle.protocol.specs.Counting.{opening, candidateBytes, acceptedCount, factor}
+use Rattle.protocol.specs.Statements.{RefusedIff, errorOf, CandidateIsWitness}
 
 -- The degrees that are served, and the sizes of their fields.
 pub record SizesAre : Type 0 where

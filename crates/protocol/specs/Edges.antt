@@ -21,7 +21,7 @@ use Rattle.protocol.specs.Key.{keyExact, keySpare}
 use Rattle.protocol.specs.Sections.{sectionsIn}
 use Rattle.protocol.specs.Answers.{Answer, accepted, refused, word}
 use Rattle.protocol.specs.Questions.{hSpare, leavesSpare, witnessForm, solves, proofSpare}
-use Rattle.protocol.specs.Calls.{testAnswer, batchAnswer, proveAnswer, verifyAnswer}
+use Rattle.protocol.specs.Calls.{testAnswer, hashAnswer, batchAnswer, proveAnswer, verifyAnswer}
 use Rattle.protocol.specs.SmallExample.{four, changed, sizes, key, witness, leaves, H′, χ, Δ, proof, opened}
 
 abbrev pub allowed : ℕ → ℕ → ℕ → ℕ → Bool
@@ -127,6 +127,7 @@ pub record Lengths : Type 0 where
   pub t-high : testAnswer four (changed key 7 0x02) witness ≡ refused 2 0
   pub Δ-long : verifyAnswer four key (Δ ++ (0x00 ∷ [])) H′ χ opened proof ≡ refused 5 0
   pub Δ-short : verifyAnswer four key (take 1 Δ) H′ χ opened proof ≡ refused 5 0
+  pub H-long : verifyAnswer four key Δ (H′ ++ (0x00 ∷ [])) χ opened proof ≡ refused 5 0
   pub H-short : verifyAnswer four key Δ (take 5 H′) χ opened proof ≡ refused 5 0
   pub χ-short : verifyAnswer four key Δ H′ (take 3 χ) opened proof ≡ refused 5 0
   pub count-third : verifyAnswer four key Δ H′ χ opened (changed proof 2 0x01) ≡ refused 12 0
@@ -138,6 +139,7 @@ pub record Order : Type 0 where
   pub five-six : verifyAnswer four key Δ (changed H′ 5 0x02) (χ ++ (0x00 ∷ [])) opened proof ≡ refused 5 0
   pub seven-eight : verifyAnswer four key Δ H′ χ (changed leaves 95 0x08) proof ≡ refused 7 0
   pub twelve-thirteen : verifyAnswer four key Δ H′ χ opened (changed (changed proof 0 0x01) 12 0x02) ≡ refused 12 0
+  pub eight-ten : hashAnswer four key (changed leaves 95 0x08) H′ [] ≡ refused 8 0
   pub nine-ten : proveAnswer four key leaves (changed witness 1 0x02) H′ χ [] ≡ refused 9 0
   pub ten-eleven : proveAnswer four key leaves (changed witness 0 0x01) H′ χ [] ≡ refused 10 0
   pub sixteen-one : testAnswer (setting 5) [] witness ≡ refused 16 0

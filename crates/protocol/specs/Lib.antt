@@ -27,5 +27,4 @@ pub mod QuestionNumbers
 pub mod NoEquations
 pub mod PracticeKey
 pub mod Edges
-pub mod Refusals
 pub mod CheckEdges

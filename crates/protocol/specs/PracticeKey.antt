@@ -1,13 +1,11 @@
 -- A practice key, one with no equations (request 12), n = 2, τ = 1, t = 1, at degree 4; and what the definitions must
 -- give for it.
--- proofs/PracticeKey computes each statement.
+-- proofs/PracticeKey computes each statement. How many challenges pass, the crate `examples` has.
 -- The proof's bytes and the answers are those of the rendering (tests/reference), made from the papers by other hands.
 --   key, x, leaves, H′ == what is lent, and no byte of χ;  proof == the proof that is expected
 --   reply δ p == the verifier's answer to the proof p, the leaves opened at δ
---   passing p == how many values of Δ_0 pass
 -- Assumes nothing.
 use mathlib.Core.Path.{_≡_}
-use mathlib.Core.Bool.{true}
 use mathlib.Core.List.{List, [], _∷_}
 use Prim.Native.Nat.{ℕ}
 use lib.ListN.{length, replicate}
@@ -16,8 +14,8 @@ use Rattle.protocol.specs.Setting.{setting}
 use Rattle.protocol.specs.Shape.{shapeOf}
 use Rattle.protocol.specs.Prover.{proofOf}
 use Rattle.protocol.specs.Answers.{Answer, accepted, refused}
-use Rattle.protocol.specs.Calls.{testAnswer, batchAnswer, proveAnswer, verifyAnswer, wellFormed}
-use Rattle.protocol.specs.Counting.{opening, factor}
+use Rattle.protocol.specs.Calls.{testAnswer, batchAnswer, proveAnswer, verifyAnswer}
+use Rattle.protocol.specs.Counting.{opening}
 use Rattle.protocol.specs.SmallExample.{four, changed}
 
 unfoldable pub key : List ℕ
@@ -47,13 +45,8 @@ proof =
 abbrev pub reply : ℕ → List ℕ → Answer
 reply δ p = verifyAnswer four key (δ ∷ []) H′ [] (opening bits16 (shapeOf key) leaves (δ ∷ [])) p
 
-abbrev pub passing : List ℕ → ℕ
-passing p = factor bits16 key leaves H′ [] p 0
-
 pub record PracticeKey : Type 0 where
   pub key-length : length key ≡ 20
-  pub well-formed : wellFormed four key leaves H′ [] proof ≡ true
-  pub QS1-well-formed : wellFormed four key leaves H′ [] (changed proof 28 0x01) ≡ true
   pub proof-is : proofOf bits16 key leaves x H′ [] ≡ proof
   -- any witness fits, at either degree
   pub any-fits : testAnswer four key (0x00 ∷ []) ∷ testAnswer four key (0x01 ∷ []) ∷ testAnswer four key (0x02 ∷ []) ∷ testAnswer four key (0x03 ∷ [])
@@ -65,7 +58,3 @@ pub record PracticeKey : Type 0 where
   pub one-byte-prove : proveAnswer four key leaves x H′ (0x00 ∷ []) (replicate 29 0x00) ≡ refused 5 0
   pub one-byte-verify : verifyAnswer four key (0x03 ∷ []) H′ (0x00 ∷ []) (opening bits16 (shapeOf key) leaves (0x03 ∷ [])) proof ≡ refused 5 0
   pub no-variables : testAnswer four (changed key 0 0x02) [] ≡ refused 2 0
-  -- all values of Δ_0, with QS1 changed one, with QS0 changed none
-  pub honest-passes : passing proof ≡ 16
-  pub QS1-passes : passing (changed proof 28 0x01) ≡ 1
-  pub QS0-passes : passing (changed proof 23 0x01) ≡ 0

@@ -28,8 +28,7 @@ use Rattle.protocol.specs.Forms.{χAt}
 use Rattle.protocol.specs.Prover.{cSection, dSection, ũSection, ṼSection, qs0Section, qs1Section, proofOf}
 use Rattle.protocol.specs.Answers.{accepted, word}
 use Rattle.protocol.specs.Calls.{verifyAnswer}
-use Rattle.protocol.specs.Counting.{opening}
-use Rattle.protocol.specs.Statements.{candidateBytes}
+use Rattle.protocol.specs.Counting.{opening, candidateBytes}
 
 abbrev pub four : Setting
 four = setting 4

@@ -26,7 +26,7 @@ use Rattle.protocol.specs.Verifier.{W, correctionAt, candidate, batchedE
 use Rattle.protocol.specs.Answers.{Answer, accepted, refused, Question, ask, allYes, word, Published}
 use Rattle.protocol.specs.Questions.{fails, witnessForm, treeOf, leavesExact, leavesSpare, consistentIn, productIn}
 use Rattle.protocol.specs.Calls.{testAnswer, commitAnswer, hashAnswer, batchAnswer, proveAnswer, verifyAnswer, testForm, commitForm, batchForm, proveForm, honestForm, verifyForm, wellFormed}
-use Rattle.protocol.specs.Counting.{opening, acceptedCount, factor}
+use Rattle.protocol.specs.Counting.{opening, candidateBytes, acceptedCount, factor}
 use Rattle.protocol.specs.Coefficients.{conditions}
 
 -- A refusal is that of a question which gets a no after all before it got a yes.
@@ -114,11 +114,9 @@ module _ (A : Alphabet) where
     errorOf e i = error A (shapeOf key) key i (candidateOf e)
 
     -- A candidate is the coordinates of a witness of the right form, and its errors are that witness's.
-    abbrev pub candidateBytes : ℕ → List ℕ
-    candidateBytes e = A .pack (shapeOf key .n) (λ c. A .symbolOf (candidateOf e c))
-
     abbrev pub CandidateIsWitness : Type 0
-    CandidateIsWitness = (e : ℕ) → (witnessForm A (shapeOf key) (candidateBytes e) ≡ true) × ((i : ℕ) → error A (shapeOf key) key i (sym A (candidateBytes e)) ≡ errorOf e i)
+    CandidateIsWitness = (e : ℕ) → (witnessForm A (shapeOf key) (candidateBytes A key leaves proof e) ≡ true)
+        × ((i : ℕ) → error A (shapeOf key) key i (sym A (candidateBytes A key leaves proof e)) ≡ errorOf e i)
 
     -- The columns that hide a failing candidate, and those that hide one that fails nothing: of anything, well-formed
     -- or not.

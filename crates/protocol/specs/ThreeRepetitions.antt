@@ -1,5 +1,5 @@
 -- An example over GF(16) with three repetitions, n = 5, m = 1, τ = 3, t = 2: C has two rows, so that their order shows.
--- proofs/ThreeRepetitions computes it.
+-- proofs/ThreeRepetitions computes it. Its whole proof, and what the verifier answers, the crate `examples` has.
 -- The data and the expected results are sitting 1 of the vectors masks-degree4.rsp (tests/reference), made from the
 -- papers by other hands.
 --   key, witness, leaves, H′, χ, Δ == what is lent;  sizes == the sizes that the key's header has
@@ -12,7 +12,7 @@ use Prim.Native.Nat.{ℕ}
 use Rattle.protocol.specs.Binary.{bits16}
 use Rattle.protocol.specs.Shape.{Shape, shapeOf}
 use Rattle.protocol.specs.Prover.{cSection}
-use Rattle.protocol.specs.Answers.{Answer, accepted, refused}
+use Rattle.protocol.specs.Answers.{Answer, refused}
 use Rattle.protocol.specs.Calls.{verifyAnswer}
 use Rattle.protocol.specs.Counting.{opening}
 use Rattle.protocol.specs.SmallExample.{four}
@@ -65,8 +65,6 @@ pub record ThreeRepetitions : Type 0 where
   pub header-is : shapeOf key ≡ sizes
   -- C_1, then C_2
   pub C-is : cSection bits16 sizes leaves ≡ 0x15 ∷ 0x2E ∷ 0x03 ∷ 0xA4 ∷ 0x78 ∷ 0x03 ∷ []
-  pub accepts : reply (proofWith (0x15 ∷ 0x2E ∷ 0x03 ∷ 0xA4 ∷ 0x78 ∷ 0x03 ∷ [])) ≡ accepted
-  pub exchanged : reply (proofWith (0xA4 ∷ 0x78 ∷ 0x03 ∷ 0x15 ∷ 0x2E ∷ 0x03 ∷ [])) ≡ refused 15 1
   -- the highest spare bit of the first row, and of the second
   pub first-spare-set : reply (proofWith (0x15 ∷ 0x2E ∷ 0x83 ∷ 0xA4 ∷ 0x78 ∷ 0x03 ∷ [])) ≡ refused 13 0
   pub second-spare-set : reply (proofWith (0x15 ∷ 0x2E ∷ 0x03 ∷ 0xA4 ∷ 0x78 ∷ 0x83 ∷ [])) ≡ refused 13 0

@@ -1,9 +1,9 @@
 -- The refusals of each call, computed.
 -- Assumes nothing.
 use mathlib.Core.Path.{refl}
 use Rattle.protocol.specs.SmallExample.{key, witness, leaves, H′, χ, Δ, proof, opened}
-use Rattle.protocol.specs.Refusals.{Refusals, Taken}
+use Rattle.examples.specs.Refusals.{Refusals, Taken}
 use Rattle.protocol.proofs.Computing.{computing}
 
 pub refusals-are : Refusals
 unfolding computing key witness leaves H′ χ Δ proof opened
