@@ -133,8 +133,16 @@ wait_aside() {
     return "$status_aside"
 }
 
-# Ends what runs aside, with all that it has started.
+# Ends what runs aside, with all that it has started. What that runs aside in turn is of another group, and ended by its
+# own trap: so it is asked to end, and killed if it has not within five seconds.
 end_aside() {
-    [ -z "$group" ] || kill -s KILL -- "-$group" 2>/dev/null || true
+    [ -n "$group" ] || return 0
+    if kill -s TERM -- "-$group" 2>/dev/null; then
+        (sleep 5 && kill -s KILL -- "-$group") >/dev/null 2>&1 &
+        killer=$!
+        wait "$group" 2>/dev/null || true
+        { kill "$killer" && wait "$killer"; } 2>/dev/null || true
+        kill -s KILL -- "-$group" 2>/dev/null || true
+    fi
     group=
 }

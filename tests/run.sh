@@ -41,11 +41,14 @@ quick_folder() {
     fi
 }
 
-# rt proves each crate from nothing, tries the must-fail edits, and runs each program.
+# rt proves each crate from nothing, tries the must-fail edits, and runs each program. It waits for all of a batch before
+# it begins the next: with four to a batch, which is its most on larger machines, two cores have less to wait for.
 crates=$(grep -c : crates.txt)
 echo "Every proof and every test, from nothing: about 35 minutes on two cores. First $crates crates, then" \
-    "$(find crates -name '*.edit' | wc -l) edits that must be refused."
-with_progress "$crates" "$log" env TMPDIR="$(quick_folder)" rt ci || {
+    "$(find crates -name '*.edit' | wc -l) edits that must be refused, with the other tests beside them."
+: >"$log"
+aside "$besides" sh tests/beside.sh "$log"
+with_progress "$crates" "$log" env TMPDIR="$(quick_folder)" RT_JOBS="${RT_JOBS:-4}" rt ci || {
     tail -n 60 "$log"
     fail "rt ci"
 }
@@ -55,22 +58,14 @@ case $verdict in
 *) fail "rt ci: $verdict" ;;
 esac
 
+wait_aside || {
+    tail -n 60 "$besides"
+    fail "a test beside rt ci"
+}
+grep ': passed$' "$besides"
 step "why each edit was refused" sh tests/edits.sh
 step "line counts of the audit guide" sh tests/counts.sh
 step "the forms that 01 names" sh tests/forms.sh
 step "literals of the kernels" sh tests/literals.sh
 step "what the scripts share" sh tests/scripts.sh
-# What needs no library, so that it can run while that is built. rt has built the check program.
-aside "$besides" sh -c '
-    cargo test --quiet --release --offline --manifest-path tests/reference/Cargo.toml -- --test-threads=1 &&
-        cargo test --quiet --release --offline --manifest-path tests/shapes/Cargo.toml --target-dir target/shapes &&
-        MQCHECK=target/bin/mqcheck sh tests/mqcheck.sh'
-# rt ci has just proved every crate: the archive is built from them.
-step "the library from C, C++ and Rust" sh tests/c.sh
-wait_aside || {
-    tail -n 60 "$besides"
-    fail "the Rust rendering, or the check program"
-}
-echo "the Rust rendering and the check program: passed"
-
 echo "$verdict"

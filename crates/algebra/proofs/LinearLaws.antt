@@ -7,8 +7,8 @@ use mathlib.Core.Bool.{Bool, true, false}
 use Prim.Native.Nat.{ℕ, zero, suc}
 use lib.Dec.{T}
 use Rattle.algebra.specs.Bits.{Bits, plus, zeros, add, scale, onBasis, everywhere}
-use Rattle.algebra.specs.BitField.{shift, out, xtime, times, mul}
-use Rattle.algebra.proofs.BitsLaws.{pair, plus-comm, add-assoc, add-zero, add-self, add-zero-r, add-four, both-left, both-right}
+use Rattle.algebra.specs.BitField.{addIf, shift, out, xtime, times, mul}
+use Rattle.algebra.proofs.BitsLaws.{pair, plus-comm, add-comm, add-assoc, add-zero, add-self, add-zero-r, add-four, both-left, both-right}
 
 abbrev pub Linear : (n m : ℕ) → (Bits n → Bits m) → Type 0
 Linear n m f = (a b : Bits n) → f (add n a b) ≡ add m (f a) (f b)
@@ -100,27 +100,45 @@ unfolding out add
 out-add zero c d a b = refl
 out-add (suc n) c d a b = out-add n (a .0) (b .0) (a .1) (b .1)
 
-pub xtime-linear : (r : ℕ) (m : Bits r) → Linear r r (xtime r m)
+add-if : (n : ℕ) (c : Bool) (v w : Bits n) → addIf n c v w ≡ add n (scale n c v) w
+unfolding addIf scale
+add-if n true v w = refl
+add-if n false v w = sym (add-zero n w)
+
+xtime-is : (r : ℕ) (m v : Bits r) → xtime r m v ≡ add r (shift r false v) (scale r (out r false v) m)
 unfolding xtime
+xtime-is r m v = add-if r (out r false v) m (shift r false v) ∙ add-comm r (scale r (out r false v) m) (shift r false v)
+
+pub times-is : (r : ℕ) (m : Bits r) (k : ℕ) (a : Bits (suc k)) (b : Bits r) → times r m (suc k) a b ≡ add r (scale r (a .0) b) (times r m k (a .1) (xtime r m b))
+unfolding times
+times-is r m k a b = add-if r (a .0) b (times r m k (a .1) (xtime r m b))
+
+pub xtime-linear : (r : ℕ) (m : Bits r) → Linear r r (xtime r m)
 xtime-linear r m a b =
-    ap₂ (add r) (shift-add r false false a b)
+    xtime-is r m (add r a b)
+    ∙ ap₂ (add r) (shift-add r false false a b)
     (ap (λ (c : Bool). scale r c m) (out-add r false false a b) ∙ scale-plus r (out r false a) (out r false b) m)
     ∙ add-four r (shift r false a) (shift r false b) (scale r (out r false a) m) (scale r (out r false b) m)
+    ∙ sym (ap₂ (add r) (xtime-is r m a) (xtime-is r m b))
 
 times-left : (r : ℕ) (m : Bits r) (k : ℕ) (b : Bits r) → Linear k r (λ a. times r m k a b)
 unfolding times add
 times-left r m zero b x y = sym (add-self r (zeros r))
 times-left r m (suc k) b x y =
-    ap₂ (add r) (scale-plus r (x .0) (y .0) b) (times-left r m k (xtime r m b) (x .1) (y .1))
+    times-is r m k (add (suc k) x y) b
+    ∙ ap₂ (add r) (scale-plus r (x .0) (y .0) b) (times-left r m k (xtime r m b) (x .1) (y .1))
     ∙ add-four r (scale r (x .0) b) (scale r (y .0) b) (times r m k (x .1) (xtime r m b)) (times r m k (y .1) (xtime r m b))
+    ∙ sym (ap₂ (add r) (times-is r m k x b) (times-is r m k y b))
 
 times-right : (r : ℕ) (m : Bits r) (k : ℕ) (a : Bits k) → Linear r r (times r m k a)
 unfolding times
 times-right r m zero a x y = sym (add-self r (zeros r))
 times-right r m (suc k) a x y =
-    ap₂ (add r) (scale-linear r (a .0) x y)
+    times-is r m k a (add r x y)
+    ∙ ap₂ (add r) (scale-linear r (a .0) x y)
     (ap (times r m k (a .1)) (xtime-linear r m x y) ∙ times-right r m k (a .1) (xtime r m x) (xtime r m y))
     ∙ add-four r (scale r (a .0) x) (scale r (a .0) y) (times r m k (a .1) (xtime r m x)) (times r m k (a .1) (xtime r m y))
+    ∙ sym (ap₂ (add r) (times-is r m k a x) (times-is r m k a y))
 
 pub mul-left : (r : ℕ) (m b : Bits r) → Linear r r (λ a. mul r m a b)
 unfolding mul

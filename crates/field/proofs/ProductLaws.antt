@@ -15,6 +15,7 @@ use Rattle.algebra.specs.Bits.{Bits, add, scale, bit, elem, byte}
 use Rattle.algebra.specs.BitField.{xtime, times, mul}
 use Rattle.algebra.proofs.BitsLaws.{pair, add-assoc, add-zero, add-zero-r}
 use Rattle.algebra.proofs.ByteLaws.{elem-xor, elem-scale, elem-zero, elem-byte, byte-elem, byte-lt}
+use Rattle.algebra.proofs.LinearLaws.{times-is}
 use Rattle.algebra.proofs.TestLaws.{everyBelow, every-at}
 
 -- x under a mask of ones or of zeros is x times a bit
@@ -58,6 +59,7 @@ module _ (r : ℕ) (m : Bits r) where
   bit-step k a x s =
       ap (λ v. add r v (times r m k (elem k (a / 2)) (xtime r m (elem r x)))) (elem-xor r s (x * (a % 2)) ∙ ap (add r (elem r s)) (elem-scale r x (a % 2) (mod-lt a (lit< tt))))
       ∙ add-assoc r (elem r s) (scale r (bit (a % 2)) (elem r x)) (times r m k (elem k (a / 2)) (xtime r m (elem r x)))
+      ∙ ap (add r (elem r s)) (sym (times-is r m k (elem (suc k) a) (elem r x)))
 
   still-step : (n a x s : ℕ) → 0 < n → still (n - 1) (a / 2) (xtime r m (elem r x)) (bitXor s (x * (a % 2))) ≡ still n a (elem r x) s
   still-step zero a x s h = absurd (not-suc-le-zero h)
