@@ -10,3 +10,4 @@ pub mod FormLaws
 pub mod Choice
 pub mod Hiding
 pub mod Settings
+pub mod SmallHiding

@@ -3,3 +3,4 @@ pub mod View
 pub mod Hidden
 pub mod Hiding
 pub mod Settings
+pub mod SmallHiding
