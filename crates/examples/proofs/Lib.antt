@@ -13,3 +13,4 @@ pub mod ExampleFactors
 pub mod ChangedProofs
 pub mod CountedExample
 pub mod ThreeProof
+pub mod SharedMask

@@ -6,3 +6,4 @@ pub mod CheckLine
 pub mod ChangedProofs
 pub mod CountedExample
 pub mod ThreeProof
+pub mod SharedMask

@@ -24,7 +24,7 @@ module _ (A : Alphabet) (laws : Lawful A) where
       (form, ap (λ z. viewOf A key z x Δ H′ χ) (given-back A (shapeOf key) leaves Δ (h .exact) (in-tree A laws key leaves x Δ h) leaves (h .exact) (form .0) refl))
 
   -- with hidden leaves of the right form full leaves stay honest, for any solution
-  with-honest : (key leaves x Δ hidden x′ : List ℕ) → Honest A key leaves x Δ → HiddenForm A (shapeOf key) hidden → Solution A key x′ → Honest A key (withHidden A (shapeOf key) leaves Δ hidden) x′ Δ
+  pub with-honest : (key leaves x Δ hidden x′ : List ℕ) → Honest A key leaves x Δ → HiddenForm A (shapeOf key) hidden → Solution A key x′ → Honest A key (withHidden A (shapeOf key) leaves Δ hidden) x′ Δ
   with-honest key leaves x Δ hidden x′ h f sol = record {
     sizes = h .sizes;
     exact = with-exact A (shapeOf key) leaves Δ hidden (h .exact) (f .0);

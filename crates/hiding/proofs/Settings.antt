@@ -14,12 +14,13 @@ use Rattle.protocol.proofs.AnswerLaws.{all-yes, yes-all}
 use Rattle.protocol.proofs.BinaryLaws.{binary-lawful}
 use Rattle.hiding.specs.Masks.{OneMask}
 use Rattle.hiding.specs.View.{View, viewOf}
+use Rattle.hiding.specs.Hidden.{HiddenForm, withHidden}
 use Rattle.hiding.specs.Hiding.{Solution, Challenge, Honest, Gives}
 use Rattle.hiding.specs.Settings.{HonestIn, GivesIn, HiddenLeavesIn, FullLeavesIn, KeepsWitness}
 use Rattle.hiding.proofs.MaskLaws.{mask-of}
 use Rattle.hiding.proofs.FormLaws.{is-replacement}
 use Rattle.hiding.proofs.Choice.{hidden-leaves}
-use Rattle.hiding.proofs.Hiding.{own-hidden, full-leaves, favours-none, corresponding}
+use Rattle.hiding.proofs.Hiding.{own-hidden, with-honest, full-leaves, favours-none, corresponding}
 
 module _ (g : Setting) where
   abbrev A : Alphabet
@@ -56,6 +57,12 @@ module _ (g : Setting) where
         solved = k .solution .solved;
         challenge = k .challenge;
       }
+
+  -- so full leaves with hidden ones of the right form are taken, for any solution
+  pub with-taken : (key leaves x Δ H′ χ hidden x′ : List ℕ) → HonestIn g key leaves x Δ H′ χ → HiddenForm A (shapeOf key) hidden → Solution A key x′
+      → HonestIn g key (withHidden A (shapeOf key) leaves Δ hidden) x′ Δ H′ χ
+  with-taken key leaves x Δ H′ χ hidden x′ h f sol =
+      is-taken key leaves x Δ H′ χ (withHidden A (shapeOf key) leaves Δ hidden) x′ h (with-honest A laws key leaves x Δ hidden x′ (is-honest key leaves x Δ H′ χ h) f sol)
 
   hidden-leaves-in : HiddenLeavesIn g
   hidden-leaves-in key leaves x Δ H′ χ x′ h sol = hidden-leaves A laws one key leaves x Δ H′ χ x′ (is-honest key leaves x Δ H′ χ h) sol
