@@ -21,8 +21,15 @@ use Rattle.protocol.proofs.SmallExample.{small-bytes, small-proof, small-replie
 use Rattle.hiding.specs.View.{View, viewOf}
 use Rattle.hiding.specs.Hidden.{hiddenForm, HiddenForm, hiddenOf, treeWith, withHidden}
 use Rattle.hiding.specs.Hiding.{Solution, Challenge, Honest, Keeps}
-use Rattle.hiding.specs.SmallHiding.{other, Δ₀, hidden, hidden₀, ownHidden, seen, SmallHiding, SmallHiding₀, NoChoice, keeps, SmallApplied}
+use Rattle.hiding.specs.SmallHiding.{other, Δ₀, hidden, hidden₀, ownHidden, seen, OneIsOne, SmallHiding, SmallHiding₀, NoChoice, keeps, SmallApplied}
 use Rattle.hiding.proofs.Settings.{keeps-witness}
+
+pub one-is-one : OneIsOne
+one-is-one = record {
+  one = ((5, refl), λ x y p q. p ∙ sym q);
+  none = λ e. absurd (omega (arith, e .0 .1));
+  two = λ e. let z : _≡_ {A = ℕ} 0 1 = e .1 0 1 (lit< tt) (lit< tt) in absurd (omega (arith, z));
+}
 
 pub small-hiding : SmallHiding
 unfolding computing key leaves H′ χ Δ proof opened hiddenForm hiddenOf treeWith withHidden other hidden ownHidden

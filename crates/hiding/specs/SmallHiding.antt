@@ -9,7 +9,7 @@
 use mathlib.Core.Path.{_≡_}
 use mathlib.Core.Bool.{true, false}
 use mathlib.Core.List.{List, [], _∷_}
-use Prim.Native.Nat.{ℕ}
+use Prim.Native.Nat.{ℕ, _<_}
 use lib.ListN.{set}
 use Rattle.protocol.specs.Strings.{bytes}
 use Rattle.protocol.specs.Binary.{bits16}
@@ -20,7 +20,7 @@ use Rattle.protocol.specs.Counting.{opening}
 use Rattle.protocol.specs.SmallExample.{changed, sizes, key, witness, leaves, H′, χ, Δ, proof, opened}
 use Rattle.hiding.specs.View.{View, viewOf}
 use Rattle.hiding.specs.Hidden.{hiddenForm, hiddenOf, withHidden}
-use Rattle.hiding.specs.Hiding.{Honest, Keeps}
+use Rattle.hiding.specs.Hiding.{ExactlyOne, Honest, Keeps}
 
 unfoldable pub other : List ℕ
 other = 0x3D ∷ 0x01 ∷ []
@@ -39,6 +39,12 @@ ownHidden = 0x14 ∷ 0x6D ∷ 0x05 ∷ 0x9A ∷ 0xB4 ∷ 0x05 ∷ []
 
 abbrev pub seen : View
 seen = record { opened = opened; Δ = Δ; H′ = H′; χ = χ; proof = proof }
+
+-- What `ExactlyOne` takes: one number, and neither none nor two.
+pub record OneIsOne : Type 0 where
+  pub one : ExactlyOne (λ (x : ℕ). x ≡ 5)
+  pub none : ExactlyOne (λ (x : ℕ). x < 0) → ⊥
+  pub two : ExactlyOne (λ (x : ℕ). x < 2) → ⊥
 
 -- The other solution and its hidden leaves: the same opened leaves and the same bytes.
 pub record SmallHiding : Type 0 where
