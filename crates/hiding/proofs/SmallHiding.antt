@@ -1,7 +1,7 @@
 -- Request 8 in the small example, computed on the definitions, and the theorem applied to it.
 -- Assumes nothing.
 use mathlib.Core.Path.{_≡_, refl, sym, ap, _∙_, subst}
-use mathlib.Core.Bool.{true}
+use mathlib.Core.Bool.{true, false≢true}
 use mathlib.Core.List.{List}
 use Prim.Native.Nat.{ℕ, _≤_, _<_}
 use native.Mathlib.Omega.{arith}
@@ -21,7 +21,7 @@ use Rattle.protocol.proofs.SmallExample.{small-bytes, small-proof, small-replie
 use Rattle.hiding.specs.View.{View, viewOf}
 use Rattle.hiding.specs.Hidden.{hiddenForm, HiddenForm, hiddenOf, treeWith, withHidden}
 use Rattle.hiding.specs.Hiding.{Solution, Challenge, Honest, Keeps}
-use Rattle.hiding.specs.SmallHiding.{other, Δ₀, hidden, hidden₀, ownHidden, seen, OneIsOne, SmallHiding, SmallHiding₀, NoChoice, keeps, SmallApplied}
+use Rattle.hiding.specs.SmallHiding.{other, Δ₀, hidden, hidden₀, ownHidden, seen, OneIsOne, SmallHiding, SmallHiding₀, keeps, NoChoice, MaskValues, SmallView, SmallApplied}
 use Rattle.hiding.proofs.Settings.{keeps-witness}
 
 pub one-is-one : OneIsOne
@@ -49,15 +49,28 @@ pub small-hiding₀ : SmallHiding₀
 unfolding computing key leaves H′ χ proof hiddenForm treeWith withHidden other Δ₀ hidden₀
 small-hiding₀ = record { hidden-form = refl; same-opened = refl; same-proof = refl }
 
+pub mask-values : MaskValues
+unfolding computing
+mask-values = record { four-ones = refl; eight-ones = refl }
+
+-- byte 11 of a proof is the first of d
+own-differs : keeps Δ ownHidden → ⊥
+unfolding computing key witness leaves H′ χ Δ treeWith withHidden other ownHidden
+own-differs k = let z : _≡_ {A = ℕ} 0xBC 0x30 = ap (λ (v : View). getD (v .proof) 11 0) (k .1) in absurd (omega (arith, z))
+
 pub no-choice : NoChoice
 unfolding computing key leaves H′ χ Δ proof hiddenForm treeWith withHidden other hidden
 no-choice = record {
   spare-form = refl;
   spare-proof = refl;
-  entry-form = refl;
-  entry-no-byte = λ b. absurd (omega (arith, b 0 (lit< tt)));
+  entry-form = λ f. absurd (omega (arith, f .1 0 (lit< tt)));
   entry-proof = refl;
+  own-none = own-differs;
+  no-solution = λ s. false≢true (s .solved);
 }
+
+pub small-view : SmallView
+small-view = λ i. record { opened = (ap (λ s. opening bits16 s leaves Δ) (small-bytes .header-is) ∙ small-replies .opening-is) i; Δ = Δ; H′ = H′; χ = χ; proof = small-proof i }
 
 -- bytes, by computing
 bytes-by : (s : List ℕ) → allBelow (length s) (λ i. leb (getD s i 0) 255) ≡ true → bytes s
@@ -101,7 +114,6 @@ at-header D h form b o p =
 pub small-applied : SmallApplied
 unfolding fieldOf
 small-applied = record {
-  view-is = λ i. record { opened = (ap (λ s. opening bits16 s leaves Δ) (small-bytes .header-is) ∙ small-replies .opening-is) i; Δ = Δ; H′ = H′; χ = χ; proof = small-proof i };
   honest = honest-at Δ challenge;
   honest₀ = honest-at Δ₀ challenge₀;
   keeps-view = here;

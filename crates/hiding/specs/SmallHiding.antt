@@ -11,16 +11,18 @@ use mathlib.Core.Bool.{true, false}
 use mathlib.Core.List.{List, [], _∷_}
 use Prim.Native.Nat.{ℕ, _<_}
 use lib.ListN.{set}
-use Rattle.protocol.specs.Strings.{bytes}
-use Rattle.protocol.specs.Binary.{bits16}
+use Rattle.algebra.specs.Coded.{Coded}
+use Rattle.protocol.specs.Alphabet.{Alphabet}
+use Rattle.protocol.specs.Binary.{bits256, bits16}
 use Rattle.protocol.specs.Leaves.{leafAt}
 use Rattle.protocol.specs.Prover.{proofOf}
 use Rattle.protocol.specs.Questions.{witnessForm, solves}
 use Rattle.protocol.specs.Counting.{opening}
 use Rattle.protocol.specs.SmallExample.{changed, sizes, key, witness, leaves, H′, χ, Δ, proof, opened}
+use Rattle.hiding.specs.Masks.{maskSum}
 use Rattle.hiding.specs.View.{View, viewOf}
-use Rattle.hiding.specs.Hidden.{hiddenForm, hiddenOf, withHidden}
-use Rattle.hiding.specs.Hiding.{ExactlyOne, Honest, Keeps}
+use Rattle.hiding.specs.Hidden.{hiddenForm, HiddenForm, hiddenOf, withHidden}
+use Rattle.hiding.specs.Hiding.{ExactlyOne, Solution, Honest, Keeps}
 
 unfoldable pub other : List ℕ
 other = 0x3D ∷ 0x01 ∷ []
@@ -66,20 +68,29 @@ pub record SmallHiding₀ : Type 0 where
   pub same-opened : opening bits16 sizes (withHidden bits16 sizes leaves Δ₀ hidden₀) Δ₀ ≡ opening bits16 sizes leaves Δ₀
   pub same-proof : proofOf bits16 key (withHidden bits16 sizes leaves Δ₀ hidden₀) other H′ χ ≡ proof
 
--- What is no choice of hidden leaves, though it makes the same proof: a spare bit set, and an entry that is no byte.
-pub record NoChoice : Type 0 where
-  pub spare-form : hiddenForm bits16 sizes (changed hidden 5 0x08) ≡ false
-  pub spare-proof : proofOf bits16 key (withHidden bits16 sizes leaves Δ (changed hidden 5 0x08)) other H′ χ ≡ proof
-  pub entry-form : hiddenForm bits16 sizes (set hidden 0 0x198) ≡ true
-  pub entry-no-byte : bytes (set hidden 0 0x198) → ⊥
-  pub entry-proof : proofOf bits16 key (withHidden bits16 sizes leaves Δ (set hidden 0 0x198)) other H′ χ ≡ proof
-
 abbrev pub keeps : List ℕ → List ℕ → Type 0
 keeps challenge h = Keeps bits16 key leaves witness challenge H′ χ other h
 
+-- What is no choice of hidden leaves, though it makes the same proof: a spare bit set, and an entry that is no byte.
+-- The prover's own are none for the other solution; and what does not solve the system is no solution.
+pub record NoChoice : Type 0 where
+  pub spare-form : hiddenForm bits16 sizes (changed hidden 5 0x08) ≡ false
+  pub spare-proof : proofOf bits16 key (withHidden bits16 sizes leaves Δ (changed hidden 5 0x08)) other H′ χ ≡ proof
+  pub entry-form : HiddenForm bits16 sizes (set hidden 0 0x198) → ⊥
+  pub entry-proof : proofOf bits16 key (withHidden bits16 sizes leaves Δ (set hidden 0 0x198)) other H′ χ ≡ proof
+  pub own-none : keeps Δ ownHidden → ⊥
+  pub no-solution : Solution bits16 key (changed other 0 0x02) → ⊥
+
+-- The mask of four and of eight coordinates that are 1 is the sum of all powers.
+pub record MaskValues : Type 0 where
+  pub four-ones : bits16 .K .byte (maskSum bits16 (λ i. bits16 .K .elem 1)) ≡ 0x0F
+  pub eight-ones : bits256 .K .byte (maskSum bits256 (λ i. bits256 .K .elem 1)) ≡ 0xFF
+
+abbrev pub SmallView : Type 0
+SmallView = viewOf bits16 key leaves witness Δ H′ χ ≡ seen
+
 -- The theorem at the example: its hypotheses are met, and its one choice is the hidden leaves above.
 pub record SmallApplied : Type 0 where
-  pub view-is : viewOf bits16 key leaves witness Δ H′ χ ≡ seen
   pub honest : Honest bits16 key leaves witness Δ
   pub honest₀ : Honest bits16 key leaves witness Δ₀
   pub keeps-view : keeps Δ hidden
