@@ -6,10 +6,10 @@
  *     hiding              each repetition has its own mask, as the protocol says
  *     hiding shared       one mask for all repetitions, as before request 4: no choice is left for other solutions
  *     hiding exchanged    the two masks exchanged, but the view as the protocol says: no choice is left
- *     hiding library      as without a word, but the proofs are mq_prove's, at degree 4
+ *     hiding library      the proofs are mq_prove's, at degree 4, with one variable
  *
  * It exits with 0 where exactly one choice was left each time. tests/hiding.sh says which of these must fail.
- * The key has two variables and one equation, x_0 x_1 = 0, with the solutions 00, 10 and 01. There are two repetitions
+ * The key has two variables and one equation, x_0 x_1 = 0, with the solutions 10, 00 and 01. There are two repetitions
  * and one hash row. Over GF(4) every challenge is taken, over GF(16) those of `challenges`.
  */
 #include <stdint.h>
@@ -218,49 +218,56 @@ static int counted(enum masks masks)
 }
 
 #ifdef LIBRARY
-enum { DEGREE = 4, LEAVES = 16 };
+/* One variable, so that the choices are a million, and the equation x_0 x_0 + x_0 = 0, which both witnesses solve. */
+enum { DEGREE = 4, LEAVES = 16, VARIABLES = 1 };
+enum { LEAF_BITS = MQ_LEAF_BITS(VARIABLES, 1, TAU, 1, DEGREE) };
+enum { ROW_BITS = MQ_HASH_ROW_BITS(VARIABLES, 1, TAU, 1, DEGREE) };
 
-static void put_leaf(uint8_t *leaves, unsigned e, unsigned j, unsigned leaf)
+static void put(uint8_t *at, unsigned string, unsigned bits)
 {
-    leaves[(e * LEAVES + j) * 2] = (uint8_t)leaf;
-    leaves[(e * LEAVES + j) * 2 + 1] = (uint8_t)(leaf >> 8);
+    string &= (1u << bits) - 1;
+    at[0] = (uint8_t)string;
+    at[1] = (uint8_t)(string >> 8);
 }
 
-/* The same of mq_prove, for the first solution and another at a challenge, and at 0. */
+/* The same of mq_prove: the proof with the witness 0, the choices with 1. */
 static int counted_by_library(void)
 {
-    static const uint8_t key[] = { N, 0, 1, 0, TAU, 0, 1, 0, 2, 0, 0, 0, 2, 0, 1, 0, 0, 0, 0, 1, 0, 0, 0, 0 };
+    static const uint8_t key[] = { VARIABLES, 0, 1, 0, TAU, 0, 1, 0, 1, 0, 0, 0, 1, 1, 0, 0, 0, 1, 1, 0, 0, 0, 0 };
+    static const uint8_t zero = 0, one = 1;
     struct lent lent = draw_lent(gf16, OWN, 1);
-    uint8_t leaves[MQ_LEAVES_SIZE(N, 1, TAU, 1, DEGREE)], proof[MQ_PROOF_SIZE(N, 1, TAU, 1, DEGREE)], out[sizeof proof];
-    uint8_t row[] = { (uint8_t)lent.hash_row, (uint8_t)(lent.hash_row >> 8) };
+    uint8_t leaves[MQ_LEAVES_SIZE(VARIABLES, 1, TAU, 1, DEGREE)];
+    uint8_t row[MQ_HASH_MATRIX_SIZE(VARIABLES, 1, TAU, 1, DEGREE)];
+    uint8_t proof[MQ_PROOF_SIZE(VARIABLES, 1, TAU, 1, DEGREE)], out[sizeof proof];
     uint8_t batching[] = { (uint8_t)lent.batching[0], (uint8_t)lent.batching[1] };
-    int one = 1;
+    int ones = 1;
     for (unsigned e = 0; e < TAU; e++)
         for (unsigned j = 0; j < LEAVES; j++)
-            put_leaf(leaves, e, j, lent.leaves[e][j]);
-    uint8_t first = (uint8_t)solutions[0], other = (uint8_t)solutions[2];
-    if (mq_prove(key, sizeof key, DEGREE, leaves, sizeof leaves, &first, 1, row, sizeof row, batching, sizeof batching,
+            put(leaves + (e * LEAVES + j) * 2, lent.leaves[e][j], LEAF_BITS);
+    put(row, lent.hash_row, ROW_BITS);
+    if (mq_prove(key, sizeof key, DEGREE, leaves, sizeof leaves, &zero, 1, row, sizeof row, batching, sizeof batching,
                  proof, sizeof proof))
         return 0;
     for (unsigned i = 0; i < 2; i++) {
         const unsigned *delta = challenges[i];
+        uint8_t *hidden[] = { leaves + delta[0] * 2, leaves + (LEAVES + delta[1]) * 2 };
         unsigned long found = 0;
-        for (unsigned a = 0; a < 1u << leaf_length(&lent); a++) {
-            put_leaf(leaves, 0, delta[0], a);
-            for (unsigned b = 0; b < 1u << leaf_length(&lent); b++) {
-                put_leaf(leaves, 1, delta[1], b);
-                if (mq_prove(key, sizeof key, DEGREE, leaves, sizeof leaves, &other, 1, row, sizeof row, batching,
+        for (unsigned a = 0; a < 1u << LEAF_BITS; a++) {
+            put(hidden[0], a, LEAF_BITS);
+            for (unsigned b = 0; b < 1u << LEAF_BITS; b++) {
+                put(hidden[1], b, LEAF_BITS);
+                if (mq_prove(key, sizeof key, DEGREE, leaves, sizeof leaves, &one, 1, row, sizeof row, batching,
                              sizeof batching, out, sizeof out))
                     return 0;
                 found += !memcmp(out, proof, sizeof out);
             }
         }
-        printf("mq_prove, challenge %u %u: %lu\n", delta[0], delta[1], found);
-        one &= found == 1;
+        printf("mq_prove, GF(16), challenge %u %u: %lu\n", delta[0], delta[1], found);
+        ones &= found == 1;
         for (unsigned e = 0; e < TAU; e++)
-            put_leaf(leaves, e, delta[e], lent.leaves[e][delta[e]]);
+            put(hidden[e], lent.leaves[e][delta[e]], LEAF_BITS);
     }
-    return one;
+    return ones;
 }
 #endif
 

@@ -67,6 +67,7 @@ aside "$besides" sh -c '
         MQCHECK=target/bin/mqcheck sh tests/mqcheck.sh'
 # rt ci has just proved every crate: the archive is built from them.
 step "the library from C, C++ and Rust" sh tests/c.sh
+step "all choices of hidden leaves" sh tests/hiding.sh
 wait_aside || {
     tail -n 60 "$besides"
     fail "the Rust rendering, or the check program"

@@ -1,5 +1,7 @@
--- Vectors of bits with a dual are a basis: each vector is the sum of some of them, in one way. It is enough to compute this at the single bits.
---   bitAt n v i == bit i of v;  whole n b == the vector of the bits b;  spelled β v == Σ_{i<r} v_i·β_i;  Dual β γ == spelled β and spelled γ undo one another
+-- Vectors of bits with a dual are a basis: each vector is the sum of some of them, in one way. It is enough to compute
+-- this at the single bits.
+--   bitAt n v i == bit i of v;  whole n b == the vector of the bits b;  spelled β v == Σ_{i<r} v_i·β_i
+--   Dual β γ == spelled β and spelled γ undo one another
 -- Assumes nothing.
 use mathlib.Core.Path.{_≡_, refl, sym, ap, _∙_}
 use mathlib.Core.Bool.{Bool, true, false}

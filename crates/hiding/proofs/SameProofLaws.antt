@@ -1,5 +1,4 @@
--- Two honest sittings have the same sections exactly if what the rules give for them is the same, element by element.
---   Same == it is the same
+-- Two honest proofs have the same sections exactly if what the rules give for them is the same, element by element.
 -- Assumes nothing.
 use mathlib.Core.Path.{_≡_, sym, ap, _∙_}
 use mathlib.Core.List.{List}

@@ -1,11 +1,8 @@
 -- Request 8 in every setting.
 -- Assumes nothing.
-use mathlib.Core.Path.{_≡_}
-use mathlib.Core.Bool.{true}
 use mathlib.Core.List.{List}
 use Prim.Native.Nat.{ℕ}
 use Rattle.field.specs.Degrees.{fieldOf}
-use Rattle.protocol.specs.Strings.{bytes}
 use Rattle.protocol.specs.Alphabet.{Alphabet, Lawful}
 use Rattle.protocol.specs.Setting.{Setting, alphabetOf}
 use Rattle.protocol.specs.Shape.{shapeOf}
@@ -13,9 +10,9 @@ use Rattle.protocol.specs.Calls.{honestQuestions, honestForm}
 use Rattle.protocol.proofs.AnswerLaws.{all-yes, yes-all}
 use Rattle.protocol.proofs.BinaryLaws.{binary-lawful}
 use Rattle.hiding.specs.Masks.{OneMask}
-use Rattle.hiding.specs.View.{View, viewOf}
+use Rattle.hiding.specs.View.{viewOf}
 use Rattle.hiding.specs.Hidden.{HiddenForm, withHidden}
-use Rattle.hiding.specs.Hiding.{Solution, Challenge, Honest, Gives}
+use Rattle.hiding.specs.Hiding.{Solution, Honest, Gives}
 use Rattle.hiding.specs.Settings.{HonestIn, GivesIn, HiddenLeavesIn, FullLeavesIn, KeepsWitness}
 use Rattle.hiding.proofs.MaskLaws.{mask-of}
 use Rattle.hiding.proofs.FormLaws.{is-replacement}

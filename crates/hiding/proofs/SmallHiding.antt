@@ -3,7 +3,7 @@
 use mathlib.Core.Path.{_≡_, refl, sym, ap, _∙_, subst}
 use mathlib.Core.Bool.{true, false≢true}
 use mathlib.Core.List.{List}
-use Prim.Native.Nat.{ℕ, _≤_, _<_}
+use Prim.Native.Nat.{ℕ, _≤_}
 use native.Mathlib.Omega.{arith}
 use lib.Dec.{leb, lit<}
 use lib.ListN.{length, getD}
@@ -18,10 +18,10 @@ use Rattle.protocol.specs.SmallExample.{four, sizes, key, witness, leaves, H′
 use Rattle.protocol.proofs.TestLaws.{all-at, leb-le}
 use Rattle.protocol.proofs.Computing.{computing}
 use Rattle.protocol.proofs.SmallExample.{small-bytes, small-proof, small-replies}
-use Rattle.hiding.specs.View.{View, viewOf}
+use Rattle.hiding.specs.View.{View}
 use Rattle.hiding.specs.Hidden.{hiddenForm, HiddenForm, hiddenOf, treeWith, withHidden}
-use Rattle.hiding.specs.Hiding.{Solution, Challenge, Honest, Keeps}
-use Rattle.hiding.specs.SmallHiding.{other, Δ₀, hidden, hidden₀, ownHidden, seen, OneIsOne, SmallHiding, SmallHiding₀, keeps, NoChoice, MaskValues, SmallView, SmallApplied}
+use Rattle.hiding.specs.Hiding.{Solution, Challenge, Honest}
+use Rattle.hiding.specs.SmallHiding.{other, Δ₀, hidden, hidden₀, ownHidden, OneIsOne, SmallHiding, SmallHiding₀, keeps, NoChoice, MaskValues, SmallView, SmallApplied}
 use Rattle.hiding.proofs.Settings.{keeps-witness}
 
 pub one-is-one : OneIsOne

@@ -1,5 +1,5 @@
--- Request 8 in the small example of `protocol`, over GF(16): another solution of its key, and the hidden leaves that make
--- the very same proof with it, at the example's Δ and at Δ = 0. proofs/SmallHiding computes each statement.
+-- Request 8 in the small example of `protocol`, over GF(16): another solution of its key, and the hidden leaves that
+-- make the very same proof with it, at the example's Δ and at Δ = 0. proofs/SmallHiding computes each statement.
 --   other == that solution;  Δ₀ == the challenge 0 in both repetitions
 --   hidden, hidden₀ == the hidden leaves at Δ and at Δ₀, one of three bytes for each repetition
 --   ownHidden == the leaves that the example's prover hides at Δ

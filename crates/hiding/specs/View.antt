@@ -1,7 +1,7 @@
 -- What a verifier sees beside the key, which everyone has: "the opened leaves, challenges and proof".
 --   View == these strings
---   viewOf A key leaves x Δ H′ χ == those of an honest prover with full leaves and witness x: the leaves but leaf Δ_e of
---     each repetition e, the three challenges, and the proof that the rules give
+--   viewOf A key leaves x Δ H′ χ == those of an honest prover with full leaves and witness x: all leaves but leaf Δ_e
+--     of each repetition e, the three challenges, and the proof that the rules give
 -- Assumes nothing.
 use mathlib.Core.List.{List}
 use Prim.Native.Nat.{ℕ}

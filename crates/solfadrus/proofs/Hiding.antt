@@ -1,4 +1,4 @@
--- Request 8 of the calls: an accepted call of mq_prove was lent what is honest and wrote the definition's bytes, so that
+-- Request 8 of the calls: an accepted call of mq_prove was lent what is honest, and wrote the definition's bytes. So
 -- what `hiding` proves of the view holds of its output.
 -- Assumes nothing.
 use mathlib.Core.Path.{_≡_, sym, ap, _∙_}
@@ -15,19 +15,18 @@ use Rattle.protocol.specs.Frames.{framedLength}
 use Rattle.protocol.specs.Sections.{lengths}
 use Rattle.protocol.specs.Prover.{proofOf}
 use Rattle.protocol.specs.Answers.{accepted, word, written}
-use Rattle.protocol.specs.Questions.{ΔExact, solves}
+use Rattle.protocol.specs.Questions.{ΔExact}
 use Rattle.protocol.specs.Calls.{testPuts, provePuts, testAnswer, proveAnswer, honestQuestions, honestForm}
-use Rattle.protocol.specs.Counting.{opening}
 use Rattle.protocol.proofs.TestLaws.{eqb-same}
 use Rattle.protocol.proofs.AnswerLaws.{ask-accepts, all-yes, yes-all}
 use Rattle.protocol.proofs.Published.{all-published}
 use Rattle.hiding.specs.View.{View, viewOf}
 use Rattle.hiding.specs.Hidden.{HiddenForm, withHidden}
-use Rattle.hiding.specs.Hiding.{Solution, Challenge, Keeps}
+use Rattle.hiding.specs.Hiding.{Solution, Challenge}
 use Rattle.hiding.specs.Settings.{HonestIn, GivesIn}
 use Rattle.hiding.proofs.Settings.{keeps-witness, with-taken}
 use Rattle.solfadrus.specs.Demands.{TestTold, ProveWrites}
-use Rattle.solfadrus.specs.Hiding.{SameBytes, WrittenKeepsWitness, WrittenFavoursNone, CallsKeepWitness}
+use Rattle.solfadrus.specs.Hiding.{SameBytes, CallsKeepWitness}
 use Rattle.solfadrus.proofs.ToldLaws.{word-accepted}
 use Rattle.solfadrus.proofs.Demands.{yes-told, proved, accepted-writes}
 

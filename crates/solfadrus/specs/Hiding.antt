@@ -1,6 +1,6 @@
 -- Request 8 of the calls: what mq_prove wrote favours no solution.
---   SameBytes g key leaves′ x′ H′ χ before after leaves Δ == with these full leaves and x′, mq_prove answers 0 and writes
---     `after` over `before`, and what is opened at Δ is what is opened of `leaves`
+--   SameBytes g key leaves′ x′ H′ χ before after leaves Δ == with leaves′ and x′ mq_prove answers 0 and writes `after`
+--     over `before`, and what is opened of leaves′ at Δ is what is opened of `leaves`
 -- Each statement is of any output that mq_prove may be lent, of every witness that mq_test takes, and of every Δ that
 -- mq_verify takes, 0 included.
 -- Assumes nothing.
