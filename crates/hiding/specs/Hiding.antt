@@ -64,8 +64,9 @@ module _ (A : Alphabet) where
   abbrev pub FavoursNone : Type 0
   FavoursNone = (key x x′ leaves : List ℕ) (w : View) → Gives key x w leaves → Solution key x′ → ExactlyOne (Gives key x′ w)
 
-  -- The same as a map: full leaves go over to full leaves, the view with x to the same view with x′, and back. With
-  -- leaves drawn uniformly, the view's distribution is then the same whichever solution was used.
+  -- The same as a map: full leaves go over to full leaves, the view with x to the same view with x′, and back. Which
+  -- leaves are honest does not go by the solution, so this is a permutation of them. With leaves drawn uniformly, the
+  -- view's distribution is then the same whichever solution was used.
   pub record OneToOne (key Δ H′ χ x x′ : List ℕ) : Type 0 where
     pub over : (l : List ℕ) → Honest key l x Δ → bytes l → List ℕ
     pub over-honest : (l : List ℕ) (h : Honest key l x Δ) (b : bytes l) → Honest key (over l h b) x′ Δ × bytes (over l h b)
