@@ -160,11 +160,12 @@
  *              these: mq_burn_stack of solfadrus_util.h does it (tests/burn.c). It clears no
  *              registers.
  *
- * Under these duties a proof and its opened leaves are to tell nothing of the witness: each
- * repetition has mask coordinates of its own, so that its QS1 has a mask that no other has. That is
- * the argument of the papers. NO THEOREM of this version says it (SECURITY.md). The attack that
- * one mask for all repetitions would allow is mounted against the built library (tests/attack), and
- * does no better than guessing.
+ * Under these duties a proof and its opened leaves favour no solution of the system: for each,
+ * exactly one choice of the hidden leaves makes the same proof and opens to the same leaves, at
+ * either degree and at every delta. That is proved. SECURITY.md says what it shows, and what not:
+ * where there is one solution, that they tell nothing of it is the argument of the papers. It rests
+ * on each repetition having mask coordinates of its own. The attack that one mask for all would
+ * allow is mounted against the built library too (tests/attack).
  */
 
 #ifndef SOLFADRUS_H

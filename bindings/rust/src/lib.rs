@@ -15,8 +15,8 @@
 //! The calls do not wipe that stack. After one that took leaves it holds u, and u and the section d of the proof give
 //! the witness: call [`burn_stack`] after each call that took leaves or a witness.
 //!
-//! That a proof and its opened leaves tell nothing of the witness is the papers' argument, and no theorem of this
-//! version says it (`SECURITY.md`).
+//! A proof and its opened leaves favour no solution of the system: for each, exactly one choice of the hidden leaves
+//! gives them. That is proved, of leaves that are uniform and secret (`SECURITY.md`).
 //!
 //! # Example
 //!

@@ -1,32 +1,19 @@
--- A block of a block is a block; the bytes of a string hold its bits, and it has none past its end.
+-- A block of a part is a block; the bytes of a string hold its bits, and it has none past its end.
 -- Assumes nothing.
-use mathlib.Core.Path.{_≡_, refl, sym, ap, _∙_}
+use mathlib.Core.Path.{_≡_, sym, ap, _∙_}
 use mathlib.Core.Bool.{true}
-use mathlib.Core.List.{List, [], _∷_}
-use Prim.Native.Nat.{ℕ, zero, suc, _+_, _*_, _/_, _%_, _^_, _≤_, _<_}
-use native.Mathlib.Nat.{zero-div, add-mul, mul-assoc}
+use mathlib.Core.List.{List}
+use Prim.Native.Nat.{ℕ, _+_, _*_, _/_, _%_, _^_, _≤_, _<_}
+use native.Mathlib.Nat.{zero-div, add-mul}
 use native.Mathlib.Decide.{decLt}
 use native.Mathlib.Omega.{arith}
 use lib.ListN.{length, take, drop, List·getD-eq-default}
-use lib.Seq.{take-take, drop-drop}
+use lib.Seq.{drop-drop}
 use Rattle.protocol.specs.Lists.{part, blockAt}
 use Rattle.protocol.specs.Strings.{bytesFor, bit, spareZero}
+use Rattle.protocol.proofs.ListLaws.{part-take}
 use Rattle.protocol.proofs.StringLaws.{spare-at}
 use Rattle.strings.proofs.Rows.{row-end}
-
-part-take : (w a m : ℕ) (l : List ℕ) → a + w ≤ m → take w (drop a (take m l)) ≡ take w (drop a l)
-part-take w zero m l h = take-take w m l (omega arith)
-part-take w (suc a) zero l h = absurd (omega arith)
-part-take w (suc a) (suc m) [] h = refl
-part-take w (suc a) (suc m) (x ∷ l) h = part-take w a m l (omega arith)
-
--- row ρ of matrix i, of n rows, is row i·n + ρ of them all
-pub block-block : (s : List ℕ) (n w i ρ : ℕ) → ρ < n → blockAt (blockAt s (n * w) i) w ρ ≡ blockAt s w (i * n + ρ)
-unfolding blockAt part
-block-block s n w i ρ h =
-    let e : i * (n * w) + ρ * w ≡ (i * n + ρ) * w = ap (λ (k : ℕ). k + ρ * w) (sym (mul-assoc i n w)) ∙ sym (add-mul (i * n) ρ w) in
-    part-take w (ρ * w) (n * w) (drop (i * (n * w)) s) (row-end ρ n w h)
-    ∙ ap (take w) (drop-drop (ρ * w) (i * (n * w)) s ∙ ap (λ (k : ℕ). drop k s) e)
 
 -- block i of the part of a string from block f on is block f + i
 pub block-part : (s : List ℕ) (w f c i : ℕ) → i < c → blockAt (take (c * w) (drop (f * w) s)) w i ≡ blockAt s w (f + i)

@@ -24,13 +24,13 @@ use Rattle.protocol.specs.Key.{sectionA, sectionB, sectionY, aSym, bSym, ySym}
 use Rattle.protocol.specs.Forms.{quad, lin, yOf, error}
 use Rattle.protocol.specs.Questions.{equationHolds, solves}
 use Rattle.protocol.proofs.TestLaws.{T-true, T-false, all-of, all-at, first-at}
+use Rattle.protocol.proofs.ListLaws.{block-block}
 use Rattle.protocol.proofs.StringLaws.{bit-lt}
 use Rattle.strings.specs.Sums.{byteAt, xorSum}
 use Rattle.strings.proofs.SumLaws.{sum-same}
 use Rattle.strings.proofs.Meaning.{byte-sum, byte-bit, byte-scale}
 use Rattle.equations.specs.Equations.{rowProduct, rowOf, errorBit, keyError, FirstIn}
 use Rattle.equations.specs.declared.Found.the-variants.{At, Nothing}
-use Rattle.equations.proofs.BlockLaws.{block-block}
 use Rattle.equations.proofs.ElementLaws.{byte-form, product-is, bitsOf}
 
 module _ (C : Coded) (s : Shape) (key x : List ℕ) where

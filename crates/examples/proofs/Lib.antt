@@ -15,3 +15,4 @@ pub mod CountedExample
 pub mod ThreeProof
 pub mod PracticeFactors
 pub mod Refusals
+pub mod SharedMask

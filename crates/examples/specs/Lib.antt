@@ -8,3 +8,4 @@ pub mod CountedExample
 pub mod ThreeProof
 pub mod PracticeFactors
 pub mod Refusals
+pub mod SharedMask

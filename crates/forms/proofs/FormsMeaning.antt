@@ -22,7 +22,7 @@ use Rattle.protocol.specs.Shape.{Shape, maskAt, kOf}
 use Rattle.protocol.specs.Key.{sectionA, sectionB, aSym, bSym}
 use Rattle.protocol.specs.Forms.{α, quad, lin, middle, maskOf, χAt, batch}
 use Rattle.protocol.specs.Prover.{u, v, a₀, a₁, qs0, qs1}
-use Rattle.protocol.proofs.ListLaws.{row-end}
+use Rattle.protocol.proofs.ListLaws.{row-end, block-block}
 use Rattle.protocol.proofs.TestLaws.{ltb-yes}
 use Rattle.protocol.proofs.StringLaws.{bit-lt}
 use Rattle.strings.specs.Sums.{byteAt, xorSum}
@@ -33,7 +33,6 @@ use Rattle.lanes.specs.Lanes.{laneAt, maskLane, maskBits}
 use Rattle.equations.specs.Equations.{rowOf, matrixOf}
 use Rattle.forms.specs.Forms.{rowBit}
 use Rattle.forms.specs.Batch.{formsByte, middlesByte}
-use Rattle.equations.proofs.BlockLaws.{block-block}
 use Rattle.equations.proofs.ElementLaws.{byte-product, byte-form, form-rows, bitsOf}
 
 module _ (C : Coded) (s : Shape) where

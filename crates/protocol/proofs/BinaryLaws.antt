@@ -12,7 +12,7 @@ use Rattle.algebra.proofs.RingLaws.{ring}
 use Rattle.protocol.specs.Alphabet.{Alphabet, IsSymbol, Lawful}
 use Rattle.protocol.specs.Binary.{binary, bits256}
 use Rattle.field.specs.Gf256.{gf256}
-use Rattle.protocol.proofs.StringLaws.{bit-lt, bytesFor-le, length-pack, pack-in, pack-spare}
+use Rattle.protocol.proofs.StringLaws.{bit-lt, bytesFor-le, length-pack, pack-in, pack-spare, pack-congr, pack-bytes, string-is}
 
 module _ (K : Coded) where
   open Coded K using (base, elem, byte)
@@ -57,6 +57,9 @@ module _ (K : Coded) where
   bit-back a (x, l, e) =
       ap (λ b. elem (byte b % 2)) e ∙ ap (λ k. elem (k % 2)) (K .byte-elem x (omega (arith, base .four≤size))) ∙ ap elem (mod-eq-of-lt l) ∙ sym e
 
+  bit-of : (x : ℕ) → x < 2 → byte (elem x) % 2 ≡ x
+  bit-of x l = ap (λ k. k % 2) (K .byte-elem x (omega (arith, base .four≤size))) ∙ mod-eq-of-lt l
+
   pub binary-lawful : Lawful (binary K)
   binary-lawful = record {
     at-lt = bit-lt;
@@ -71,6 +74,10 @@ module _ (K : Coded) where
     pack-at = pack-in;
     pack-spare = pack-spare;
     masks-le = K .degree≤8;
+    symbol-of = bit-of;
+    pack-congr = pack-congr;
+    pack-bytes = pack-bytes;
+    string-is = string-is;
   }
 
 pub bits256-lawful : Lawful bits256

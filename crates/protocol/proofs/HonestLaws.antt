@@ -78,10 +78,10 @@ module _ (A : Alphabet) (laws : Lawful A) where
     -- ---- what the verifier reads in them
 
     module _ (key x H′ χ : List ℕ) where
-      abbrev P : Sections
+      abbrev pub P : Sections
       P = sectionsOf A s leaves key x H′ χ
 
-      shift-is : (e : ℕ) → e < s .τ → (c : ℕ) → c < lOf A s → shift A s key leaves H′ χ P e c ≡ u A s leaves 0 c
+      pub shift-is : (e : ℕ) → e < s .τ → (c : ℕ) → c < lOf A s → shift A s key leaves H′ χ P e c ≡ u A s leaves 0 c
       unfolding correctionAt rowC correction
       shift-is zero l c k = R .add-zero _
       shift-is (suc e) l c k =
@@ -89,7 +89,7 @@ module _ (A : Alphabet) (laws : Lawful A) where
           (ap (λ z. symbol A z c) (C-block e (omega arith)) ∙ pack-sym A laws (lOf A s) (correction A s leaves (suc e)) (correction-symbol A laws s leaves (suc e)) c k)
           ∙ add-self-left R (u A s leaves (suc e) c) (u A s leaves 0 c)
 
-      d-is : (c : ℕ) → c < s .n → symbol A (P .d) c ≡ symbol A x c ⊕ u A s leaves 0 c
+      pub d-is : (c : ℕ) → c < s .n → symbol A (P .d) c ≡ symbol A x c ⊕ u A s leaves 0 c
       unfolding dOf dSection
       d-is c l = pack-sym A laws (s .n) (dOf A s leaves x) (d-symbol A laws s leaves x) c l
 
@@ -101,7 +101,7 @@ module _ (A : Alphabet) (laws : Lawful A) where
           cancel : (a b : F) → a ⊕ (b ⊕ a) ≡ b
           cancel a b = simp ring
 
-      ũ-is : (ρ : ℕ) → ρ < s .t → symbol A (P .ũ) ρ ≡ hash A s H′ ρ (u A s leaves 0)
+      pub ũ-is : (ρ : ℕ) → ρ < s .t → symbol A (P .ũ) ρ ≡ hash A s H′ ρ (u A s leaves 0)
       unfolding ũSection
       ũ-is ρ l = pack-sym A laws (s .t) (λ ρ. hash A s H′ ρ (u A s leaves 0)) (hash-symbol A laws s leaves H′) ρ l
 
@@ -116,7 +116,7 @@ module _ (A : Alphabet) (laws : Lawful A) where
       unfolding elemAt qs0Section
       QS0-is e le = ap elem (table-at (s .τ) (λ e. byte (qs0 A s leaves key χ e)) 0 e le) ∙ K .elem-byte _
 
-      QS1-is : (e : ℕ) → e < s .τ → elemAt A (P .QS1) e ≡ qs1 A s leaves key x χ e
+      pub QS1-is : (e : ℕ) → e < s .τ → elemAt A (P .QS1) e ≡ qs1 A s leaves key x χ e
       unfolding elemAt qs1Section
       QS1-is e le = ap elem (table-at (s .τ) (λ e. byte (qs1 A s leaves key x χ e)) 0 e le) ∙ K .elem-byte _
 

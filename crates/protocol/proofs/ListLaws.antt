@@ -6,10 +6,10 @@ use mathlib.Core.Path.{_≡_, refl, sym, ap, ap₂, _∙_}
 use mathlib.Core.Bool.{Bool, true}
 use mathlib.Core.List.{List, [], _∷_, _++_, map, append-nil, append-assoc}
 use Prim.Native.Nat.{ℕ, zero, suc, _+_, _*_, _≤_, _<_}
-use native.Mathlib.Nat.{suc-mul, zero-mul, min-eq-left, mul-le-mul, le-refl}
+use native.Mathlib.Nat.{suc-mul, zero-mul, mul-assoc, add-mul, min-eq-left, mul-le-mul, le-refl}
 use native.Mathlib.Omega.{arith}
 use lib.ListN.{length, getD, take, drop, length-append, length-take, length-drop}
-use lib.Seq.{take-at, getD-take, getD-drop}
+use lib.Seq.{take-at, take-take, drop-drop, getD-take, getD-drop}
 use Rattle.protocol.specs.Lists.{part, blockAt, concat, table}
 
 pub row-end : (i n w : ℕ) → i < n → i * w + w ≤ n * w
@@ -138,3 +138,19 @@ pub table-congr : {X : Type 0} (n : ℕ) (f g : ℕ → X) → ((i : ℕ) → i 
 unfolding table
 table-congr zero f g h = refl
 table-congr (suc n) f g h = ap₂ _∷_ (h 0 (omega arith)) (table-congr n (λ i. f (suc i)) (λ i. g (suc i)) (λ i l. h (suc i) (omega arith)))
+
+-- ---- a block of a block is a block
+
+pub part-take : (w a m : ℕ) (l : List ℕ) → a + w ≤ m → take w (drop a (take m l)) ≡ take w (drop a l)
+part-take w zero m l h = take-take w m l (omega arith)
+part-take w (suc a) zero l h = absurd (omega arith)
+part-take w (suc a) (suc m) [] h = refl
+part-take w (suc a) (suc m) (x ∷ l) h = part-take w a m l (omega arith)
+
+-- row ρ of matrix i, of n rows, is row i·n + ρ of them all
+pub block-block : (s : List ℕ) (n w i ρ : ℕ) → ρ < n → blockAt (blockAt s (n * w) i) w ρ ≡ blockAt s w (i * n + ρ)
+unfolding blockAt part
+block-block s n w i ρ h =
+    let e : i * (n * w) + ρ * w ≡ (i * n + ρ) * w = ap (λ (k : ℕ). k + ρ * w) (sym (mul-assoc i n w)) ∙ sym (add-mul (i * n) ρ w) in
+    part-take w (ρ * w) (n * w) (drop (i * (n * w)) s) (row-end ρ n w h)
+    ∙ ap (take w) (drop-drop (ρ * w) (i * (n * w)) s ∙ ap (λ (k : ℕ). drop k s) e)

@@ -20,6 +20,7 @@ use Rattle.algebra.specs.Ring.{Ring}
 use Rattle.algebra.specs.Field.{Field}
 use Rattle.algebra.specs.Coded.{Coded}
 use Rattle.protocol.specs.Lists.{allBelow}
+use Rattle.protocol.specs.Strings.{bytes}
 
 pub record Alphabet : Type 1 where
   pub K : Coded
@@ -66,3 +67,8 @@ module _ (A : Alphabet) where
     pub pack-at : (L : ℕ) (f : ℕ → ℕ) → ((c : ℕ) → f c < symbols) → (c : ℕ) → c < L → at (pack L f) c ≡ f c
     pub pack-spare : (L : ℕ) (f : ℕ → ℕ) → ((c : ℕ) → f c < symbols) → spareZero (pack L f) L ≡ true
     pub masks-le : masks ≤ 8
+    -- a string of exact length whose spare bits are 0 is its coordinates, and a symbol its element
+    pub symbol-of : (x : ℕ) → x < symbols → symbolOf (embed x) ≡ x
+    pub pack-congr : (L : ℕ) (f g : ℕ → ℕ) → ((c : ℕ) → c < L → f c ≡ g c) → pack L f ≡ pack L g
+    pub pack-bytes : (L : ℕ) (f : ℕ → ℕ) → ((c : ℕ) → f c < symbols) → bytes (pack L f)
+    pub string-is : (L : ℕ) (s : List ℕ) → length s ≡ width L → bytes s → spareZero s L ≡ true → pack L (at s) ≡ s

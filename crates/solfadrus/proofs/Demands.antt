@@ -35,7 +35,7 @@ pub refused-keeps : RefusedKeeps
 refused-keeps answer before after string r t n = kept answer before after string (t .1) (λ z. n (t .0 ∙ z))
 
 -- every question got a yes, where the number is 0
-yes-told : (s : Shape) (qs : List Question) → Published s (ask qs) → 0 ≡ word (ask qs) → Yes qs
+pub yes-told : (s : Shape) (qs : List Question) → Published s (ask qs) → 0 ≡ word (ask qs) → Yes qs
 yes-told s qs listed z = all-yes qs (ask-accepts qs .0 (only-accepted s (ask qs) listed (sym z)))
 
 module _ (g : Setting) where
@@ -115,10 +115,10 @@ module _ (g : Setting) where
   -- ---- what an accepted call was lent
 
   -- the form of an honest proof's inputs, a solved system, and sizes in range
-  abbrev Honest : List ℕ → List ℕ → List ℕ → List ℕ → List ℕ → Type 0
+  abbrev pub Honest : List ℕ → List ℕ → List ℕ → List ℕ → List ℕ → Type 0
   Honest key leaves x H′ χ = (honestForm g key leaves x H′ χ ≡ true) × (solves A (shapeOf key) key x ≡ true) × (limits (shapeOf key) ≡ true)
 
-  proved : (key leaves x H′ χ before after : List ℕ) → ProveWrites g key leaves x H′ χ before after 0 → Honest key leaves x H′ χ
+  pub proved : (key leaves x H′ χ before after : List ℕ) → ProveWrites g key leaves x H′ χ before after 0 → Honest key leaves x H′ χ
   unfolding proveAnswer honestForm
   proved key leaves x H′ χ before after t =
       let y =

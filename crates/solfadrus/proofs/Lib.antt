@@ -3,3 +3,4 @@ pub mod SizedLaws
 pub mod ToldLaws
 pub mod Demands
 pub mod Forgery
+pub mod Hiding

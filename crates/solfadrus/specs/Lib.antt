@@ -2,3 +2,4 @@ pub mod Sized
 pub mod Told
 pub mod Demands
 pub mod Forgery
+pub mod Hiding

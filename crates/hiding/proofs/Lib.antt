@@ -1,0 +1,13 @@
+pub mod BlockLaws
+pub mod AddLaws
+pub mod BasisLaws
+pub mod MaskLaws
+pub mod ShiftLaws
+pub mod SameProofLaws
+pub mod HiddenLaws
+pub mod KeepLaws
+pub mod FormLaws
+pub mod Choice
+pub mod Hiding
+pub mod Settings
+pub mod SmallHiding

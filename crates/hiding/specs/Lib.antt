@@ -1,0 +1,6 @@
+pub mod Masks
+pub mod View
+pub mod Hidden
+pub mod Hiding
+pub mod Settings
+pub mod SmallHiding
