@@ -59,6 +59,7 @@ step "why each edit was refused" sh tests/edits.sh
 step "line counts of the audit guide" sh tests/counts.sh
 step "the forms that 01 names" sh tests/forms.sh
 step "literals of the kernels" sh tests/literals.sh
+step "no division in the walk of the leaf sums" sh tests/division.sh
 step "what the scripts share" sh tests/scripts.sh
 # What needs no library, so that it can run while that is built. rt has built the check program.
 aside "$besides" sh -c '
@@ -72,5 +73,6 @@ wait_aside || {
     fail "the Rust rendering, or the check program"
 }
 echo "the Rust rendering and the check program: passed"
+step "the leaf sums alone, once" sh bench/leaf_sums.sh --once
 
 echo "$verdict"
