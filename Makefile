@@ -1,5 +1,5 @@
 # `make` or `make help` lists what can be made: the text after ## of each target. Words for a program go into ARGS.
-.PHONY: help demo lib test compare attack bench server soak secrets fuzz vectors bindings install uninstall clean
+.PHONY: help demo lib test compare attack bench sums server soak secrets fuzz vectors bindings install uninstall clean
 
 help: ## this list
 	@sed -n 's/^\([a-z ]*\):.*## /\1|/p' $(MAKEFILE_LIST) | while IFS='|' read -r name what; do \
@@ -22,6 +22,9 @@ attack: ## solves for the witness from proofs: with one mask it must succeed, ag
 
 bench: ## times beside the same job in C and Rust, and stack; repetitions in ARGS; KEEP=1 adds to bench/history.tsv, BEFORE=ARCHIVE times that too (BEFORE_DEGREE=none: one whose calls take no degree; BEFORE_MASKS=shared: one from before own masks)
 	@BEFORE="$(BEFORE)" BEFORE_DEGREE="$(BEFORE_DEGREE)" BEFORE_MASKS="$(BEFORE_MASKS)" sh bench/run.sh $(if $(KEEP),--keep) $(ARGS)
+
+sums: ## times the leaf sums alone beside a plain walk in C; repetitions in ARGS; BEFORE=ARCHIVE times another libleaf_sums.a too
+	@BEFORE="$(BEFORE)" sh bench/leaf_sums.sh $(ARGS)
 
 server: ## the example server: 100,000 mixed calls by two threads, its answers held against the rendering's
 	@sh tests/server.sh $(ARGS)

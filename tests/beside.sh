@@ -16,8 +16,6 @@ once '^rt: .* proved ('
 cargo test --quiet --release --offline --manifest-path tests/reference/Cargo.toml -- --test-threads=1
 cargo test --quiet --release --offline --manifest-path tests/shapes/Cargo.toml --target-dir target/shapes
 echo "the Rust rendering: passed"
-sh tests/hiding.sh
-echo "all choices of hidden leaves: passed"
 # By its first edit it has proved every crate, and built the check program.
 once '^rt: must-fail '
 MQCHECK=target/bin/mqcheck sh tests/mqcheck.sh

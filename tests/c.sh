@@ -51,6 +51,9 @@ echo "the comparison with the Rust rendering"
 sh tests/compare.sh "$lib" --selftest
 sh tests/compare.sh "$lib"
 
+echo "all choices of hidden leaves"
+sh tests/hiding.sh
+
 echo "the linear attack"
 sh tests/attack.sh
 
@@ -74,6 +77,7 @@ sh tests/server.sh
 
 echo "the programs of the benchmark, once"
 sh bench/run.sh --once
+sh bench/leaf_sums.sh --once
 
 passed=0
 wait_aside || passed=$?

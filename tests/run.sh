@@ -67,5 +67,6 @@ step "why each edit was refused" sh tests/edits.sh
 step "line counts of the audit guide" sh tests/counts.sh
 step "the forms that 01 names" sh tests/forms.sh
 step "literals of the kernels" sh tests/literals.sh
+step "no division in the walk of the leaf sums" sh tests/division.sh
 step "what the scripts share" sh tests/scripts.sh
 echo "$verdict"

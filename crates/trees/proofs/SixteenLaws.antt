@@ -1,6 +1,6 @@
 -- Sums of sixteen bytes at a time: which bits of a number change when it is counted up, and loops over a part of a
 -- string.
---   PlanesFrom g l r w at k == sixteen bytes of each of the last k of r planes, from `at` on, are g
+--   PlanesFrom g l r w at k == sixteen bytes of each of r planes that is among the last k of eight, from `at` on, are g
 --   Changed g l₀ l at n == the n bytes of l from `at` on are those of l₀, byte k of them changed by g k, and the others
 --     are as in l₀
 -- Assumes nothing.
@@ -137,20 +137,20 @@ row-apart q p w at b fits hb before low high = go (decLt p q) (decLt q p)
         omega (arith, before same, ap (λ n. n * w) same)
 
 abbrev pub PlanesFrom : (ℕ → ℕ → ℕ) → List ℕ → ℕ → ℕ → ℕ → ℕ → Type 0
-PlanesFrom g l r w at k = (p b : ℕ) → p < r → r ≤ p + k → b < 16 → byteAt l (p * w + (at + b)) ≡ g p b
+PlanesFrom g l r w at k = (p b : ℕ) → p < r → 8 ≤ p + k → b < 16 → byteAt l (p * w + (at + b)) ≡ g p b
 
--- the last k planes are done, and now the one before them
-pub planes-more : (g : ℕ → ℕ → ℕ) (l l′ : List ℕ) (r w at k : ℕ) → k < r → at + 16 ≤ w
-    → ((b : ℕ) → b < 16 → byteAt l′ ((r - (k + 1)) * w + at + b) ≡ g (r - (k + 1)) b)
-    → ((i : ℕ) → ((r - (k + 1)) * w + at ≤ i → i < (r - (k + 1)) * w + at + 16 → ⊥) → byteAt l′ i ≡ byteAt l i)
+-- the last k planes are done, and now the one before them, where it is one of the r
+pub planes-more : (g : ℕ → ℕ → ℕ) (l l′ : List ℕ) (r w at k : ℕ) → k < 8 → at + 16 ≤ w
+    → (8 - (k + 1) < r → (b : ℕ) → b < 16 → byteAt l′ ((8 - (k + 1)) * w + at + b) ≡ g (8 - (k + 1)) b)
+    → ((i : ℕ) → ((8 - (k + 1)) * w + at ≤ i → i < (8 - (k + 1)) * w + at + 16 → ⊥) → byteAt l′ i ≡ byteAt l i)
     → PlanesFrom g l r w at k → PlanesFrom g l′ r w at (k + 1)
-planes-more g l l′ r w at k hk fits row others done p b hp le hb = go (ℕ-discrete p (r - (k + 1)))
+planes-more g l l′ r w at k hk fits row others done p b hp le hb = go (ℕ-discrete p (8 - (k + 1)))
   where
-    go : Dec (p ≡ r - (k + 1)) → byteAt l′ (p * w + (at + b)) ≡ g p b
+    go : Dec (p ≡ 8 - (k + 1)) → byteAt l′ (p * w + (at + b)) ≡ g p b
     go (yes e) =
-        let place : (r - (k + 1)) * w + (at + b) ≡ (r - (k + 1)) * w + at + b = omega arith in
-        rw e (ap (byteAt l′) place ∙ row b hb)
-    go (no ne) = others (p * w + (at + b)) (row-apart (r - (k + 1)) p w at (at + b) fits (omega arith) (λ e. absurd (ne e))) ∙ done p b hp (omega arith) hb
+        let place : (8 - (k + 1)) * w + (at + b) ≡ (8 - (k + 1)) * w + at + b = omega arith in
+        rw e (ap (byteAt l′) place ∙ row (omega arith) b hb)
+    go (no ne) = others (p * w + (at + b)) (row-apart (8 - (k + 1)) p w at (at + b) fits (omega arith) (λ e. absurd (ne e))) ∙ done p b hp (omega arith) hb
 
 -- what holds below `at`, and of sixteen from there on
 below-sixteen : (P : ℕ → Type 0) (at : ℕ) → ((b : ℕ) → b < at → P b) → ((b : ℕ) → b < 16 → P (at + b)) → (b : ℕ) → b < at + 16 → P b

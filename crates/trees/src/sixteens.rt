@@ -3,8 +3,8 @@
 //
 // As in the sums row by row, plane p takes the running sum of the leaves where bit p of the leaf's number changes from
 // j to j + 1. These bits are the lowest ones, up to some p, so that the running sum is held for the highest of them
-// alone, and the held sums are added up at the end. Row k of what is held has the sums for p = r - k, and row 0 those
-// for all planes: plane p is the sum of the rows 0, .., r - p. Where no leaf is left out, leaves are taken by four, and
+// alone, and the held sums are added up at the end. Row k of what is held has the sums for p = 8 - k, and row 0 those
+// for all planes: plane p is the sum of the rows 0, .., 8 - p. Where no leaf is left out, leaves are taken by four, and
 // the rows of planes 0 and 1 stay in registers too (`fours`).
 ghost use mathlib.Core.Path.{_≡_};
 ghost use mathlib.Core.Bool.{cond};
@@ -116,46 +116,58 @@ fn hold_leaves(
     }
 }
 
-// The running sum of all leaves, and what is held for the planes, from 0: by four before the leaf that is left out and
-// after it, and one by one the four that have it, and those at the end.
+// The running sum of all leaves, and what is held for eight planes, from 0: by four before the leaf that is left out
+// and after it, and one by one the four that have it, and those at the end. Of a full tree of whole fours nothing is
+// left after the first. The planes are eight at either degree: a constant here is one in the loops.
 fn hold(
     sum: &mut [u8; SIXTEEN],
     held: &mut [u8; HELD],
-    r: usize,
     tree: &[u8],
     count: usize,
     delta: usize,
     w: usize,
     at: usize,
 )
-    requires { ⌜ (length (now sum) ≡ 16) × (length (now held) ≡ 144) × (r ≤ 8) × (count < 65536) × (at + 16 ≤ w) × TreeFits (now tree) w delta count ⌝ }
-    requires { ⌜ ((i : ℕ) → i < 16 → byteAt (now sum) i ≡ 0) × ((i : ℕ) → i < 144 → byteAt (now held) i ≡ 0) × ((p : ℕ) → p < r → bitOf count p ≡ 0) ⌝ }
+    requires { ⌜ (length (now sum) ≡ 16) × (length (now held) ≡ 144) × (count < 65536) × (at + 16 ≤ w) × TreeFits (now tree) w delta count ⌝ }
+    requires { ⌜ ((i : ℕ) → i < 16 → byteAt (now sum) i ≡ 0) × ((i : ℕ) → i < 144 → byteAt (now held) i ≡ 0) ⌝ }
     ensures { λ _. ⌜ (length (now (sum .exit)) ≡ 16) × (length (now (held .exit)) ≡ 144) ⌝ }
-    ensures { λ _. ⌜ ((b : ℕ) → b < 16 → byteAt (now (sum .exit)) b ≡ xorSum count (λ j. leafByte (now (tree .entry)) w delta j (at + b))) ⌝ }
-    ensures { λ _. ⌜ ((p b : ℕ) → p < r → b < 16 → heldPlane (now (held .exit)) r p b ≡ xorSum count (λ j. bitOf j p * leafByte (now (tree .entry)) w delta j (at + b))) ⌝ }
+    ensures { λ _. ⌜ RunningLeaves (now (tree .entry)) w delta at 8 (now (sum .exit)) (now (held .exit)) count ⌝ }
 {
     let cut = least(delta, count) / 4 * 4;
     let next = least(cut + 4, count);
     let end = next + (count - next) / 4 * 4;
-    hold_fours(sum, held, r, tree, w, at, 0, 0, cut);
-    hold_leaves(sum, held, r, tree, delta, w, at, cut, next);
-    hold_fours(sum, held, r, tree, w, at, 1, next, end);
-    hold_leaves(sum, held, r, tree, delta, w, at, end, count);
+    hold_fours(sum, held, Gf256::DEGREE, tree, w, at, 0, 0, cut);
+    if cut < count {
+        hold_leaves(sum, held, Gf256::DEGREE, tree, delta, w, at, cut, next);
+        hold_fours(sum, held, Gf256::DEGREE, tree, w, at, 1, next, end);
+        hold_leaves(sum, held, Gf256::DEGREE, tree, delta, w, at, end, count);
+    }
 }
 
-// Sixteen bytes of each plane, from `at` on: the sums of the first rows of what is held.
+// Sixteen bytes of plane p, from `at` on, where p is one of the r planes.
+fn put_plane(planes: &mut [u8], p: usize, r: usize, w: usize, at: usize, sum: &[u8; SIXTEEN])
+    requires { ⌜ (length (now planes) ≡ r * w) × (length (now sum) ≡ 16) × (at + 16 ≤ w) ⌝ }
+    ensures { λ _. ⌜ (p < r → (b : ℕ) → b < 16 → byteAt (now (planes .exit)) (p * w + at + b) ≡ byteAt (now (sum .entry)) b) ⌝ }
+    ensures { λ _. ⌜ ((i : ℕ) → (p * w + at ≤ i → i < p * w + at + 16 → ⊥) → byteAt (now (planes .exit)) i ≡ byteAt (now (planes .entry)) i) ⌝ }
+{
+    if p < r {
+        put_sixteen(planes, p * w + at, sum);
+    }
+}
+
+// Sixteen bytes of each of r planes, from `at` on: the sums of the first rows of what is held for eight.
 fn put_planes(planes: &mut [u8], held: &[u8; HELD], r: usize, w: usize, at: usize)
     requires { ⌜ (length (now planes) ≡ r * w) × (length (now held) ≡ 144) × (r ≤ 8) × (at + 16 ≤ w) ⌝ }
-    ensures { λ _. ⌜ ((p b : ℕ) → p < r → b < 16 → byteAt (now (planes .exit)) (p * w + (at + b)) ≡ heldPlane (now (held .entry)) r p b) ⌝ }
+    ensures { λ _. ⌜ ((p b : ℕ) → p < r → b < 16 → byteAt (now (planes .exit)) (p * w + (at + b)) ≡ heldPlane (now (held .entry)) 8 p b) ⌝ }
     ensures { λ _. ⌜ ((p b : ℕ) → p < r → b < at → byteAt (now (planes .exit)) (p * w + b) ≡ byteAt (now (planes .entry)) (p * w + b)) ⌝ }
 {
     let mut sum = [0u8; SIXTEEN];
     add_sixteen(&mut sum, held, 0);
     let mut k = 0;
-    while k < r {
+    while k < Gf256::DEGREE {
         k += 1;
         add_sixteen(&mut sum, held, k * SIXTEEN);
-        put_sixteen(planes, (r - k) * w + at, &sum);
+        put_plane(planes, Gf256::DEGREE - k, r, w, at, &sum);
     }
 }
 
@@ -177,7 +189,7 @@ fn sum_sixteen(
 {
     let mut sum = [0u8; SIXTEEN];
     let mut held = [0u8; HELD];
-    hold(&mut sum, &mut held, r, tree, count, delta, w, at);
+    hold(&mut sum, &mut held, tree, count, delta, w, at);
     put_sixteen(u, at, &sum);
     put_planes(planes, &held, r, w, at);
 }
