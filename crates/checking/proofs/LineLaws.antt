@@ -9,7 +9,7 @@ use native.Mathlib.Omega.{arith}
 use lib.ListN.{length, set, drop, length-append}
 use lib.Seq.{sets, sets-eq}
 use Rattle.protocol.specs.Check.{decimalDigits, decimal}
-use Rattle.protocol.proofs.TestLaws.{ltb-yes, ltb-no}
+use Rattle.theorems.proofs.TestLaws.{ltb-yes, ltb-no}
 use Rattle.checking.specs.Checked.{lineText}
 
 digits-one : (f x : ℕ) → x < 10 → decimalDigits (suc f) x ≡ (48 + x) ∷ []

@@ -9,7 +9,7 @@ use lib.ListN.{length}
 use Rattle.protocol.specs.Frames.{framed}
 use Rattle.protocol.specs.Calls.{verifyAnswer}
 use Rattle.protocol.specs.Check.{eight, answered, unread, lengthsIn, readable, checkOf}
-use Rattle.protocol.proofs.TestLaws.{leb-yes, leb-no, both-true}
+use Rattle.theorems.proofs.TestLaws.{leb-yes, leb-no, both-true}
 use Rattle.sections.proofs.SectionLaws.{and-no}
 use Rattle.checking.specs.Checked.{verifyParts}
 

@@ -12,8 +12,8 @@ use Rattle.algebra.proofs.CountLaws.{and-left, and-right}
 use Rattle.protocol.specs.Frames.{num2, num4, count4, frame, framed, sectionNo, framedLength}
 use Rattle.protocol.specs.Calls.{verifyAnswer}
 use Rattle.protocol.specs.Check.{eight, answered, lengthsIn, checkOf}
-use Rattle.protocol.proofs.TestLaws.{leb-le}
-use Rattle.protocol.proofs.FrameLaws.{Short, count-back, frame-skip, frame-framed, frame-section, length-frame}
+use Rattle.theorems.proofs.TestLaws.{leb-le}
+use Rattle.theorems.proofs.FrameLaws.{Short, count-back, frame-skip, frame-framed, frame-section, length-frame}
 use Rattle.sections.proofs.SectionLaws.{framed-length, decided}
 use Rattle.checking.specs.ReadBack.{six, ReadBack, TooLong, LeftOver, CutShort}
 use Rattle.checking.proofs.OutcomeLaws.{too-long, not-framed, read-whole, same-answer}

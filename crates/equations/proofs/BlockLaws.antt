@@ -11,8 +11,8 @@ use lib.ListN.{length, take, drop, List·getD-eq-default}
 use lib.Seq.{drop-drop}
 use Rattle.protocol.specs.Lists.{part, blockAt}
 use Rattle.protocol.specs.Strings.{bytesFor, bit, spareZero}
-use Rattle.protocol.proofs.ListLaws.{part-take}
-use Rattle.protocol.proofs.StringLaws.{spare-at}
+use Rattle.theorems.proofs.ListLaws.{part-take}
+use Rattle.theorems.proofs.StringLaws.{spare-at}
 use Rattle.strings.proofs.Rows.{row-end}
 
 -- block i of the part of a string from block f on is block f + i

@@ -16,7 +16,7 @@ use Rattle.algebra.specs.Sum.{sum, form}
 use Rattle.algebra.proofs.RingLaws.{ring}
 use Rattle.algebra.proofs.SumLaws.{sum-ext, sum-mul}
 use Rattle.protocol.specs.Strings.{bit, spareZero}
-use Rattle.protocol.proofs.StringLaws.{bit-lt}
+use Rattle.theorems.proofs.StringLaws.{bit-lt}
 use Rattle.strings.specs.Sums.{byteAt, xorSum, selected}
 use Rattle.strings.proofs.SumLaws.{sum-same, sum-past}
 use Rattle.strings.proofs.Meaning.{byte-sum, byte-bit, byte-scale}

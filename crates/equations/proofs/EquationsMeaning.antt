@@ -23,9 +23,9 @@ use Rattle.protocol.specs.Shape.{Shape}
 use Rattle.protocol.specs.Key.{sectionA, sectionB, sectionY, aSym, bSym, ySym}
 use Rattle.protocol.specs.Forms.{quad, lin, yOf, error}
 use Rattle.protocol.specs.Questions.{equationHolds, solves}
-use Rattle.protocol.proofs.TestLaws.{T-true, T-false, all-of, all-at, first-at}
-use Rattle.protocol.proofs.ListLaws.{block-block}
-use Rattle.protocol.proofs.StringLaws.{bit-lt}
+use Rattle.theorems.proofs.TestLaws.{T-true, T-false, all-of, all-at, first-at}
+use Rattle.theorems.proofs.ListLaws.{block-block}
+use Rattle.theorems.proofs.StringLaws.{bit-lt}
 use Rattle.strings.specs.Sums.{byteAt, xorSum}
 use Rattle.strings.proofs.SumLaws.{sum-same}
 use Rattle.strings.proofs.Meaning.{byte-sum, byte-bit, byte-scale}

@@ -5,14 +5,14 @@ use mathlib.Core.Bool.{true}
 use Prim.Native.Nat.{_*_}
 use lib.Dec.{lit<}
 use lib.ListN.{getD}
-use Rattle.field.specs.Degrees.{fieldOf}
+use Rattle.galois.specs.Degrees.{fieldOf}
 use Rattle.protocol.specs.Frames.{num2}
 use Rattle.protocol.specs.Binary.{bits16}
 use Rattle.protocol.specs.Calls.{wellFormed}
 use Rattle.protocol.specs.Counting.{acceptedCount}
 use Rattle.protocol.specs.SmallExample.{four, changed, key, leaves, H′, χ, Δ, opened, proof}
 use Rattle.protocol.proofs.Computing.{computing}
-use Rattle.protocol.proofs.Theorems.{forgery-count}
+use Rattle.theorems.proofs.Theorems.{forgery-count}
 use Rattle.examples.proofs.ExampleFactors.{both}
 use Rattle.examples.specs.ChangedProofs.{Small, ChangedProofs}
 

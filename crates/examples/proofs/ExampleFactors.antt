@@ -17,7 +17,7 @@ use Rattle.protocol.specs.Sections.{sectionsIn}
 use Rattle.protocol.specs.Questions.{leavesExact}
 use Rattle.protocol.specs.Counting.{factor}
 use Rattle.protocol.specs.Coefficients.{conditions}
-use Rattle.protocol.proofs.Theorems.{factor-is}
+use Rattle.theorems.proofs.Theorems.{factor-is}
 
 module _ (A : Alphabet) (key leaves H′ χ : List ℕ) (k7 : leavesExact A (shapeOf key) (perTree A) leaves ≡ true) (two : 1 < shapeOf key .τ) (p : List ℕ) where
   abbrev pub passed : ℕ → ℕ

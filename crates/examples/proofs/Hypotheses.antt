@@ -9,7 +9,7 @@ use native.Mathlib.Omega.{arith}
 use lib.Dec.{leb, lit<}
 use lib.ListN.{length, getD}
 use Rattle.algebra.specs.Columns.{zeroColumns}
-use Rattle.field.specs.Degrees.{fieldOf}
+use Rattle.galois.specs.Degrees.{fieldOf}
 use Rattle.protocol.specs.Lists.{allBelow}
 use Rattle.protocol.specs.Strings.{bytes}
 use Rattle.protocol.specs.Frames.{num2}
@@ -17,10 +17,10 @@ use Rattle.protocol.specs.Shape.{shapeOf}
 use Rattle.protocol.specs.Questions.{solves}
 use Rattle.protocol.specs.Calls.{testForm, commitForm, batchForm, proveForm, verifyForm, honestForm, wellFormed}
 use Rattle.protocol.specs.Counting.{opening, factor}
-use Rattle.protocol.specs.Statements.{errorOf}
+use Rattle.theorems.specs.Statements.{errorOf}
 use Rattle.protocol.specs.Check.{eight}
-use Rattle.protocol.proofs.TestLaws.{leb-le, all-at}
-use Rattle.protocol.proofs.Demands.{demand-3}
+use Rattle.theorems.proofs.TestLaws.{leb-le, all-at}
+use Rattle.theorems.proofs.Demands.{demand-3}
 use Rattle.examples.specs.Toy.{A, s, keyWith, key, key₀, leaves, x, H′, χ, out, proof, proofQS1, proofṼ}
 use Rattle.examples.specs.Hypotheses.{HypothesesMet}
 use Rattle.examples.proofs.ToyComputing.{computing}

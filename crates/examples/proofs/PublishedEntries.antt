@@ -1,6 +1,6 @@
 -- The one result that establishes the table of 01's (P) entries.
 -- Assumes nothing.
-use Rattle.field.proofs.Products.{product-57-83, product-57-13, product-05-52}
+use Rattle.galois.proofs.Products.{product-57-83, product-57-13, product-05-52}
 use Rattle.examples.specs.PublishedEntries.{PublishedEntries}
 use Rattle.examples.proofs.ToyProver.{u-is, v-is, C-is, d-is, ũ-is, Ṽ-is, QS0-is, QS1-is, proof-is, proof-length}
 use Rattle.examples.proofs.ToyVerifier.{proof-at-02, QS1-changed-at-02, QS1-changed-at-00, ũ-changed-at-02}

@@ -5,7 +5,7 @@ use Rattle.algebra.specs.Bits.{elem}
 use Rattle.algebra.specs.BitField.{computing as bits}
 use Rattle.algebra.specs.Sum.{power}
 use Rattle.protocol.proofs.Computing.{computing}
-use Rattle.protocol.proofs.BinaryLaws.{binary-lawful}
+use Rattle.theorems.proofs.BinaryLaws.{binary-lawful}
 use Rattle.hiding.specs.Hidden.{treeWith, withHidden}
 use Rattle.examples.specs.SharedMask.{modulus, passes, gf4, sharedQs0, sharedQs1, sharedProof, key, leaves, H′, χ, proof, SharedMask, TinyHiding}
 use Rattle.hiding.proofs.BasisLaws.{bitAt, spelled, Dual}

@@ -14,7 +14,7 @@ use Rattle.algebra.specs.Field.{Field}
 use Rattle.algebra.specs.Count.{count}
 use Rattle.algebra.specs.Roots.{Conditions, passing}
 use Rattle.algebra.proofs.CountLaws.{count-congr}
-use Rattle.field.specs.Degrees.{fieldOf}
+use Rattle.galois.specs.Degrees.{fieldOf}
 use Rattle.protocol.specs.Lists.{table}
 use Rattle.protocol.specs.Frames.{num2}
 use Rattle.protocol.specs.Alphabet.{sym, elemAt}
@@ -25,12 +25,12 @@ use Rattle.protocol.specs.Answers.{isAccepted}
 use Rattle.protocol.specs.Calls.{wellFormed}
 use Rattle.protocol.specs.Counting.{acceptedCount, checksAt, factor}
 use Rattle.protocol.specs.Coefficients.{conditions}
-use Rattle.protocol.specs.Statements.{errorOf}
+use Rattle.theorems.specs.Statements.{errorOf}
 use Rattle.protocol.specs.Check.{eight}
-use Rattle.protocol.proofs.TestLaws.{and-true}
-use Rattle.protocol.proofs.CountingLaws.{form-of, leaves-length, splits}
-use Rattle.protocol.proofs.CoefficientLaws.{checks-passing}
-use Rattle.protocol.proofs.Demands.{demand-3}
+use Rattle.theorems.proofs.TestLaws.{and-true}
+use Rattle.theorems.proofs.CountingLaws.{form-of, leaves-length, splits}
+use Rattle.theorems.proofs.CoefficientLaws.{checks-passing}
+use Rattle.theorems.proofs.Demands.{demand-3}
 use Rattle.examples.specs.Toy.{A, keyWith, leaves, H′, χ, answerWith}
 use Rattle.examples.proofs.ToyLeaves.{R, F, toy, u₄, v₄, u-few, v-few}
 use Rattle.examples.proofs.ToyVerifier.{leaves-exact}

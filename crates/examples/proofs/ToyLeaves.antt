@@ -22,7 +22,7 @@ use Rattle.protocol.specs.Shape.{Shape}
 use Rattle.protocol.specs.Leaves.{leafAt}
 use Rattle.protocol.specs.Prover.{u, v}
 use lib.Seq.{getD-drop}
-use Rattle.protocol.proofs.ListLaws.{drop-append}
+use Rattle.theorems.proofs.ListLaws.{drop-append}
 use Rattle.examples.specs.Toy.{A, fourLeaves, leaves}
 use Rattle.examples.proofs.ToyComputing.{computing}
 

@@ -9,7 +9,7 @@ use Prim.Native.Nat.{ℕ, zero, suc, _<_}
 use lib.ListN.{getD}
 use native.Mathlib.Omega.{arith}
 use lib.Dec.{lit<}
-use Rattle.field.specs.Degrees.{fieldOf}
+use Rattle.galois.specs.Degrees.{fieldOf}
 use Rattle.protocol.specs.Lists.{allBelow, firstNot}
 use Rattle.protocol.specs.Frames.{num2}
 use Rattle.protocol.specs.Shape.{perTree}
@@ -20,9 +20,9 @@ use Rattle.protocol.specs.Questions.{treeOf, leavesExact, consistentIn, product
 use Rattle.protocol.specs.Calls.{verifyQuestions, verifyAnswer, verifyForm}
 use Rattle.protocol.specs.Counting.{opening}
 use Rattle.protocol.specs.Check.{eight}
-use Rattle.protocol.proofs.AnswerLaws.{ask-after}
-use Rattle.protocol.proofs.CountingLaws.{leaves-length, tree-is}
-use Rattle.protocol.proofs.VoleLaws.{vole}
+use Rattle.theorems.proofs.AnswerLaws.{ask-after}
+use Rattle.theorems.proofs.CountingLaws.{leaves-length, tree-is}
+use Rattle.theorems.proofs.VoleLaws.{vole}
 use Rattle.examples.specs.Toy.{A, keyWith, key, leaves, H′, χ, proof, proofQS1, proofũ, answerWith}
 use Rattle.examples.proofs.ToyComputing.{computing}
 use Rattle.examples.proofs.ToyLeaves.{R, F, toy, u₄, v₄, u-few, v-few}

@@ -12,7 +12,7 @@ use Rattle.protocol.specs.Shape.{shapeOf}
 use Rattle.protocol.specs.Questions.{solves}
 use Rattle.protocol.specs.Calls.{testForm, commitForm, batchForm, proveForm, verifyForm, honestForm, wellFormed}
 use Rattle.protocol.specs.Counting.{opening, acceptedCount, factor}
-use Rattle.protocol.specs.Statements.{errorOf}
+use Rattle.theorems.specs.Statements.{errorOf}
 use Rattle.protocol.specs.Check.{eight}
 use Rattle.examples.specs.Toy.{A, s, key, key₀, leaves, x, H′, χ, out, proof, proofQS1, proofṼ}
 

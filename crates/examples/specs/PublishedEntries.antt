@@ -9,7 +9,7 @@ use Prim.Native.Nat.{ℕ, _<_}
 use lib.Dec.{eqb}
 use lib.ListN.{length}
 use Rattle.algebra.specs.Coded.{mulByte}
-use Rattle.field.specs.Gf256.{gf256}
+use Rattle.galois.specs.Gf256.{gf256}
 use Rattle.protocol.specs.Lists.{table}
 use Rattle.protocol.specs.Shape.{shapeOf, lOf}
 use Rattle.protocol.specs.Sections.{Sections}

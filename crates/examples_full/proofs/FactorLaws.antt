@@ -18,7 +18,7 @@ use Rattle.protocol.specs.Prover.{u, v}
 use Rattle.protocol.specs.Questions.{leavesExact}
 use Rattle.protocol.specs.Counting.{factor}
 use Rattle.protocol.specs.Coefficients.{conditions}
-use Rattle.protocol.proofs.Theorems.{factor-is}
+use Rattle.theorems.proofs.Theorems.{factor-is}
 use Rattle.examples_full.proofs.TableLaws.{Near, conditionsOf, conditions-is}
 
 module _ (K : Coded) (s : Shape) (key leaves H′ χ : List ℕ) (header : shapeOf key ≡ s) (k7 : leavesExact (binary K) (shapeOf key) (perTree (binary K)) leaves ≡ true)

@@ -9,8 +9,8 @@ use native.Mathlib.Omega.{arith}
 use Rattle.algebra.specs.Ring.{Ring}
 use Rattle.algebra.specs.Field.{Field}
 use Rattle.algebra.specs.Coded.{Coded}
-use Rattle.field.specs.Gf256.{gf256}
-use Rattle.field.specs.Degrees.{fieldOf}
+use Rattle.galois.specs.Gf256.{gf256}
+use Rattle.galois.specs.Degrees.{fieldOf}
 use Rattle.protocol.specs.Alphabet.{Alphabet}
 use Rattle.protocol.specs.Binary.{bits256}
 use Rattle.protocol.specs.Shape.{Shape, shapeOf, perTree}
@@ -20,7 +20,7 @@ use Rattle.protocol.specs.Questions.{treeOf, consistentIn, productIn}
 use Rattle.protocol.specs.Calls.{verifyForm}
 use Rattle.protocol.specs.Check.{eight}
 use Rattle.protocol.proofs.Computing.{computing}
-use Rattle.protocol.proofs.Theorems.{accepts-exactly}
+use Rattle.theorems.proofs.Theorems.{accepts-exactly}
 use Rattle.examples_full.specs.FullExample.{sizes, key, leaves, H′, χ, Δ, proof, opened, coordinates, FullOpening, FullAccepts}
 use Rattle.examples_full.proofs.TreeLaws.{openedWeighed, W-walked}
 use Rattle.examples_full.proofs.TableLaws.{entry, Near, near, consistent-is, product-is}

@@ -8,7 +8,7 @@ use Prim.Native.Nat.{ℕ, _<_}
 use lib.Dec.{lit<}
 use Rattle.algebra.specs.Field.{Field}
 use Rattle.algebra.specs.Coded.{Coded}
-use Rattle.field.specs.Gf256.{gf256}
+use Rattle.galois.specs.Gf256.{gf256}
 use Rattle.protocol.specs.Binary.{bits256}
 use Rattle.protocol.specs.Shape.{Shape, shapeOf, perTree}
 use Rattle.protocol.specs.Questions.{leavesExact}

@@ -6,7 +6,7 @@ use Prim.Native.Nat.{ℕ}
 use Rattle.algebra.specs.Ring.{Ring}
 use Rattle.algebra.specs.Field.{Field}
 use Rattle.algebra.specs.Coded.{Coded}
-use Rattle.field.specs.Gf256.{gf256}
+use Rattle.galois.specs.Gf256.{gf256}
 use Rattle.protocol.specs.Shape.{Shape, shapeOf}
 use Rattle.protocol.proofs.Computing.{computing}
 use Rattle.examples_full.specs.FullExample.{sizes, key, leaves, u-0, u-1, v-0, v-1, coordinates, FullSums}

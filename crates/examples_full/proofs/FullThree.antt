@@ -9,7 +9,7 @@ use lib.Dec.{lit<}
 use Rattle.algebra.specs.Ring.{Ring}
 use Rattle.algebra.specs.Field.{Field}
 use Rattle.algebra.specs.Coded.{Coded}
-use Rattle.field.specs.Gf256.{gf256}
+use Rattle.galois.specs.Gf256.{gf256}
 use Rattle.protocol.specs.Binary.{bits256}
 use Rattle.protocol.specs.Frames.{frame, count4}
 use Rattle.protocol.specs.Shape.{shapeOf, perTree}

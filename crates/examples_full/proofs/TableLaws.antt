@@ -24,10 +24,10 @@ use Rattle.protocol.specs.Forms.{quad, lin, yOf, middle, error, hash, maskOf, b
 use Rattle.protocol.specs.Prover.{u, v, correction, dOf, a₀, a₁, qs0, qs1, cSection, dSection, ũSection, ṼSection, qs0Section, qs1Section}
 use Rattle.protocol.specs.Verifier.{correctionAt, keyAt, consistent, productLeft, productHolds, candidate, batchedError}
 use Rattle.protocol.specs.Coefficients.{shift, conditions}
-use Rattle.protocol.proofs.ListLaws.{table-at, table-congr}
-use Rattle.protocol.proofs.StringLaws.{pack-congr}
-use Rattle.protocol.proofs.FormLaws.{hash-congr, mask-congr, quad-congr, lin-congr}
-use Rattle.protocol.proofs.HonestLaws.{n-below}
+use Rattle.theorems.proofs.ListLaws.{table-at, table-congr}
+use Rattle.theorems.proofs.StringLaws.{pack-congr}
+use Rattle.theorems.proofs.FormLaws.{hash-congr, mask-congr, quad-congr, lin-congr}
+use Rattle.theorems.proofs.HonestLaws.{n-below}
 
 module _ (K : Coded) (s : Shape) where
   open Coded K using (base, elem, byte)

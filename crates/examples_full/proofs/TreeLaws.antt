@@ -28,9 +28,9 @@ use Rattle.protocol.specs.Sections.{Sections}
 use Rattle.protocol.specs.Leaves.{leafAt, place, openedLeaf}
 use Rattle.protocol.specs.Prover.{u, v}
 use Rattle.protocol.specs.Verifier.{correctionAt, W}
-use Rattle.protocol.proofs.TestLaws.{eqb-other, eqb-same}
-use Rattle.protocol.proofs.StringLaws.{bit-lt}
-use Rattle.protocol.proofs.LeafLaws.{place-below, place-above}
+use Rattle.theorems.proofs.TestLaws.{eqb-other, eqb-same}
+use Rattle.theorems.proofs.StringLaws.{bit-lt}
+use Rattle.theorems.proofs.LeafLaws.{place-below, place-above}
 
 add-suc-left : (j i : ℕ) → j + suc i ≡ suc j + i
 add-suc-left j i = omega arith

@@ -1,4 +1,2 @@
-pub mod Products
 pub mod ProductLaws
 pub mod MaskLaws
-pub mod DegreeLaws

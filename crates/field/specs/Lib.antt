@@ -1,4 +1,0 @@
-pub mod Gf256
-pub mod Gf16
-pub mod Products
-pub mod Degrees

@@ -4,7 +4,7 @@ ghost use Prim.Native.Nat.{_<_};
 ghost use Rattle.algebra.specs.Bits.{elem, byte};
 ghost use Rattle.algebra.specs.BitField.{xtime};
 ghost use Rattle.algebra.specs.Coded.{mulByte};
-ghost use Rattle.field.specs.Gf16.{modulus, gf16, maskElement};
+ghost use Rattle.galois.specs.Gf16.{modulus, gf16, maskElement};
 use super::masked;
 
 // The element whose bit is the highest.

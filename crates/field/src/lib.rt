@@ -7,8 +7,8 @@ ghost use Prim.Native.Nat.{_*_, _<_};
 ghost use Rattle.algebra.specs.Bits.{elem, byte};
 ghost use Rattle.algebra.specs.BitField.{xtime};
 ghost use Rattle.algebra.specs.Coded.{mulByte};
-ghost use Rattle.field.specs.Gf256.{modulus, gf256, maskElement};
-ghost use Rattle.field.specs.Degrees.{fieldOf, degreeOf, sizeOf, maskElementOf};
+ghost use Rattle.galois.specs.Gf256.{modulus, gf256, maskElement};
+ghost use Rattle.galois.specs.Degrees.{fieldOf, degreeOf, sizeOf, maskElementOf};
 
 // The byte whose bit is the highest.
 const TOP: u8 = 128;

@@ -7,7 +7,7 @@ use Prim.Native.Nat.{ℕ}
 use borrow.Author.Tests.{not-true, not-false}
 use Rattle.algebra.proofs.CountLaws.{and-left}
 use Rattle.protocol.specs.Answers.{Answer, accepted, refused, Question, question, ask}
-use Rattle.protocol.proofs.AnswerLaws.{ask-none, ask-no, ask-yes, ask-accepts}
+use Rattle.theorems.proofs.AnswerLaws.{ask-none, ask-no, ask-yes, ask-accepts}
 use Rattle.format.specs.Verdict.{answerOf, andThen}
 use Rattle.format.specs.declared.Verdict.{Verdict}
 use Rattle.format.specs.declared.Verdict.the-variants.{Accepted, Refused}

@@ -11,8 +11,8 @@ use Rattle.protocol.specs.Strings.{bytesFor}
 use Rattle.protocol.specs.Setting.{Setting, alphabetOf}
 use Rattle.protocol.specs.Shape.{Shape, mostRepetitions, mostHashRows, limits, maskAt, kOf, lOf, wOf}
 use Rattle.protocol.specs.Questions.{χExact}
-use Rattle.protocol.proofs.TestLaws.{eqb-eq}
-use Rattle.protocol.proofs.ListLaws.{row-end}
+use Rattle.theorems.proofs.TestLaws.{eqb-eq}
+use Rattle.theorems.proofs.ListLaws.{row-end}
 use Rattle.format.specs.Limits.{mostLeaf}
 use Rattle.format.proofs.SizeLaws.{in-limits, w-most, hashed-most}
 

@@ -9,7 +9,7 @@ use native.Mathlib.Omega.{arith}
 use lib.Dec.{leb}
 use Rattle.algebra.specs.Field.{Field}
 use Rattle.algebra.specs.Coded.{Coded}
-use Rattle.field.specs.Degrees.{degree}
+use Rattle.galois.specs.Degrees.{degree}
 use Rattle.protocol.specs.Alphabet.{Alphabet}
 use Rattle.algebra.proofs.CountLaws.{and-left, and-right}
 use Rattle.protocol.specs.Strings.{bytesFor}
@@ -19,8 +19,8 @@ use Rattle.protocol.specs.Key.{keyLengths}
 use Rattle.protocol.specs.Sections.{lengths, commitLengths, hashLengths, batchLengths}
 use Rattle.protocol.specs.Shape.{Shape, within, mostVariables, leastEquations, mostEquations, mostRepetitions, mostHashRows, limits, kOf, lOf, wOf}
 use Rattle.format.specs.Limits.{mostHashed, mostLeaf, mostRow, mostWitness}
-use Rattle.protocol.proofs.TestLaws.{leb-le, all-true}
-use Rattle.protocol.proofs.LimitLaws.{within-le}
+use Rattle.theorems.proofs.TestLaws.{leb-le, all-true}
+use Rattle.theorems.proofs.LimitLaws.{within-le}
 
 pub record InLimits (s : Shape) : Type 0 where
   pub n-least : 1 ≤ s .n

@@ -9,7 +9,7 @@
 -- The last three are ⌈bits/8⌉ written out, not bytesFor, so that they compute in every proof that cites them.
 -- Assumes nothing.
 use Prim.Native.Nat.{ℕ, _+_, _*_, _/_}
-use Rattle.field.specs.Degrees.{degree}
+use Rattle.galois.specs.Degrees.{degree}
 use Rattle.protocol.specs.Shape.{mostVariables, mostRepetitions, mostHashRows}
 
 abbrev pub mostHashed : ℕ

@@ -9,9 +9,9 @@ use lib.Bits.{bitXor, xor-comm, xor-zero-r}
 use lib.Dec.{lit<}
 use lib.Pow.{pow-pos}
 use Rattle.algebra.specs.Coded.{mulByte}
-use Rattle.field.specs.Degrees.{fieldOf, degreeOf}
+use Rattle.galois.specs.Degrees.{fieldOf, degreeOf}
 use Rattle.protocol.specs.Strings.{bytesFor, bit}
-use Rattle.protocol.proofs.StringLaws.{bit-lt}
+use Rattle.theorems.proofs.StringLaws.{bit-lt}
 use Rattle.strings.specs.Sums.{bitOf, xorSum}
 use Rattle.strings.proofs.XorLaws.{xor-assoc}
 use Rattle.strings.proofs.SumLaws.{sum-same, sum-lt, sum-none, sum-both}

@@ -8,7 +8,7 @@ use native.Mathlib.Nat.{add-assoc, add-mul, mul-le-mul, le-refl}
 use lib.ListN.{take, drop}
 use lib.Bits.{bitXor}
 use Rattle.algebra.specs.Coded.{mulByte}
-use Rattle.field.specs.Degrees.{fieldOf}
+use Rattle.galois.specs.Degrees.{fieldOf}
 use Rattle.protocol.specs.Strings.{bytesFor}
 use Rattle.strings.specs.Sums.{byteAt, xorSum}
 use Rattle.strings.proofs.XorLaws.{xor-assoc}

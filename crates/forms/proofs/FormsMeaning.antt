@@ -13,7 +13,7 @@ use Rattle.algebra.specs.Coded.{Coded, mulByte, powByte}
 use Rattle.algebra.specs.Sum.{sum, power}
 use Rattle.algebra.proofs.RingLaws.{ring}
 use Rattle.algebra.proofs.SumLaws.{sum-add}
-use Rattle.field.specs.Degrees.{fieldOf, degreeOf, maskElementOf}
+use Rattle.galois.specs.Degrees.{fieldOf, degreeOf, maskElementOf}
 use Rattle.protocol.specs.Lists.{blockAt}
 use Rattle.protocol.specs.Strings.{bytesFor, bit}
 use Rattle.protocol.specs.Alphabet.{Alphabet, sym as symbol, elemAt}
@@ -22,9 +22,9 @@ use Rattle.protocol.specs.Shape.{Shape, maskAt, kOf}
 use Rattle.protocol.specs.Key.{sectionA, sectionB, aSym, bSym}
 use Rattle.protocol.specs.Forms.{α, quad, lin, middle, maskOf, χAt, batch}
 use Rattle.protocol.specs.Prover.{u, v, a₀, a₁, qs0, qs1}
-use Rattle.protocol.proofs.ListLaws.{row-end, block-block}
-use Rattle.protocol.proofs.TestLaws.{ltb-yes}
-use Rattle.protocol.proofs.StringLaws.{bit-lt}
+use Rattle.theorems.proofs.ListLaws.{row-end, block-block}
+use Rattle.theorems.proofs.TestLaws.{ltb-yes}
+use Rattle.theorems.proofs.StringLaws.{bit-lt}
 use Rattle.strings.specs.Sums.{byteAt, xorSum}
 use Rattle.strings.proofs.SumLaws.{sum-same}
 use Rattle.strings.proofs.Meaning.{byte-sum, byte-scale}

@@ -3,7 +3,7 @@
 use Prim.Native.Nat.{ℕ, _^_, _<_}
 use Rattle.algebra.specs.Field.{Field}
 use Rattle.algebra.specs.Coded.{Coded}
-use Rattle.field.specs.Degrees.{fieldOf, degreeOf}
+use Rattle.galois.specs.Degrees.{fieldOf, degreeOf}
 
 -- a number below the field's size has the field's bits
 pub element-bits : (d x : ℕ) → x < fieldOf d .base .size → x < 2 ^ degreeOf d

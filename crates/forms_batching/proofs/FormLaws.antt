@@ -9,7 +9,7 @@ use Rattle.algebra.specs.Ring.{Ring}
 use Rattle.algebra.specs.Field.{Field}
 use Rattle.algebra.specs.Coded.{Coded, mulByte}
 use Rattle.algebra.proofs.RingLaws.{ring}
-use Rattle.field.specs.Degrees.{fieldOf, degreeOf}
+use Rattle.galois.specs.Degrees.{fieldOf, degreeOf}
 use Rattle.strings.specs.Sums.{xorSum}
 use Rattle.strings.proofs.SumLaws.{sum-same}
 use Rattle.forms_columns.specs.Stacks.{byteProduct}

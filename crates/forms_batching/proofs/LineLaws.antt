@@ -13,7 +13,7 @@ use lib.Bits.{bitXor, bitAnd}
 use lib.ListN.{length, set, length-set}
 use lib.Seq.{getD-set-same, getD-set-other}
 use Rattle.protocol.specs.Lists.{blockAt}
-use Rattle.field.specs.Degrees.{fieldOf, degreeOf, degree}
+use Rattle.galois.specs.Degrees.{fieldOf, degreeOf, degree}
 use Rattle.strings.specs.Sums.{byteAt, bitOf, xorSum}
 use Rattle.strings.proofs.Rows.{row-end, row-byte}
 use Rattle.strings.proofs.SumLaws.{sum-same, sum-short, sum-lt}

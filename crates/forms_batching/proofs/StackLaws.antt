@@ -6,8 +6,8 @@ use Prim.Native.Nat.{ℕ, zero, suc, _+_, _*_, _%_, _≤_, _<_}
 use native.Mathlib.Nat.{zero-mul, one-mul, mul-comm, mul-assoc}
 use native.Mathlib.Omega.{arith}
 use lib.Bits.{bitXor, xor-zero-r}
-use Rattle.field.specs.Degrees.{degreeOf}
-use Rattle.field.proofs.DegreeLaws.{each-field, degree-most}
+use Rattle.galois.specs.Degrees.{degreeOf}
+use Rattle.galois.proofs.DegreeLaws.{each-field, degree-most}
 use Rattle.strings.specs.Sums.{byteAt, bitOf, xorSum}
 use Rattle.strings.proofs.SumLaws.{sum-same, sum-none, sum-short, sum-step}
 use Rattle.strings.proofs.XorLaws.{xor-assoc}

@@ -9,7 +9,7 @@ use lib.ListN.{length}
 use lib.Pow.{pow-pos}
 use borrow.Rule.Slice.PartMut.{putMid}
 use Rattle.protocol.specs.Shape.{mostVariables}
-use Rattle.field.specs.Degrees.{degreeOf}
+use Rattle.galois.specs.Degrees.{degreeOf}
 use Rattle.strings.specs.Sums.{byteAt}
 use Rattle.strings.proofs.Rows.{put-before, put-in, put-after}
 use Rattle.lanes.specs.Lanes.{lanes, laneAt}

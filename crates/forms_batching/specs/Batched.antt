@@ -31,7 +31,7 @@ use lib.Bits.{bitXor}
 use lib.ListN.{length}
 use Rattle.protocol.specs.Lists.{blockAt}
 use Rattle.protocol.specs.Shape.{mostVariables}
-use Rattle.field.specs.Degrees.{degreeOf}
+use Rattle.galois.specs.Degrees.{degreeOf}
 use Rattle.strings.specs.Sums.{byteAt, bitOf, xorSum}
 use Rattle.lanes.specs.Lanes.{lanes, laneAt}
 use Rattle.chunks.specs.Chunks.{mostBlock, chunk, cellAt}

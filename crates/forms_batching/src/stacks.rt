@@ -6,7 +6,7 @@ ghost use Prim.Native.Nat.{ℕ, _+_, _*_, _^_, _<_, _≤_};
 ghost use lib.ListN.{length};
 ghost use lib.Bits.{bitXor};
 ghost use Rattle.protocol.specs.Shape.{mostVariables};
-ghost use Rattle.field.specs.Degrees.{degreeOf};
+ghost use Rattle.galois.specs.Degrees.{degreeOf};
 ghost use Rattle.strings.specs.Sums.{byteAt};
 ghost use Rattle.strings.specs.Rows.{RowsKept};
 ghost use Rattle.lanes.specs.Lanes.{lanes, laneAt};

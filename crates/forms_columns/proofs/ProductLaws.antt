@@ -15,12 +15,12 @@ use Rattle.algebra.specs.Sum.{power}
 use Rattle.algebra.proofs.RingLaws.{mul-zero, mul-left-comm}
 use Rattle.algebra.proofs.SumLaws.{sum-mul}
 use Rattle.algebra.proofs.TestLaws.{everyBelow, every-at}
-use Rattle.field.specs.Gf256.{gf256}
-use Rattle.field.specs.Gf16.{gf16}
-use Rattle.field.specs.Degrees.{fieldOf, degreeOf}
+use Rattle.galois.specs.Gf256.{gf256}
+use Rattle.galois.specs.Gf16.{gf16}
+use Rattle.galois.specs.Degrees.{fieldOf, degreeOf}
 use Rattle.field.proofs.ProductLaws.{elem-low}
-use Rattle.field.proofs.DegreeLaws.{each-field, degree-least, degree-most}
-use Rattle.protocol.proofs.StringLaws.{bits-of}
+use Rattle.galois.proofs.DegreeLaws.{each-field, degree-least, degree-most}
+use Rattle.theorems.proofs.StringLaws.{bits-of}
 use Rattle.strings.specs.Sums.{bitOf, xorSum}
 use Rattle.strings.proofs.SumLaws.{sum-same, sum-short}
 use Rattle.strings.proofs.BitLaws.{bits-sum, kept-bit, cut-bit}

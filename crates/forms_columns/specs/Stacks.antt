@@ -32,7 +32,7 @@ use Prim.Native.Nat.{ℕ, _+_, _*_, _-_, _/_, _%_, _<_, _≤_}
 use lib.Bits.{bitXor}
 use lib.ListN.{length}
 use Rattle.algebra.specs.Coded.{mulByte, powByte}
-use Rattle.field.specs.Degrees.{fieldOf, degree}
+use Rattle.galois.specs.Degrees.{fieldOf, degree}
 use Rattle.protocol.specs.Shape.{mostVariables}
 use Rattle.strings.specs.Sums.{byteAt, bitOf, xorSum, maskByte}
 use Rattle.lanes.specs.Lanes.{lanes, laneAt}

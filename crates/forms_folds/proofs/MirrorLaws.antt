@@ -10,7 +10,7 @@ use native.Mathlib.Omega.{arith, ne-cases}
 use lib.Dec.{ltb}
 use lib.ListN.{drop}
 use lib.Seq.{getD-drop}
-use Rattle.protocol.proofs.TestLaws.{ltb-yes, ltb-no}
+use Rattle.theorems.proofs.TestLaws.{ltb-yes, ltb-no}
 use Rattle.strings.specs.Sums.{byteAt, bitOf}
 use Rattle.strings.proofs.Meaning.{bitOf-zero}
 use Rattle.forms_folds.specs.Folds.{entry}

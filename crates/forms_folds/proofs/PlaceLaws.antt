@@ -8,7 +8,7 @@ use native.Mathlib.Nat.{eq-or-lt-of-le, le-of-suc-le-suc}
 use native.Mathlib.Decide.{decLt}
 use native.Mathlib.Omega.{arith}
 use lib.Arith.{digits-div, digits-mod}
-use Rattle.protocol.proofs.TestLaws.{ltb-yes, ltb-no}
+use Rattle.theorems.proofs.TestLaws.{ltb-yes, ltb-no}
 use Rattle.forms_folds.specs.Folds.{before, height}
 use Rattle.forms_folds.specs.Sets.{chunkPlace, Beside}
 

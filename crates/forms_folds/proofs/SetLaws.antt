@@ -16,7 +16,7 @@ use lib.Seq.{getD-drop}
 use borrow.Rule.Slice.PartMut.{putMid}
 use Rattle.protocol.specs.Strings.{bytesFor}
 use Rattle.protocol.specs.Lists.{blockAt}
-use Rattle.protocol.proofs.TestLaws.{ltb-yes, ltb-no}
+use Rattle.theorems.proofs.TestLaws.{ltb-yes, ltb-no}
 use Rattle.strings.specs.Sums.{byteAt, bitOf}
 use Rattle.strings.proofs.Meaning.{bitOf-xor}
 use Rattle.strings.proofs.Rows.{row-end}

@@ -11,7 +11,7 @@ use native.Mathlib.Omega.{arith}
 use lib.Arith.{digits-div}
 use lib.Bits.{bitXor, xor-zero-l, xor-zero-r, xor-comm, xor-lt}
 use lib.Dec.{ltb, lit<}
-use Rattle.protocol.proofs.TestLaws.{ltb-yes, ltb-no}
+use Rattle.theorems.proofs.TestLaws.{ltb-yes, ltb-no}
 use Rattle.protocol.specs.Lists.{blockAt}
 use Rattle.strings.specs.Sums.{xorSum}
 use Rattle.strings.proofs.SumLaws.{sum-same, sum-both, sum-none, sum-short, xor-scale, scale-xor}

@@ -9,7 +9,7 @@ use native.Mathlib.Decide.{decLt}
 use native.Mathlib.Omega.{arith}
 use lib.Pow.{pow-pos}
 use lib.Bits.{bitXor, xor-zero-r}
-use Rattle.field.specs.Degrees.{degreeOf}
+use Rattle.galois.specs.Degrees.{degreeOf}
 use Rattle.strings.specs.Sums.{byteAt, xorSum}
 use Rattle.strings.proofs.SumLaws.{sum-same, sum-none, sum-lt, sum-parts, sum-both}
 use Rattle.forms_columns.specs.Stacks.{byteProduct}

@@ -9,7 +9,7 @@ use native.Mathlib.Decide.{decLt, ℕ-discrete}
 use native.Mathlib.Omega.{arith}
 use lib.Bits.{bitXor}
 use lib.Dec.{ltb, eqb, lit<}
-use Rattle.protocol.proofs.TestLaws.{ltb-yes, ltb-no, leb-yes, leb-no, eqb-same, eqb-other}
+use Rattle.theorems.proofs.TestLaws.{ltb-yes, ltb-no, leb-yes, leb-no, eqb-same, eqb-other}
 use Rattle.protocol.specs.Shape.{mostVariables}
 use Rattle.protocol.specs.Strings.{bytesFor}
 use Rattle.protocol.specs.Lists.{blockAt}

@@ -6,7 +6,7 @@ use Prim.Native.Nat.{ℕ, _+_, _*_, _^_, _<_}
 use native.Mathlib.Nat.{one-mul, mul-comm, mul-assoc}
 use lib.Bits.{bitXor, bitAnd}
 use mathlib.Core.Bool.{cond}
-use Rattle.protocol.proofs.TestLaws.{ltb-yes}
+use Rattle.theorems.proofs.TestLaws.{ltb-yes}
 use Rattle.field.proofs.ProductLaws.{mask-times}
 use Rattle.strings.specs.Sums.{bitOf, xorSum}
 use Rattle.strings.proofs.XorLaws.{xor-assoc}
@@ -15,7 +15,7 @@ use Rattle.strings.proofs.Meaning.{bitOf-lt, bitOf-xor, times-bit}
 use Rattle.chunks.specs.Chunks.{cellAt}
 use Rattle.chunks.proofs.BitSumLaws.{bit-sum}
 use Rattle.forms_columns.specs.Stacks.{alpha, byteProduct, planes, stackAt}
-use Rattle.field.specs.Degrees.{degreeOf}
+use Rattle.galois.specs.Degrees.{degreeOf}
 use Rattle.forms_columns.proofs.ProductLaws.{alpha-add, byte-bits, product-bits}
 
 -- a byte in a plane

@@ -6,7 +6,7 @@ ghost use mathlib.Core.List.{List};
 ghost use Prim.Native.Nat.{ℕ, _+_, _*_, _^_, _<_, _≤_};
 ghost use lib.ListN.{length};
 ghost use lib.Bits.{bitXor, bitAnd};
-ghost use Rattle.field.specs.Degrees.{degreeOf};
+ghost use Rattle.galois.specs.Degrees.{degreeOf};
 ghost use Rattle.strings.specs.Sums.{byteAt};
 ghost use Rattle.chunks.specs.Chunks.{chunk, pair, cellAt, Masks};
 ghost use Rattle.forms_columns.specs.Stacks.{planes, stackAt, twoPlanes, MasksAt};

@@ -5,7 +5,7 @@ use mathlib.Core.Logic.{_≢_}
 use Prim.Native.Nat.{ℕ, _+_, _*_, _<_}
 use native.Mathlib.Decide.{decLt}
 use native.Mathlib.Omega.{arith}
-use Rattle.protocol.proofs.ListLaws.{row-end}
+use Rattle.theorems.proofs.ListLaws.{row-end}
 
 pub cell-other : (q r e c t : ℕ) → r < t → c < t → (q ≡ e → r ≡ c → ⊥) → q * t + r ≢ e * t + c
 cell-other q r e c t hr hc n h = go (decLt q e) (decLt e q)

@@ -14,7 +14,7 @@ use Rattle.protocol.specs.Lists.{part, blockAt}
 use Rattle.protocol.specs.Strings.{bytesFor, bit}
 use Rattle.protocol.specs.Setting.{Setting, alphabetOf}
 use Rattle.protocol.specs.Shape.{Shape, kOf}
-use Rattle.protocol.proofs.ListLaws.{row-end}
+use Rattle.theorems.proofs.ListLaws.{row-end}
 use Rattle.strings.specs.Sums.{byteAt, bitOf, xorSum, selected}
 use Rattle.strings.proofs.Rows.{row-byte}
 use Rattle.strings.proofs.SumLaws.{sum-same, sum-parts, xor-swap}

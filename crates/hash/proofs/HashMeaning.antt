@@ -18,10 +18,10 @@ use Rattle.protocol.specs.Shape.{Shape, kOf, lOf}
 use Rattle.protocol.specs.Key.{rowsSpare}
 use Rattle.protocol.specs.Forms.{hash}
 use Rattle.protocol.specs.Questions.{hExact, hSpare}
-use Rattle.protocol.proofs.TestLaws.{eqb-eq, all-at}
-use Rattle.protocol.proofs.ListLaws.{row-end, length-block}
-use Rattle.protocol.proofs.StringLaws.{bit-lt, spare-at}
-use Rattle.protocol.proofs.HashLaws.{hash-split}
+use Rattle.theorems.proofs.TestLaws.{eqb-eq, all-at}
+use Rattle.theorems.proofs.ListLaws.{row-end, length-block}
+use Rattle.theorems.proofs.StringLaws.{bit-lt, spare-at}
+use Rattle.theorems.proofs.HashLaws.{hash-split}
 use Rattle.strings.specs.Sums.{byteAt, xorSum, selected}
 use Rattle.strings.proofs.SumLaws.{sum-same}
 use Rattle.strings.proofs.Meaning.{byte-sum}

@@ -10,7 +10,7 @@ use Rattle.algebra.proofs.SumLaws.{sum-ext, sum-add}
 use Rattle.protocol.specs.Alphabet.{Alphabet}
 use Rattle.protocol.specs.Shape.{Shape, lOf}
 use Rattle.protocol.specs.Forms.{middle, hash, maskOf}
-use Rattle.protocol.proofs.FormLaws.{quad-congr, lin-congr}
+use Rattle.theorems.proofs.FormLaws.{quad-congr, lin-congr}
 
 module _ (A : Alphabet) (s : Shape) where
   open Alphabet A using (K, masks)

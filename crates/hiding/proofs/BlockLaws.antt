@@ -8,7 +8,7 @@ use native.Mathlib.Omega.{arith}
 use lib.ListN.{length, getD}
 use lib.Seq.{ext-getD}
 use Rattle.protocol.specs.Lists.{blockAt}
-use Rattle.protocol.proofs.ListLaws.{block-getD}
+use Rattle.theorems.proofs.ListLaws.{block-getD}
 
 positive : (τ m i : ℕ) → i < τ * m → 0 < m
 positive τ zero i h = absurd (omega (arith, mul-zero τ))

@@ -23,12 +23,12 @@ use Rattle.protocol.specs.Forms.{error}
 use Rattle.protocol.specs.Prover.{u, v, sectionsOf, proofOf}
 use Rattle.protocol.specs.Questions.{solves}
 use Rattle.protocol.specs.Counting.{opening}
-use Rattle.protocol.proofs.TestLaws.{all-at, all-true, leb-le}
-use Rattle.protocol.proofs.StringLaws.{bytes-block}
-use Rattle.protocol.proofs.ElementLaws.{element-lt}
-use Rattle.protocol.proofs.CountingLaws.{leaves-length}
-use Rattle.protocol.proofs.SymbolLaws.{sym-symbol, pack-sym, spare-pack}
-use Rattle.protocol.proofs.HonestLaws.{sections-back}
+use Rattle.theorems.proofs.TestLaws.{all-at, all-true, leb-le}
+use Rattle.theorems.proofs.StringLaws.{bytes-block}
+use Rattle.theorems.proofs.ElementLaws.{element-lt}
+use Rattle.theorems.proofs.CountingLaws.{leaves-length}
+use Rattle.theorems.proofs.SymbolLaws.{sym-symbol, pack-sym, spare-pack}
+use Rattle.theorems.proofs.HonestLaws.{sections-back}
 use Rattle.hiding.specs.Masks.{Symbols, OneMask}
 use Rattle.hiding.specs.View.{View, viewOf}
 use Rattle.hiding.specs.Hidden.{HiddenForm, withHidden}

@@ -18,12 +18,12 @@ use Rattle.protocol.specs.Key.{rowsSpare}
 use Rattle.protocol.specs.Leaves.{leafAt, openedLeaf}
 use Rattle.protocol.specs.Questions.{leavesExact, leavesSpare, treeOf}
 use Rattle.protocol.specs.Counting.{opening}
-use Rattle.protocol.proofs.TestLaws.{eqb-eq, eqb-same, eqb-other, both-true, all-at, all-of}
-use Rattle.protocol.proofs.ListLaws.{row-end, table-block, table-length}
-use Rattle.protocol.proofs.StringLaws.{bytes-block, bytes-table}
-use Rattle.protocol.proofs.LeafLaws.{length-leaf}
-use Rattle.protocol.proofs.CountingLaws.{leaves-length}
-use Rattle.protocol.proofs.Theorems.{opened-by-place}
+use Rattle.theorems.proofs.TestLaws.{eqb-eq, eqb-same, eqb-other, both-true, all-at, all-of}
+use Rattle.theorems.proofs.ListLaws.{row-end, table-block, table-length}
+use Rattle.theorems.proofs.StringLaws.{bytes-block, bytes-table}
+use Rattle.theorems.proofs.LeafLaws.{length-leaf}
+use Rattle.theorems.proofs.CountingLaws.{leaves-length}
+use Rattle.theorems.proofs.Theorems.{opened-by-place}
 use Rattle.hiding.specs.Hidden.{hiddenForm, HiddenForm, hiddenOf, treeWith, withHidden, IsReplacement}
 use Rattle.hiding.proofs.BlockLaws.{digits, blocks-ext}
 use Rattle.hiding.proofs.HiddenLaws.{with-length, with-leaf, with-opened}

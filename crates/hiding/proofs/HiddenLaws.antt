@@ -22,9 +22,9 @@ use Rattle.protocol.specs.Leaves.{rising, unless, except, leafAt, openTree, ope
 use Rattle.protocol.specs.Prover.{u, v}
 use Rattle.protocol.specs.Counting.{opening}
 use Rattle.hiding.specs.Hidden.{treeWith, withHidden}
-use Rattle.protocol.proofs.TestLaws.{eqb-same, eqb-other}
-use Rattle.protocol.proofs.ListLaws.{row-end, length-block, table-block, table-length, table-congr, block-block}
-use Rattle.protocol.proofs.LeafLaws.{length-leaf}
+use Rattle.theorems.proofs.TestLaws.{eqb-same, eqb-other}
+use Rattle.theorems.proofs.ListLaws.{row-end, length-block, table-block, table-length, table-congr, block-block}
+use Rattle.theorems.proofs.LeafLaws.{length-leaf}
 
 -- ---- a sum with one term replaced
 

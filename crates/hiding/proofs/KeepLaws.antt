@@ -17,9 +17,9 @@ use Rattle.protocol.specs.Shape.{Shape, lOf}
 use Rattle.protocol.specs.Forms.{quad, lin, yOf, middle, error, hash, maskOf, batch}
 use Rattle.protocol.specs.Prover.{u, v, correction, dOf, a₀, a₁, qs0, qs1, sectionsOf}
 use Rattle.hiding.specs.Masks.{OneMask}
-use Rattle.protocol.proofs.FormLaws.{hash-congr, hash-line, mask-congr, mask-line, quad-congr, lin-congr, batch-congr, batch-zero, batch-three, expand}
+use Rattle.theorems.proofs.FormLaws.{hash-congr, hash-line, mask-congr, mask-line, quad-congr, lin-congr, batch-congr, batch-zero, batch-three, expand}
 use Rattle.hiding.proofs.AddLaws.{hash-add, mask-add, middle-congr}
-use Rattle.protocol.proofs.HonestLaws.{n-below}
+use Rattle.theorems.proofs.HonestLaws.{n-below}
 use Rattle.hiding.proofs.ShiftLaws.{Fits}
 use Rattle.hiding.proofs.SameProofLaws.{same-C, same-d, same-ũ, same-Ṽ, same-QS0, same-QS1, C-same, d-same, ũ-same, QS1-same}
 

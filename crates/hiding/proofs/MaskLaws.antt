@@ -12,9 +12,9 @@ use Rattle.algebra.specs.Bits.{Bits, unit, scale, bit, elem}
 use Rattle.algebra.specs.BitField.{Passes, computing}
 use Rattle.algebra.proofs.SumLaws.{sum-ext}
 use Rattle.algebra.proofs.BitFieldLaws.{ringOf, coded}
-use Rattle.field.specs.Gf256.{modulus, passes as passes256, gf256}
-use Rattle.field.specs.Gf16.{modulus as modulus16, passes as passes16, gf16}
-use Rattle.field.specs.Degrees.{fieldOf}
+use Rattle.galois.specs.Gf256.{modulus, passes as passes256, gf256}
+use Rattle.galois.specs.Gf16.{modulus as modulus16, passes as passes16, gf16}
+use Rattle.galois.specs.Degrees.{fieldOf}
 use Rattle.protocol.specs.Alphabet.{Alphabet, IsSymbol}
 use Rattle.protocol.specs.Binary.{binary}
 use Rattle.protocol.specs.Forms.{α}

@@ -15,8 +15,8 @@ use Rattle.protocol.specs.Sections.{Sections}
 use Rattle.protocol.specs.Forms.{hash}
 use Rattle.protocol.specs.Prover.{u, v, correction, dOf, qs0, qs1, cSection, dSection, ũSection, ṼSection, qs0Section, qs1Section, sectionsOf}
 use Rattle.protocol.specs.Verifier.{correctionAt}
-use Rattle.protocol.proofs.ListLaws.{table-congr}
-use Rattle.protocol.proofs.HonestLaws.{shift-is, d-is, ũ-is, QS1-is}
+use Rattle.theorems.proofs.ListLaws.{table-congr}
+use Rattle.theorems.proofs.HonestLaws.{shift-is, d-is, ũ-is, QS1-is}
 
 module _ (A : Alphabet) (laws : Lawful A) (s : Shape) (key H′ χ leaves x leaves′ x′ : List ℕ) where
   open Alphabet A using (K, symbolOf, pack)

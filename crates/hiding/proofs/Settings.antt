@@ -2,13 +2,13 @@
 -- Assumes nothing.
 use mathlib.Core.List.{List}
 use Prim.Native.Nat.{ℕ}
-use Rattle.field.specs.Degrees.{fieldOf}
+use Rattle.galois.specs.Degrees.{fieldOf}
 use Rattle.protocol.specs.Alphabet.{Alphabet, Lawful}
 use Rattle.protocol.specs.Setting.{Setting, alphabetOf}
 use Rattle.protocol.specs.Shape.{shapeOf}
 use Rattle.protocol.specs.Calls.{honestQuestions, honestForm}
-use Rattle.protocol.proofs.AnswerLaws.{all-yes, yes-all}
-use Rattle.protocol.proofs.BinaryLaws.{binary-lawful}
+use Rattle.theorems.proofs.AnswerLaws.{all-yes, yes-all}
+use Rattle.theorems.proofs.BinaryLaws.{binary-lawful}
 use Rattle.hiding.specs.Masks.{OneMask}
 use Rattle.hiding.specs.View.{viewOf}
 use Rattle.hiding.specs.Hidden.{HiddenForm, withHidden}

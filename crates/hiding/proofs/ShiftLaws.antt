@@ -21,11 +21,11 @@ use Rattle.protocol.specs.Alphabet.{Alphabet, sym as symbol, IsSymbol, Lawful}
 use Rattle.protocol.specs.Shape.{Shape, maskAt, kOf, lOf}
 use Rattle.protocol.specs.Forms.{α, hash, maskOf}
 use Rattle.hiding.specs.Masks.{Symbols, OneMask}
-use Rattle.protocol.proofs.TestLaws.{ltb-yes, ltb-no}
+use Rattle.theorems.proofs.TestLaws.{ltb-yes, ltb-no}
 use Rattle.hiding.proofs.BlockLaws.{digits}
-use Rattle.protocol.proofs.FormLaws.{mask-in}
-use Rattle.protocol.proofs.HashLaws.{hash-split}
-use Rattle.protocol.proofs.SymbolLaws.{sym-symbol, sum-symbol}
+use Rattle.theorems.proofs.FormLaws.{mask-in}
+use Rattle.theorems.proofs.HashLaws.{hash-split}
+use Rattle.theorems.proofs.SymbolLaws.{sym-symbol, sum-symbol}
 
 module _ (A : Alphabet) (laws : Lawful A) (one : OneMask A) (s : Shape) (H′ : List ℕ) where
   open Alphabet A using (K, width, masks)

@@ -7,7 +7,7 @@ use Prim.Native.Nat.{ℕ, _≤_}
 use native.Mathlib.Omega.{arith}
 use lib.Dec.{leb, lit<}
 use lib.ListN.{length, getD}
-use Rattle.field.specs.Degrees.{fieldOf}
+use Rattle.galois.specs.Degrees.{fieldOf}
 use Rattle.protocol.specs.Lists.{allBelow}
 use Rattle.protocol.specs.Strings.{bytes}
 use Rattle.protocol.specs.Binary.{bits16}
@@ -15,7 +15,7 @@ use Rattle.protocol.specs.Shape.{Shape}
 use Rattle.protocol.specs.Prover.{proofOf}
 use Rattle.protocol.specs.Counting.{opening}
 use Rattle.protocol.specs.SmallExample.{four, sizes, key, witness, leaves, H′, χ, Δ, proof, opened}
-use Rattle.protocol.proofs.TestLaws.{all-at, leb-le}
+use Rattle.theorems.proofs.TestLaws.{all-at, leb-le}
 use Rattle.protocol.proofs.Computing.{computing}
 use Rattle.protocol.proofs.SmallExample.{small-bytes, small-proof, small-replies}
 use Rattle.hiding.specs.View.{View}

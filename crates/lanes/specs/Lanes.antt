@@ -18,7 +18,7 @@ use lib.ListN.{length}
 use lib.Bits.{bitXor}
 use Rattle.protocol.specs.Shape.{mostRepetitions, maskAt}
 use Rattle.algebra.specs.Coded.{Coded, mulByte}
-use Rattle.field.specs.Degrees.{fieldOf, degreeOf, maskElementOf}
+use Rattle.galois.specs.Degrees.{fieldOf, degreeOf, maskElementOf}
 use Rattle.protocol.specs.Strings.{bit}
 use Rattle.strings.specs.Sums.{byteAt, xorSum}
 use Rattle.format.specs.Sizes.{alphabetFor, shapeFor}

@@ -7,7 +7,7 @@ use Rattle.algebra.specs.Sum.{form, power}
 use Rattle.protocol.specs.Lists.{table, concat, allBelow, firstNot, part, blockAt}
 use Rattle.protocol.specs.Strings.{bytesFor, bit, spareZero, fromBits, pack}
 use Rattle.protocol.specs.Frames.{num2, num4, count4, frame, framed, sectionNo, framedLength}
-use Rattle.field.specs.Degrees.{fieldOf}
+use Rattle.galois.specs.Degrees.{fieldOf}
 use Rattle.protocol.specs.Alphabet.{sym, elemAt, elementsIn}
 use Rattle.protocol.specs.Setting.{served}
 use Rattle.protocol.specs.Shape.{within, limits, perTree, perOpened, maskAt, kOf, lOf, wOf}

@@ -4,8 +4,8 @@
 -- Assumes nothing.
 use Prim.Native.Nat.{ℕ, _%_}
 use Rattle.algebra.specs.Coded.{Coded}
-use Rattle.field.specs.Gf256.{gf256}
-use Rattle.field.specs.Gf16.{gf16}
+use Rattle.galois.specs.Gf256.{gf256}
+use Rattle.galois.specs.Gf16.{gf16}
 use Rattle.protocol.specs.Strings.{bytesFor, bit, pack, spareZero}
 use Rattle.protocol.specs.Alphabet.{Alphabet}
 

@@ -19,12 +19,9 @@ pub mod Calls
 pub mod Counting
 pub mod Coefficients
 pub mod Check
-pub mod Statements
-pub mod Demands
 pub mod SmallExample
 pub mod ThreeRepetitions
 pub mod QuestionNumbers
-pub mod NoEquations
 pub mod PracticeKey
 pub mod Edges
 pub mod CheckEdges

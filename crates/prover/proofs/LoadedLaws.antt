@@ -12,8 +12,8 @@ use Rattle.protocol.specs.Alphabet.{Alphabet}
 use Rattle.protocol.specs.Setting.{Setting, alphabetOf}
 use Rattle.protocol.specs.Shape.{Shape, limits, perTree, wOf}
 use Rattle.protocol.specs.Sections.{commitLengths, hashLengths}
-use Rattle.protocol.proofs.CountingLaws.{leaves-length}
-use Rattle.protocol.proofs.ListLaws.{row-end}
+use Rattle.theorems.proofs.CountingLaws.{leaves-length}
+use Rattle.theorems.proofs.ListLaws.{row-end}
 use Rattle.format.proofs.FitLaws.{room, variables-fit}
 use Rattle.format.specs.Limits.{mostLeaf}
 use Rattle.lanes.specs.Lanes.{lanes}

@@ -14,8 +14,8 @@ use Rattle.protocol.specs.Shape.{Shape, perTree, kOf, lOf, wOf}
 use Rattle.protocol.specs.Forms.{hash}
 use Rattle.protocol.specs.Prover.{v, ṼSection}
 use Rattle.protocol.specs.Questions.{hExact}
-use Rattle.protocol.proofs.TestLaws.{eqb-eq}
-use Rattle.protocol.proofs.ListLaws.{row-end, length-table, table-at}
+use Rattle.theorems.proofs.TestLaws.{eqb-eq}
+use Rattle.theorems.proofs.ListLaws.{row-end, length-table, table-at}
 use Rattle.strings.specs.Sums.{byteAt}
 use Rattle.lanes.specs.Lanes.{lanes}
 use Rattle.tables.specs.Sums.{TableIs}

@@ -19,10 +19,10 @@ use Rattle.protocol.specs.Shape.{Shape, perTree, kOf, lOf, wOf}
 use Rattle.protocol.specs.Questions.{hExact, hSpare, leavesExact, leavesSpare}
 use Rattle.protocol.specs.Key.{rowsSpare}
 use Rattle.protocol.specs.Prover.{u, correction, dOf, cSection, dSection, ũSection}
-use Rattle.protocol.proofs.ListLaws.{length-block}
-use Rattle.protocol.proofs.StringLaws.{bit-lt, spare-at, pack-congr}
-use Rattle.protocol.proofs.HashLaws.{hash-split}
-use Rattle.protocol.proofs.TestLaws.{eqb-eq, all-at}
+use Rattle.theorems.proofs.ListLaws.{length-block}
+use Rattle.theorems.proofs.StringLaws.{bit-lt, spare-at, pack-congr}
+use Rattle.theorems.proofs.HashLaws.{hash-split}
+use Rattle.theorems.proofs.TestLaws.{eqb-eq, all-at}
 use Rattle.format.proofs.FitLaws.{in-width}
 use Rattle.strings.specs.Sums.{byteAt, bitOf}
 use Rattle.strings.specs.Products.{bitProduct}

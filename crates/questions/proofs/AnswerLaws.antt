@@ -8,7 +8,7 @@ use native.Mathlib.Omega.{arith}
 use lib.Dec.{leb}
 use Rattle.protocol.specs.Lists.{allBelow, firstNot}
 use Rattle.protocol.specs.Answers.{Answer, question, ask}
-use Rattle.protocol.proofs.TestLaws.{leb-yes, leb-le, bool-iff, all-at}
+use Rattle.theorems.proofs.TestLaws.{leb-yes, leb-le, bool-iff, all-at}
 use Rattle.questions.proofs.FirstLaws.{first-none, first-all}
 
 -- the first that fails is past the end where all hold

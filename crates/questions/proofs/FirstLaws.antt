@@ -6,7 +6,7 @@ use mathlib.Core.Bool.{Bool, true, false}
 use Prim.Native.Nat.{ℕ, zero, suc, _≤_, _<_}
 use native.Mathlib.Omega.{arith}
 use Rattle.protocol.specs.Lists.{allBelow, firstNot}
-use Rattle.protocol.proofs.TestLaws.{all-of, first-before}
+use Rattle.theorems.proofs.TestLaws.{all-of, first-before}
 
 pub first-none : (n : ℕ) (p : ℕ → Bool) → ((k : ℕ) → k < n → p k ≡ true) → firstNot n p ≡ n
 unfolding firstNot

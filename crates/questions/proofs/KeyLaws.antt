@@ -13,8 +13,8 @@ use Rattle.protocol.specs.Shape.{Shape, shapeOf}
 use Rattle.protocol.specs.Key.{keyLengths, keyExact}
 use Rattle.protocol.specs.Answers.{accepted, ask}
 use Rattle.protocol.specs.Calls.{keyQuestions}
-use Rattle.protocol.proofs.TestLaws.{leb-le}
-use Rattle.protocol.proofs.AnswerLaws.{ask-accepts, all-yes}
+use Rattle.theorems.proofs.TestLaws.{leb-le}
+use Rattle.theorems.proofs.AnswerLaws.{ask-accepts, all-yes}
 use Rattle.questions.specs.Asking.{SizedKey, KeyForm}
 use Rattle.questions.specs.Facts.{KeyFacts}
 use Rattle.format.specs.Sizes.{settingFor, alphabetFor, shapeFor, SizesOf}

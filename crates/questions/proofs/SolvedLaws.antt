@@ -5,14 +5,14 @@ use mathlib.Core.Bool.{true}
 use mathlib.Core.List.{List, [], _∷_}
 use Prim.Native.Nat.{ℕ, _<_}
 use lib.ListN.{length}
-use Rattle.field.specs.Degrees.{fieldOf}
+use Rattle.galois.specs.Degrees.{fieldOf}
 use Rattle.protocol.specs.Strings.{spareZero}
 use Rattle.protocol.specs.Setting.{Setting, alphabetOf}
 use Rattle.protocol.specs.Shape.{shapeOf}
 use Rattle.protocol.specs.Key.{sectionA, sectionB, sectionY}
 use Rattle.protocol.specs.Answers.{Answer, accepted, refused, ask}
 use Rattle.protocol.specs.Questions.{q11}
-use Rattle.protocol.proofs.AnswerLaws.{ask-none, ask-no, ask-yes}
+use Rattle.theorems.proofs.AnswerLaws.{ask-none, ask-no, ask-yes}
 use Rattle.strings.specs.Sums.{byteAt}
 use Rattle.equations.specs.Equations.{keyError}
 use Rattle.equations.proofs.EquationsMeaning.{none-solves, first-named, first-refutes}

@@ -8,15 +8,15 @@ use lib.Dec.{eqb, ltb}
 use lib.ListN.{length, getD}
 use Rattle.algebra.specs.Field.{Field}
 use Rattle.algebra.specs.Coded.{Coded}
-use Rattle.field.specs.Gf16.{gf16}
-use Rattle.field.specs.Degrees.{fieldOf, sizeOf}
-use Rattle.field.proofs.DegreeLaws.{size-four, size-other}
+use Rattle.galois.specs.Gf16.{gf16}
+use Rattle.galois.specs.Degrees.{fieldOf, sizeOf}
+use Rattle.galois.proofs.DegreeLaws.{size-four, size-other}
 use Rattle.protocol.specs.Lists.{allBelow}
 use Rattle.protocol.specs.Strings.{bytes}
 use Rattle.protocol.specs.Alphabet.{elementsIn}
 use Rattle.protocol.specs.Setting.{setting, alphabetOf}
-use Rattle.protocol.proofs.TestLaws.{eqb-eq, eqb-same}
-use Rattle.protocol.proofs.ElementLaws.{elements-bytes}
+use Rattle.theorems.proofs.TestLaws.{eqb-eq, eqb-same}
+use Rattle.theorems.proofs.ElementLaws.{elements-bytes}
 use Rattle.sections.specs.Spare.{narrow}
 
 narrow-elements : (d : ℕ) (s : List ℕ) → d ≡ gf16 .degree → narrow s ≡ elementsIn (alphabetOf (setting d)) s

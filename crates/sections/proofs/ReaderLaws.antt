@@ -18,7 +18,7 @@ use Rattle.protocol.specs.Lists.{part}
 use Rattle.protocol.specs.Frames.{num4, framed, sectionNo, framedLength}
 use Rattle.protocol.specs.Reader.{Extent, between, missing, sectionAt}
 use Rattle.protocol.specs.Answers.{Answer, accepted, refused, question, ask}
-use Rattle.protocol.proofs.TestLaws.{eqb-same, eqb-other}
+use Rattle.theorems.proofs.TestLaws.{eqb-same, eqb-other}
 use Rattle.format.specs.Verdict.{answerOf, andThen}
 use Rattle.format.specs.declared.Refusal.{Refusal}
 use Rattle.format.specs.declared.Verdict.the-variants.{Accepted, Refused}

@@ -14,7 +14,7 @@ use Rattle.protocol.specs.Frames.{framed, sectionNo}
 use Rattle.protocol.specs.Alphabet.{Alphabet}
 use Rattle.protocol.specs.Shape.{Shape}
 use Rattle.protocol.specs.Sections.{lengths, sectionsIn}
-use Rattle.protocol.proofs.TestLaws.{eqb-same, eqb-eq}
+use Rattle.theorems.proofs.TestLaws.{eqb-same, eqb-eq}
 use Rattle.sections.specs.Reading.{Reads}
 use Rattle.sections.proofs.SectionLaws.{section-is, whole, follow-next, follow-end}
 

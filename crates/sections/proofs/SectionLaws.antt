@@ -16,7 +16,7 @@ use Rattle.algebra.proofs.CountLaws.{and-left, and-right}
 use Rattle.protocol.specs.Lists.{part}
 use Rattle.protocol.specs.Frames.{num2, num4, framed, sectionNo, framedLength}
 use Rattle.protocol.specs.Reader.{Extent, between, missing, sectionAt}
-use Rattle.protocol.proofs.TestLaws.{eqb-same, eqb-eq, leb-yes, leb-no, leb-le, both-true, bool-iff}
+use Rattle.theorems.proofs.TestLaws.{eqb-same, eqb-eq, leb-yes, leb-no, leb-le, both-true, bool-iff}
 
 -- ---- one section
 

@@ -16,16 +16,16 @@ use lib.Seq.{take-all}
 use Rattle.algebra.proofs.CountLaws.{and-left, and-right}
 use Rattle.algebra.specs.Field.{Field}
 use Rattle.algebra.specs.Coded.{Coded}
-use Rattle.field.specs.Gf16.{gf16}
+use Rattle.galois.specs.Gf16.{gf16}
 use Rattle.protocol.specs.Lists.{allBelow, part, blockAt}
 use Rattle.protocol.specs.Strings.{bytesFor, bit, fromBits, spareZero}
 use Rattle.protocol.specs.Setting.{Setting, alphabetOf}
 use Rattle.protocol.specs.Key.{rowsSpare}
 use Rattle.sections.specs.Spare.{bitsSpare}
-use Rattle.protocol.proofs.TestLaws.{eqb-same, eqb-eq, ltb-yes, and-true, both-true, bool-iff, all-of}
-use Rattle.protocol.proofs.ElementLaws.{ltb-lt}
-use Rattle.protocol.proofs.ListLaws.{row-end, length-block, block-getD}
-use Rattle.protocol.proofs.StringLaws.{bits-of, bits-congr, spare-at}
+use Rattle.theorems.proofs.TestLaws.{eqb-same, eqb-eq, ltb-yes, and-true, both-true, bool-iff, all-of}
+use Rattle.theorems.proofs.ElementLaws.{ltb-lt}
+use Rattle.theorems.proofs.ListLaws.{row-end, length-block, block-getD}
+use Rattle.theorems.proofs.StringLaws.{bits-of, bits-congr, spare-at}
 
 or-none : (a b : ℕ) → bitOr a b ≡ 0 → (a ≡ 0) × (b ≡ 0)
 or-none a b h =

@@ -9,7 +9,7 @@ use borrow.Rule.Slice.PartMut.{putMid}
 use lib.ListN.{length, set, take, drop, drop-of-length-le, length-append, length-take, length-drop, replicate, length-replicate}
 use lib.Seq.{take-at, drop-at}
 use Rattle.protocol.specs.Frames.{count4, frame}
-use Rattle.protocol.proofs.FrameLaws.{frame-append}
+use Rattle.theorems.proofs.FrameLaws.{frame-append}
 
 -- four stores to a list of four
 pub four : (l : List ℕ) (a b c d : ℕ) → length l ≡ 4 → set (set (set (set l 0 a) 1 b) 2 c) 3 d ≡ a ∷ b ∷ c ∷ d ∷ []

@@ -9,7 +9,7 @@ use lib.Dec.{ltb}
 use lib.ListN.{length, getD}
 use Rattle.algebra.specs.Field.{Field}
 use Rattle.algebra.specs.Coded.{Coded}
-use Rattle.field.specs.Gf16.{gf16}
+use Rattle.galois.specs.Gf16.{gf16}
 use Rattle.protocol.specs.Lists.{allBelow, blockAt}
 use Rattle.protocol.specs.Strings.{bytesFor, spareZero}
 

@@ -18,8 +18,8 @@ use Rattle.protocol.specs.Sections.{lengths, commitLengths, hashLengths, batchL
 use Rattle.protocol.specs.Answers.{accepted, ask, Question}
 use Rattle.protocol.specs.Questions.{hExact, χExact, witnessForm}
 use Rattle.protocol.specs.Calls.{testQuestions, commitQuestions, hashQuestions, batchQuestions, proveQuestions}
-use Rattle.protocol.proofs.TestLaws.{eqb-eq, leb-le, all-true}
-use Rattle.protocol.proofs.AnswerLaws.{ask-accepts, all-yes}
+use Rattle.theorems.proofs.TestLaws.{eqb-eq, leb-le, all-true}
+use Rattle.theorems.proofs.AnswerLaws.{ask-accepts, all-yes}
 use Rattle.format.proofs.FitLaws.{batching-of}
 use Rattle.questions.specs.Facts.{KeyFacts, WitnessForm, TestFacts, CommitFacts, HashFacts, BatchFacts, ProveFacts}
 

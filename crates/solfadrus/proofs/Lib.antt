@@ -1,6 +1,2 @@
 pub mod FactLaws
 pub mod SizedLaws
-pub mod ToldLaws
-pub mod Demands
-pub mod Forgery
-pub mod Hiding

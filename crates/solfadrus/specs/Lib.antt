@@ -1,5 +1,1 @@
 pub mod Sized
-pub mod Told
-pub mod Demands
-pub mod Forgery
-pub mod Hiding

@@ -4,7 +4,7 @@ ghost use mathlib.Core.Path.{_≡_};
 ghost use Rattle.protocol.specs.Setting.{setting};
 ghost use Rattle.protocol.specs.Calls.{testAnswer, commitAnswer, hashAnswer, batchAnswer, proveAnswer};
 ghost use Rattle.format.specs.Verdict.{answerOf};
-ghost use Rattle.solfadrus.specs.Told.{CommitOutput, HashOutput, BatchOutput, ProveOutput};
+ghost use Rattle.demands.specs.Told.{CommitOutput, HashOutput, BatchOutput, ProveOutput};
 use format::Verdict;
 use format::sizes::sizes_of;
 use questions::witness::solved;

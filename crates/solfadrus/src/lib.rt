@@ -2,7 +2,7 @@
 // number: 0 for accepted, else number × 65,536 + place.
 ghost use mathlib.Core.Path.{_≡_};
 ghost use Rattle.protocol.specs.Setting.{setting};
-ghost use Rattle.solfadrus.specs.Demands.{TestTold, CommitWrites, HashWrites, BatchWrites, ProveWrites, VerifyTold};
+ghost use Rattle.demands.specs.Demands.{TestTold, CommitWrites, HashWrites, BatchWrites, ProveWrites, VerifyTold};
 
 pub mod calls;
 mod sizes;

@@ -13,7 +13,7 @@ use native.Mathlib.Decide.{ℕ-discrete}
 use native.Mathlib.Omega.{arith, ne-cases}
 use lib.Bits.{bitAnd, bitXor, and-mask, xor-comm, xor-shifted, xor-zero-r}
 use Rattle.protocol.specs.Strings.{bytesFor, bit, fromBits}
-use Rattle.protocol.proofs.StringLaws.{bits-lt}
+use Rattle.theorems.proofs.StringLaws.{bits-lt}
 use Rattle.strings.specs.Sums.{byteAt, bitOf, xorSum}
 use Rattle.strings.proofs.Meaning.{bitOf-xor, bit-is}
 

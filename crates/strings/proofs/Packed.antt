@@ -13,8 +13,8 @@ use lib.ListN.{length, take, drop, length-drop, take-append-drop}
 use lib.Seq.{drop-drop}
 use Rattle.protocol.specs.Lists.{table, concat, part, blockAt}
 use Rattle.protocol.specs.Strings.{bytesFor, bit, spareZero, pack}
-use Rattle.protocol.proofs.TestLaws.{eqb-same, ltb-no, all-of}
-use Rattle.protocol.proofs.StringLaws.{string-is, pack-congr}
+use Rattle.theorems.proofs.TestLaws.{eqb-same, ltb-no, all-of}
+use Rattle.theorems.proofs.StringLaws.{string-is, pack-congr}
 use Rattle.strings.specs.Sums.{byteAt}
 
 pub spare-of : (L : ℕ) (s : List ℕ) → ((c : ℕ) → L ≤ c → c < length s * 8 → bit s c ≡ 0) → spareZero s L ≡ true

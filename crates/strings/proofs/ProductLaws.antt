@@ -11,7 +11,7 @@ use lib.Pow.{shr-shr}
 use Rattle.algebra.specs.Coded.{Coded}
 use Rattle.algebra.specs.Sum.{sum}
 use Rattle.protocol.specs.Strings.{bit}
-use Rattle.protocol.proofs.StringLaws.{bit-lt}
+use Rattle.theorems.proofs.StringLaws.{bit-lt}
 use Rattle.strings.specs.Sums.{bitOf}
 use Rattle.strings.specs.Products.{bitProduct}
 use Rattle.strings.proofs.SumLaws.{sum-same, sum-lt}

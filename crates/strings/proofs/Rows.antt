@@ -12,7 +12,7 @@ use lib.Seq.{length-take-le, getD-take, getD-drop, getD-append-add}
 use borrow.Rule.Slice.PartMut.{putMid}
 use Rattle.strings.specs.Sums.{byteAt}
 use Rattle.protocol.specs.Lists.{part, blockAt}
-pub use Rattle.protocol.proofs.ListLaws.{row-end}
+pub use Rattle.theorems.proofs.ListLaws.{row-end}
 
 pub row-byte : (table : List ℕ) (w i b : ℕ) → b < w → byteAt (blockAt table w i) b ≡ byteAt table (i * w + b)
 unfolding blockAt part

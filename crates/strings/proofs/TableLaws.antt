@@ -8,7 +8,7 @@ use native.Mathlib.Omega.{arith}
 use lib.ListN.{length, getD, take, length-take}
 use lib.Seq.{ext-getD, getD-take}
 use Rattle.protocol.specs.Lists.{table, concat, blockAt}
-use Rattle.protocol.proofs.ListLaws.{length-table, table-at, table-length, table-block, block-getD}
+use Rattle.theorems.proofs.ListLaws.{length-table, table-at, table-length, table-block, block-getD}
 
 pub list-table : (l : List ℕ) (n : ℕ) (f : ℕ → ℕ) → length l ≡ n → ((i : ℕ) → i < n → getD l i 0 ≡ f i) → l ≡ table n f
 list-table l n f h e =

@@ -18,9 +18,9 @@ use Rattle.protocol.specs.Key.{rowsSpare}
 use Rattle.protocol.specs.Questions.{leavesExact, leavesSpare}
 use Rattle.protocol.specs.Leaves.{leafAt}
 use Rattle.protocol.specs.Prover.{u, v}
-use Rattle.protocol.proofs.TestLaws.{eqb-eq, eqb-same, bool-iff, all-at}
-use Rattle.protocol.proofs.ListLaws.{row-end, length-block}
-use Rattle.protocol.proofs.StringLaws.{bit-lt, spare-at}
+use Rattle.theorems.proofs.TestLaws.{eqb-eq, eqb-same, bool-iff, all-at}
+use Rattle.theorems.proofs.ListLaws.{row-end, length-block}
+use Rattle.theorems.proofs.StringLaws.{bit-lt, spare-at}
 use Rattle.strings.specs.Sums.{byteAt, bitOf, xorSum}
 use Rattle.strings.proofs.Rows.{row-byte}
 use Rattle.strings.proofs.SumLaws.{sum-same, sum-lt, sum-none}

@@ -16,8 +16,8 @@ use borrow.Rule.Slice.PartMut.{putMid}
 use Rattle.protocol.specs.Lists.{blockAt}
 use Rattle.protocol.specs.Strings.{bit}
 use Rattle.protocol.specs.Leaves.{place}
-use Rattle.protocol.proofs.LeafLaws.{place-below, place-above}
-use Rattle.protocol.proofs.StringLaws.{bit-lt, bits-congr, bits-of}
+use Rattle.theorems.proofs.LeafLaws.{place-below, place-above}
+use Rattle.theorems.proofs.StringLaws.{bit-lt, bits-congr, bits-of}
 use Rattle.strings.specs.Sums.{byteAt, bitOf, xorSum}
 use Rattle.strings.proofs.Rows.{row-end, row-byte, put-before, put-in}
 use Rattle.strings.proofs.BitLaws.{place-other}

@@ -12,7 +12,7 @@ use lib.Pow.{pow-pos}
 use Rattle.protocol.specs.Lists.{blockAt}
 use Rattle.protocol.specs.Strings.{bit}
 use Rattle.protocol.specs.Leaves.{openedLeaf}
-use Rattle.protocol.proofs.StringLaws.{bit-lt}
+use Rattle.theorems.proofs.StringLaws.{bit-lt}
 use Rattle.strings.specs.Sums.{byteAt, bitOf, xorSum}
 use Rattle.strings.proofs.Rows.{row-byte}
 use Rattle.strings.proofs.SumLaws.{sum-same, sum-both, sum-scale, sum-lt, scale-xor, xor-scale}

@@ -14,8 +14,8 @@ use lib.Bits.{bitXor, xor-comm, xor-zero-r}
 use lib.ListN.{length}
 use Rattle.protocol.specs.Lists.{blockAt}
 use Rattle.protocol.specs.Leaves.{place, openedLeaf}
-use Rattle.protocol.proofs.TestLaws.{eqb-other}
-use Rattle.protocol.proofs.LeafLaws.{place-below, place-above}
+use Rattle.theorems.proofs.TestLaws.{eqb-other}
+use Rattle.theorems.proofs.LeafLaws.{place-below, place-above}
 use Rattle.strings.specs.Sums.{byteAt, bitOf}
 use Rattle.strings.proofs.Rows.{row-byte}
 use Rattle.strings.proofs.Meaning.{bitOf-lt}

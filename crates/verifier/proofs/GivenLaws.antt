@@ -13,9 +13,9 @@ use Rattle.protocol.specs.Sections.{Sections, sectionsIn}
 use Rattle.protocol.specs.Answers.{Answer, accepted, ask}
 use Rattle.protocol.specs.Questions.{ΔExact, hExact, χExact, leavesExact, proofElements}
 use Rattle.protocol.specs.Calls.{keyQuestions, verifyAnswer}
-use Rattle.protocol.proofs.TestLaws.{eqb-eq, all-true}
-use Rattle.protocol.proofs.AnswerLaws.{ask-accepts, all-yes}
-use Rattle.protocol.proofs.ElementLaws.{element-lt}
+use Rattle.theorems.proofs.TestLaws.{eqb-eq, all-true}
+use Rattle.theorems.proofs.AnswerLaws.{ask-accepts, all-yes}
+use Rattle.theorems.proofs.ElementLaws.{element-lt}
 use Rattle.strings.specs.Sums.{byteAt}
 use Rattle.lanes.specs.Lanes.{lanes}
 use Rattle.tables_opened.specs.Opened.{OpenedTableIs, Opened}

@@ -14,8 +14,8 @@ use Rattle.protocol.specs.Shape.{Shape, kOf, lOf}
 use Rattle.protocol.specs.Sections.{Sections, sectionsIn}
 use Rattle.protocol.specs.Questions.{treeOf, consistentIn}
 use Rattle.protocol.specs.Verifier.{W, consistent, consistentAt}
-use Rattle.protocol.proofs.StringLaws.{bit-lt}
-use Rattle.protocol.proofs.TestLaws.{all-congr}
+use Rattle.theorems.proofs.StringLaws.{bit-lt}
+use Rattle.theorems.proofs.TestLaws.{all-congr}
 use Rattle.strings.specs.Sums.{byteAt}
 use Rattle.strings.proofs.Rows.{row-byte}
 use Rattle.strings.proofs.Meaning.{byte-times}

@@ -11,8 +11,8 @@ use lib.ListN.{length}
 use Rattle.field.proofs.ProductLaws.{mask-times}
 use Rattle.protocol.specs.Lists.{allBelow}
 use Rattle.protocol.specs.Strings.{bit}
-use Rattle.protocol.proofs.StringLaws.{bit-lt}
-use Rattle.protocol.proofs.TestLaws.{bool-iff, eqb-same, eqb-eq}
+use Rattle.theorems.proofs.StringLaws.{bit-lt}
+use Rattle.theorems.proofs.TestLaws.{bool-iff, eqb-same, eqb-eq}
 use Rattle.sections.proofs.SpareLaws.{or-zero, all-more}
 use Rattle.strings.specs.Sums.{byteAt}
 use Rattle.strings.proofs.XorLaws.{xor-assoc}

@@ -6,9 +6,9 @@ use Prim.Native.Nat.{ℕ, _^_, _≤_, _<_}
 use native.Mathlib.Omega.{arith}
 use lib.Bits.{bitXor, xor-lt}
 use Rattle.algebra.specs.Coded.{mulByte}
-use Rattle.field.specs.Degrees.{fieldOf, degreeOf}
+use Rattle.galois.specs.Degrees.{fieldOf, degreeOf}
 use Rattle.protocol.specs.Strings.{bit}
-use Rattle.protocol.proofs.StringLaws.{bit-lt}
+use Rattle.theorems.proofs.StringLaws.{bit-lt}
 use Rattle.strings.specs.Sums.{byteAt}
 use Rattle.strings.proofs.XorLaws.{xor-assoc}
 use Rattle.lanes.specs.Lanes.{lanes, laneAt}

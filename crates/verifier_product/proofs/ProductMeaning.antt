@@ -14,7 +14,7 @@ use Rattle.algebra.specs.Coded.{Coded, mulByte}
 use Rattle.algebra.specs.Sum.{sum}
 use Rattle.algebra.proofs.RingLaws.{ring}
 use Rattle.algebra.proofs.SumLaws.{sum-ext, sum-add, sum-mul}
-use Rattle.field.specs.Degrees.{degreeOf, maskElementOf}
+use Rattle.galois.specs.Degrees.{degreeOf, maskElementOf}
 use Rattle.protocol.specs.Lists.{firstNot}
 use Rattle.protocol.specs.Strings.{bit}
 use Rattle.protocol.specs.Alphabet.{Alphabet, sym as symbol, elemAt}
@@ -25,7 +25,7 @@ use Rattle.protocol.specs.Forms.{quad, lin, yOf, maskOf, χAt, batch}
 use Rattle.protocol.specs.Sections.{Sections, sectionsIn}
 use Rattle.protocol.specs.Questions.{treeOf, productIn}
 use Rattle.protocol.specs.Verifier.{W, keyAt, productLeft, productHolds, productAt}
-use Rattle.protocol.proofs.StringLaws.{bit-lt}
+use Rattle.theorems.proofs.StringLaws.{bit-lt}
 use Rattle.strings.specs.Sums.{byteAt}
 use Rattle.strings.proofs.SumLaws.{sum-same}
 use Rattle.strings.proofs.Meaning.{byte-sum, byte-times}

@@ -22,7 +22,7 @@ use lib.Dec.{eqb}
 use lib.ListN.{length}
 use lib.Bits.{bitXor}
 use Rattle.algebra.specs.Coded.{mulByte}
-use Rattle.field.specs.Degrees.{fieldOf}
+use Rattle.galois.specs.Degrees.{fieldOf}
 use Rattle.protocol.specs.Lists.{firstNot}
 use Rattle.protocol.specs.Strings.{bytesFor, bit}
 use Rattle.protocol.specs.Alphabet.{Alphabet}

@@ -12,7 +12,7 @@ use lib.ListN.{length}
 use lib.Bits.{bitAnd, bitXor, xor-zero-l}
 use Rattle.protocol.specs.Lists.{blockAt}
 use Rattle.protocol.specs.Strings.{bytesFor, bit}
-use Rattle.protocol.proofs.StringLaws.{bit-lt}
+use Rattle.theorems.proofs.StringLaws.{bit-lt}
 use Rattle.strings.specs.Sums.{xorSum}
 use Rattle.strings.proofs.Rows.{row-end}
 use Rattle.strings.proofs.ParityLaws.{and-bits}

@@ -1,6 +1,6 @@
 -- `field::degree_of` meets its contract: the degree is that of the branch.
 -- Assumes nothing.
-use Rattle.field.proofs.DegreeLaws.{degree-four, degree-other}
+use Rattle.galois.proofs.DegreeLaws.{degree-four, degree-other}
 use Rattle.field.proofs.degree_of.Statement.{statement}
 use Rattle.field.proofs.degree_of.Tie as tie
 

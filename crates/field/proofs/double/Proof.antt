@@ -6,7 +6,7 @@ use lib.Bits.{bitXor}
 use borrow.Author.Needs.{needs}
 use Rattle.algebra.specs.Bits.{elem}
 use Rattle.algebra.specs.BitField.{computing}
-use Rattle.field.specs.Gf256.{modulus}
+use Rattle.galois.specs.Gf256.{modulus}
 use Rattle.field.proofs.ProductLaws.{doubles, doubled}
 use Rattle.field.proofs.double.Statement.{statement}
 use Rattle.field.proofs.double.Tie as tie

@@ -3,11 +3,11 @@
 use mathlib.Core.Path.{sym, ap, _∙_}
 use borrow.Author.Needs.{needs}
 use Rattle.algebra.specs.Coded.{Coded}
-use Rattle.field.specs.Gf256.{maskElement as mask256}
-use Rattle.field.specs.Gf16.{maskElement as mask16}
-use Rattle.field.specs.Degrees.{maskElementOf, degreeOf}
+use Rattle.galois.specs.Gf256.{maskElement as mask256}
+use Rattle.galois.specs.Gf16.{maskElement as mask16}
+use Rattle.galois.specs.Degrees.{maskElementOf, degreeOf}
 use Rattle.field.proofs.MaskLaws.{maskOf}
-use Rattle.field.proofs.DegreeLaws.{field-four, field-other}
+use Rattle.galois.proofs.DegreeLaws.{field-four, field-other}
 use Rattle.field.proofs.mask_element.Statement.{statement}
 use Rattle.field.proofs.mask_element.Tie as tie
 

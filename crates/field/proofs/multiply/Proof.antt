@@ -3,7 +3,7 @@
 use mathlib.Core.Path.{sym, ap, _∙_}
 use borrow.Author.Needs.{needs}
 use Rattle.algebra.specs.Coded.{Coded, mulByte}
-use Rattle.field.proofs.DegreeLaws.{field-four, field-other}
+use Rattle.galois.proofs.DegreeLaws.{field-four, field-other}
 use Rattle.field.proofs.multiply.Statement.{statement}
 use Rattle.field.proofs.multiply.Tie as tie
 

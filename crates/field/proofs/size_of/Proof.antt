@@ -1,6 +1,6 @@
 -- `field::size_of` meets its contract: the size is that of the branch.
 -- Assumes nothing.
-use Rattle.field.proofs.DegreeLaws.{size-four, size-other}
+use Rattle.galois.proofs.DegreeLaws.{size-four, size-other}
 use Rattle.field.proofs.size_of.Statement.{statement}
 use Rattle.field.proofs.size_of.Tie as tie
 

@@ -14,7 +14,7 @@ use Rattle.strings.specs.Sums.{byteAt, bitOf}
 use Rattle.strings.proofs.SumLaws.{sum-same}
 use Rattle.chunks.specs.Chunks.{chunk, cellAt, Masks}
 use Rattle.forms_columns.specs.Stacks.{alpha, byteProduct, planes, stackAt}
-use Rattle.field.specs.Degrees.{degreeOf}
+use Rattle.galois.specs.Degrees.{degreeOf}
 use Rattle.forms_planes.proofs.absorb_planes.Statement.{statement}
 use Rattle.forms_planes.proofs.absorb_planes.Tie as tie
 

@@ -5,7 +5,7 @@ use mathlib.Core.Path.{sym, ap, _∙_}
 use denote.Ref.{now}
 use lib.Bits.{bitXor}
 use Rattle.algebra.specs.Coded.{Coded, mulByte}
-use Rattle.field.proofs.DegreeLaws.{field-four, field-other}
+use Rattle.galois.proofs.DegreeLaws.{field-four, field-other}
 use Rattle.strings.specs.Sums.{byteAt}
 use Rattle.lanes.proofs.accumulate.Statement.{statement}
 use Rattle.lanes.proofs.accumulate.Tie as tie

@@ -10,7 +10,7 @@ use lib.ListN.{length, length-set}
 use lib.Bits.{bitXor}
 use native.Mathlib.Omega.{arith}
 use Rattle.algebra.specs.Coded.{mulByte}
-use Rattle.field.specs.Gf16.{gf16}
+use Rattle.galois.specs.Gf16.{gf16}
 use Rattle.strings.specs.Sums.{byteAt}
 use Rattle.strings.proofs.Elementwise.{changed, changed-more, changed-all}
 use Rattle.lanes.specs.Lanes.{lanes}

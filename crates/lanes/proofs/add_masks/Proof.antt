@@ -9,7 +9,7 @@ use mathlib.Core.List.{List}
 use lib.ListN.{length, getD-replicate}
 use lib.Bits.{bitXor, xor-zero-r}
 use Rattle.algebra.specs.Coded.{mulByte}
-use Rattle.field.specs.Degrees.{fieldOf, degreeOf, maskElementOf}
+use Rattle.galois.specs.Degrees.{fieldOf, degreeOf, maskElementOf}
 use Rattle.strings.specs.Sums.{byteAt, xorSum}
 use Rattle.strings.proofs.Rows.{row-byte}
 use Rattle.strings.proofs.SumLaws.{sum-step}

@@ -7,8 +7,8 @@ use native.Mathlib.Omega.{arith}
 use denote.Ref.{now}
 use lib.Bits.{bitXor}
 use Rattle.algebra.specs.Coded.{mulByte}
-use Rattle.field.specs.Degrees.{fieldOf, degreeOf, maskElementOf}
-use Rattle.field.proofs.DegreeLaws.{degree-most}
+use Rattle.galois.specs.Degrees.{fieldOf, degreeOf, maskElementOf}
+use Rattle.galois.proofs.DegreeLaws.{degree-most}
 use Rattle.protocol.specs.Strings.{bit}
 use Rattle.strings.specs.Sums.{xorSum}
 use Rattle.strings.proofs.SumLaws.{sum-more}

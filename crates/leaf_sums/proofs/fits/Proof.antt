@@ -8,7 +8,7 @@ use native.Mathlib.Omega.{arith}
 use borrow.Author.Needs.{needs}
 use Rattle.format.specs.Limits.{mostLeaf}
 use Rattle.lanes.specs.Lanes.{lanes}
-use Rattle.protocol.proofs.TestLaws.{eqb-eq, eqb-same}
+use Rattle.theorems.proofs.TestLaws.{eqb-eq, eqb-same}
 use Rattle.tables.proofs.TreeLaws.{leaves-most}
 use Rattle.leaf_sums.proofs.fits.Statement.{statement}
 use Rattle.leaf_sums.proofs.fits.Tie as tie

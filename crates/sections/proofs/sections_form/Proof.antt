@@ -9,7 +9,7 @@ use denote.Ref.{now}
 use lib.Dec.{eqb}
 use lib.ListN.{length, drop}
 use Rattle.protocol.specs.Frames.{framed}
-use Rattle.protocol.proofs.TestLaws.{eqb-same, eqb-other}
+use Rattle.theorems.proofs.TestLaws.{eqb-same, eqb-other}
 use Rattle.format.proofs.AskLaws.{says-no, says-yes, says-all}
 use Rattle.sections.proofs.SectionLaws.{turn-missing, turn-other, turn-next, turn-end}
 use Rattle.sections.proofs.SpanLaws.{found, not-found, found-inside}

@@ -8,7 +8,7 @@ use native.Mathlib.Omega.{arith}
 use denote.Ref.{now}
 use lib.ListN.{length}
 use Rattle.protocol.specs.Lists.{part, blockAt}
-use Rattle.protocol.proofs.ListLaws.{length-block}
+use Rattle.theorems.proofs.ListLaws.{length-block}
 use Rattle.strings.proofs.Rows.{put-in, put-other}
 use Rattle.tables.specs.Sums.{uByte, vByte}
 use borrow.Author.Needs.{needs}

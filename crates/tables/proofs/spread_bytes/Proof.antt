@@ -9,7 +9,7 @@ use lib.ListN.{length}
 use native.Mathlib.Omega.{arith}
 use Rattle.protocol.specs.Lists.{blockAt}
 use Rattle.protocol.specs.Strings.{bit, fromBits}
-use Rattle.protocol.proofs.StringLaws.{bits-congr}
+use Rattle.theorems.proofs.StringLaws.{bits-congr}
 use Rattle.strings.specs.Sums.{byteAt, bitOf}
 use Rattle.strings.proofs.Rows.{row-byte}
 use Rattle.strings.proofs.Meaning.{bit-place}

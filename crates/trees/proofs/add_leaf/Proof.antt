@@ -9,7 +9,7 @@ use denote.Ref.{now}
 use lib.Bits.{bitXor, xor-zero-r}
 use lib.ListN.{length}
 use Rattle.protocol.specs.Leaves.{openedLeaf}
-use Rattle.protocol.proofs.TestLaws.{eqb-same, eqb-other}
+use Rattle.theorems.proofs.TestLaws.{eqb-same, eqb-other}
 use Rattle.strings.specs.Sums.{byteAt}
 use borrow.Author.Needs.{needs}
 use Rattle.trees.proofs.add_leaf.Statement.{statement}

@@ -2,7 +2,7 @@
 -- Assumes nothing.
 use mathlib.Core.Path.{sym}
 use native.Mathlib.Omega.{arith}
-use Rattle.protocol.proofs.LeafLaws.{place-below, place-above}
+use Rattle.theorems.proofs.LeafLaws.{place-below, place-above}
 use borrow.Author.Needs.{needs}
 use Rattle.trees.proofs.place_of.Statement.{statement}
 use Rattle.trees.proofs.place_of.Tie as tie

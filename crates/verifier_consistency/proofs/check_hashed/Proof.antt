@@ -9,7 +9,7 @@ use denote.Ref.{now}
 use lib.Dec.{lit<}
 use Rattle.protocol.specs.Sections.{sectionsIn}
 use Rattle.format.specs.Sizes.{settingFor, alphabetFor, shapeFor}
-use Rattle.protocol.proofs.ElementLaws.{element-lt}
+use Rattle.theorems.proofs.ElementLaws.{element-lt}
 use Rattle.format.proofs.SizeLaws.{in-limits}
 use Rattle.equations.proofs.BlockLaws.{bytes-enough}
 use Rattle.verifier_consistency.specs.Consistency.{firstInconsistent}

@@ -14,7 +14,7 @@ use Rattle.protocol.specs.Lists.{blockAt}
 use Rattle.strings.specs.Sums.{byteAt}
 use Rattle.strings.proofs.Rows.{row-end}
 use Rattle.verifier_consistency.specs.Consistency.{BitMasks, rowConsistent}
-use Rattle.protocol.proofs.TestLaws.{eqb-same, eqb-other, first-at}
+use Rattle.theorems.proofs.TestLaws.{eqb-same, eqb-other, first-at}
 use Rattle.questions.proofs.FirstLaws.{first-none}
 use Rattle.verifier_consistency.proofs.first_of.Statement.{statement}
 use Rattle.verifier_consistency.proofs.first_of.Tie as tie

@@ -12,7 +12,7 @@ use denote.Ref.{now}
 use lib.ListN.{length}
 use lib.Bits.{bitXor}
 use Rattle.protocol.specs.Strings.{bit}
-use Rattle.protocol.proofs.StringLaws.{bit-lt}
+use Rattle.theorems.proofs.StringLaws.{bit-lt}
 use Rattle.strings.specs.Sums.{byteAt}
 use Rattle.strings.proofs.Rows.{row-end}
 use Rattle.lanes.specs.Lanes.{lanes, laneAt}

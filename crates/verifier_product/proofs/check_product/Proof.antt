@@ -11,13 +11,13 @@ use denote.Ref.{now}
 use lib.Dec.{lit<}
 use lib.ListN.{getD-replicate}
 use lib.Bits.{bitXor}
-use Rattle.field.specs.Degrees.{degreeOf}
+use Rattle.galois.specs.Degrees.{degreeOf}
 use Rattle.protocol.specs.Strings.{bytesFor, bit}
 use Rattle.protocol.specs.Key.{sectionA, sectionB}
 use Rattle.protocol.specs.Alphabet.{Alphabet}
 use Rattle.protocol.specs.Shape.{Shape, maskAt}
 use Rattle.protocol.specs.Sections.{sectionsIn}
-use Rattle.protocol.proofs.ElementLaws.{element-lt}
+use Rattle.theorems.proofs.ElementLaws.{element-lt}
 use Rattle.strings.specs.Sums.{byteAt}
 use Rattle.lanes.specs.Lanes.{lanes, laneAt, maskLane}
 use Rattle.format.specs.Sizes.{settingFor, alphabetFor, shapeFor}

@@ -11,8 +11,8 @@ use lib.Dec.{eqb}
 use lib.ListN.{length}
 use lib.Bits.{bitXor}
 use Rattle.algebra.specs.Coded.{mulByte}
-use Rattle.field.specs.Degrees.{fieldOf}
-use Rattle.protocol.proofs.TestLaws.{eqb-same, eqb-other, first-at}
+use Rattle.galois.specs.Degrees.{fieldOf}
+use Rattle.theorems.proofs.TestLaws.{eqb-same, eqb-other, first-at}
 use Rattle.strings.specs.Sums.{byteAt}
 use Rattle.questions.proofs.FirstLaws.{first-none}
 use Rattle.verifier_product.proofs.first_differing.Statement.{statement}

@@ -10,7 +10,7 @@ use lib.Dec.{lit<}
 use lib.ListN.{replicate, getD-replicate}
 use lib.Bits.{bitXor}
 use Rattle.algebra.specs.Coded.{mulByte}
-use Rattle.field.specs.Degrees.{fieldOf}
+use Rattle.galois.specs.Degrees.{fieldOf}
 use Rattle.protocol.specs.Shape.{mostVariables}
 use Rattle.strings.specs.Sums.{byteAt}
 use Rattle.lanes.specs.Lanes.{lanes}

@@ -10,7 +10,7 @@ use denote.Ref.{now}
 use lib.ListN.{length}
 use lib.Bits.{bitXor}
 use Rattle.protocol.specs.Strings.{bit}
-use Rattle.protocol.proofs.StringLaws.{bit-lt}
+use Rattle.theorems.proofs.StringLaws.{bit-lt}
 use Rattle.strings.specs.Sums.{byteAt, xorSum}
 use Rattle.verifier_product.proofs.weigh.Statement.{statement}
 use Rattle.verifier_product.proofs.weigh.Tie as tie

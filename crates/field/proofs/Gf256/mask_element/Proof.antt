@@ -4,7 +4,7 @@
 use borrow.Author.Needs.{needs}
 use Rattle.algebra.specs.BitField.{computing}
 use Rattle.algebra.specs.Sum.{power}
-use Rattle.field.specs.Gf256.{gf256, maskElement}
+use Rattle.galois.specs.Gf256.{gf256, maskElement}
 use Rattle.field.proofs.MaskLaws.{weighs, mask-low, mask-past}
 use Rattle.field.proofs.Gf256.mask_element.Statement.{statement}
 use Rattle.field.proofs.Gf256.mask_element.Tie as tie

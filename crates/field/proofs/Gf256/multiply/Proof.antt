@@ -5,7 +5,7 @@ use borrow.Author.Needs.{needs}
 use mathlib.Core.Path.{subst}
 use native.Mathlib.Nat.{mod-eq-of-lt}
 use Rattle.algebra.specs.Bits.{Bits, elem}
-use Rattle.field.specs.Gf256.{modulus}
+use Rattle.galois.specs.Gf256.{modulus}
 use Rattle.field.proofs.ProductLaws.{Product, product-start, product-step, product-end}
 use Rattle.field.proofs.Gf256.multiply.Statement.{statement}
 use Rattle.field.proofs.Gf256.multiply.Tie as tie

@@ -6,7 +6,7 @@ use lib.Bits.{bitXor}
 use borrow.Author.Needs.{needs}
 use Rattle.algebra.specs.Bits.{elem}
 use Rattle.algebra.specs.BitField.{computing}
-use Rattle.field.specs.Gf16.{modulus}
+use Rattle.galois.specs.Gf16.{modulus}
 use Rattle.field.proofs.ProductLaws.{doubles, doubled}
 use Rattle.field.proofs.gf16.double.Statement.{statement}
 use Rattle.field.proofs.gf16.double.Tie as tie

@@ -1,8 +1,8 @@
 -- `format::sizes::degree_of` meets its contract.
 -- Assumes nothing.
 use borrow.Author.Needs.{needs}
-use Rattle.field.specs.Degrees.{degreeOf}
-use Rattle.field.proofs.DegreeLaws.{degree-most}
+use Rattle.galois.specs.Degrees.{degreeOf}
+use Rattle.galois.proofs.DegreeLaws.{degree-most}
 use Rattle.format.proofs.sizes.degree_of.Statement.{statement}
 use Rattle.format.proofs.sizes.degree_of.Tie as tie
 

@@ -4,8 +4,8 @@ use native.Mathlib.Omega.{arith}
 use borrow.Author.Needs.{needs}
 use Rattle.algebra.specs.Field.{Field}
 use Rattle.algebra.specs.Coded.{Coded}
-use Rattle.field.specs.Degrees.{fieldOf, sizeOf}
-use Rattle.field.proofs.DegreeLaws.{size-most}
+use Rattle.galois.specs.Degrees.{fieldOf, sizeOf}
+use Rattle.galois.proofs.DegreeLaws.{size-most}
 use Rattle.protocol.specs.Shape.{perTree}
 use Rattle.format.proofs.sizes.tree_leaves.Statement.{statement}
 use Rattle.format.proofs.sizes.tree_leaves.Tie as tie

@@ -4,7 +4,7 @@ use borrow.Author.Needs.{needs}
 use mathlib.Core.List.{[]}
 use native.Mathlib.Omega.{arith}
 use lib.Dec.{leb}
-use Rattle.protocol.proofs.TestLaws.{leb-yes, leb-no}
+use Rattle.theorems.proofs.TestLaws.{leb-yes, leb-no}
 use Rattle.format.specs.Verdict.{numberFor}
 use Rattle.format.proofs.AskLaws.{says-no, says-yes, says-all}
 use Rattle.format.proofs.verdicts.answer.Statement.{statement}

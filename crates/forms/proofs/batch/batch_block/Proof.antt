@@ -8,7 +8,7 @@ use native.Mathlib.Omega.{arith}
 use denote.Ref.{now}
 use lib.Bits.{bitXor}
 use Rattle.protocol.specs.Strings.{bytesFor}
-use Rattle.field.specs.Degrees.{degreeOf}
+use Rattle.galois.specs.Degrees.{degreeOf}
 use Rattle.strings.specs.Sums.{byteAt}
 use Rattle.forms_columns.specs.Stacks.{coordinateOf}
 use Rattle.forms.specs.Batch.{blockBytes}

@@ -10,7 +10,7 @@ use denote.Ref.{now}
 use lib.ListN.{length}
 use lib.Bits.{bitXor, xor-zero-r}
 use Rattle.algebra.specs.Coded.{mulByte}
-use Rattle.field.specs.Degrees.{fieldOf}
+use Rattle.galois.specs.Degrees.{fieldOf}
 use Rattle.protocol.specs.Strings.{bytesFor}
 use Rattle.strings.specs.Sums.{byteAt, xorSum}
 use Rattle.lanes.specs.Lanes.{lanes}

@@ -12,7 +12,7 @@ use lib.Bits.{bitXor}
 use lib.Dec.{lit<}
 use Rattle.protocol.specs.Strings.{bit}
 use Rattle.protocol.specs.Shape.{mostVariables}
-use Rattle.protocol.proofs.StringLaws.{bit-lt}
+use Rattle.theorems.proofs.StringLaws.{bit-lt}
 use Rattle.strings.specs.Sums.{byteAt}
 use Rattle.forms_columns.specs.Stacks.{coordinateOf}
 use Rattle.equations.specs.Equations.{rowOf, matrixOf}

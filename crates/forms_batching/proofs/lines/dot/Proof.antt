@@ -4,7 +4,7 @@ use borrow.Author.Needs.{needs}
 use mathlib.Core.Path.{sym, ap, _∙_}
 use denote.Ref.{now}
 use Rattle.algebra.specs.Coded.{Coded}
-use Rattle.field.proofs.DegreeLaws.{field-four, field-other}
+use Rattle.galois.proofs.DegreeLaws.{field-four, field-other}
 use Rattle.forms_batching.specs.Lines.{dotOf}
 use Rattle.forms_batching.proofs.lines.dot.Statement.{statement}
 use Rattle.forms_batching.proofs.lines.dot.Tie as tie

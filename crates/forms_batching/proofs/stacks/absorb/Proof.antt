@@ -10,7 +10,7 @@ use native.Mathlib.Omega.{arith}
 use denote.Ref.{now}
 use lib.ListN.{length}
 use lib.Bits.{bitXor, xor-zero-r}
-use Rattle.field.specs.Degrees.{degreeOf}
+use Rattle.galois.specs.Degrees.{degreeOf}
 use Rattle.strings.specs.Sums.{byteAt, xorSum}
 use Rattle.chunks.specs.Chunks.{chunk, Masks}
 use Rattle.forms_choices.specs.Entries.{upTo, Weighed}

@@ -12,7 +12,7 @@ use lib.ListN.{length, length-take, length-drop}
 use borrow.Rule.Slice.PartMut.{putMid}
 use lib.Bits.{bitXor}
 use Rattle.protocol.specs.Lists.{part, blockAt}
-use Rattle.field.specs.Degrees.{degreeOf}
+use Rattle.galois.specs.Degrees.{degreeOf}
 use Rattle.strings.specs.Sums.{byteAt, bitOf, xorSum}
 use Rattle.strings.proofs.Rows.{row-byte, put-in, put-other}
 use Rattle.chunks.specs.Chunks.{chunk, cellAt, Masks}

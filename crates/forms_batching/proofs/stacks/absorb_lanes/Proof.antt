@@ -12,7 +12,7 @@ use native.Mathlib.Omega.{arith}
 use denote.Ref.{now}
 use lib.ListN.{length}
 use lib.Bits.{bitXor}
-use Rattle.field.specs.Degrees.{degreeOf}
+use Rattle.galois.specs.Degrees.{degreeOf}
 use Rattle.strings.specs.Sums.{byteAt, bitOf, xorSum}
 use Rattle.chunks.specs.Chunks.{chunk, cellAt}
 use Rattle.forms_choices.specs.Entries.{Weighed}

@@ -8,7 +8,7 @@ use denote.Ref.{now}
 use lib.Bits.{bitXor, xor-comm}
 use lib.ListN.{length, length-take, length-drop}
 use Rattle.protocol.specs.Lists.{part}
-use Rattle.protocol.proofs.ListLaws.{row-end}
+use Rattle.theorems.proofs.ListLaws.{row-end}
 use Rattle.strings.specs.Sums.{byteAt, selected}
 use Rattle.strings.proofs.Rows.{row-byte}
 use Rattle.lanes.specs.Lanes.{lanes, laneAt}

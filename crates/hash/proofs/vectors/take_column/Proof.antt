@@ -9,7 +9,7 @@ use native.Mathlib.Numerals.{add-one}
 use native.Mathlib.Omega.{arith}
 use lib.ListN.{length, length-set}
 use lib.Seq.{getD-set-same, getD-set-other}
-use Rattle.protocol.proofs.ListLaws.{row-end}
+use Rattle.theorems.proofs.ListLaws.{row-end}
 use Rattle.strings.specs.Sums.{byteAt}
 use Rattle.hash.proofs.vectors.take_column.Statement.{statement}
 use Rattle.hash.proofs.vectors.take_column.Tie as tie

@@ -7,10 +7,10 @@ use native.Mathlib.Omega.{arith}
 use denote.Ref.{now}
 use lib.ListN.{length}
 use lib.Bits.{bitXor}
-use Rattle.field.specs.Degrees.{degreeOf}
+use Rattle.galois.specs.Degrees.{degreeOf}
 use Rattle.protocol.specs.Lists.{blockAt}
 use Rattle.protocol.specs.Shape.{wOf}
-use Rattle.protocol.proofs.ListLaws.{row-end}
+use Rattle.theorems.proofs.ListLaws.{row-end}
 use Rattle.strings.specs.Sums.{byteAt}
 use Rattle.lanes.specs.Lanes.{maskBits, firstMask}
 use Rattle.format.specs.Sizes.{settingFor, alphabetFor, shapeFor}

@@ -11,7 +11,7 @@ use Rattle.protocol.specs.Strings.{bytesFor}
 use Rattle.protocol.specs.Key.{rowsSpare}
 use Rattle.protocol.specs.Shape.{kOf}
 use Rattle.protocol.specs.Questions.{hExact, hSpare}
-use Rattle.protocol.proofs.TestLaws.{eqb-eq}
+use Rattle.theorems.proofs.TestLaws.{eqb-eq}
 use Rattle.format.specs.Sizes.{settingFor, alphabetFor, shapeFor}
 use Rattle.sections.proofs.SpareLaws.{rows-are}
 use Rattle.format.proofs.SizeLaws.{k-most}

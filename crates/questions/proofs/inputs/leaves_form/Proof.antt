@@ -11,7 +11,7 @@ use Rattle.protocol.specs.Strings.{bytesFor}
 use Rattle.protocol.specs.Key.{rowsSpare}
 use Rattle.protocol.specs.Shape.{wOf}
 use Rattle.protocol.specs.Questions.{leavesExact, leavesSpare}
-use Rattle.protocol.proofs.TestLaws.{eqb-same, eqb-other}
+use Rattle.theorems.proofs.TestLaws.{eqb-same, eqb-other}
 use Rattle.format.specs.Sizes.{settingFor, alphabetFor, shapeFor}
 use Rattle.sections.proofs.SpareLaws.{rows-are}
 use Rattle.format.proofs.SizeLaws.{l-most, trees-most}

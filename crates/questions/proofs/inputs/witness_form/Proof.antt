@@ -11,7 +11,7 @@ use lib.Dec.{eqb}
 use lib.ListN.{length}
 use Rattle.protocol.specs.Strings.{bytesFor, spareZero}
 use Rattle.protocol.specs.Questions.{witnessForm}
-use Rattle.protocol.proofs.TestLaws.{eqb-same, eqb-other}
+use Rattle.theorems.proofs.TestLaws.{eqb-same, eqb-other}
 use Rattle.format.specs.Sizes.{alphabetFor, shapeFor}
 use Rattle.format.specs.declared.sizes.Sizes.{Sizes}
 use Rattle.format.proofs.SizeLaws.{in-limits}

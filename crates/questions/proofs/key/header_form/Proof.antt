@@ -12,7 +12,7 @@ use Rattle.protocol.specs.Alphabet.{Alphabet}
 use Rattle.protocol.specs.Shape.{shapeOf, limits}
 use Rattle.protocol.specs.Key.{keyLengths, keyExact, keySpare}
 use Rattle.protocol.specs.Answers.{question, ask}
-use Rattle.protocol.proofs.TestLaws.{leb-yes, leb-no}
+use Rattle.theorems.proofs.TestLaws.{leb-yes, leb-no}
 use Rattle.format.specs.Sizes.{alphabetFor, shapeFor}
 use Rattle.format.specs.Verdict.{answerOf}
 use Rattle.questions.specs.Asking.{KeyForm}

@@ -7,7 +7,7 @@ use native.Mathlib.Omega.{arith}
 use denote.Ref.{now}
 use lib.ListN.{length, drop, length-take}
 use Rattle.protocol.specs.Frames.{frame}
-use Rattle.protocol.proofs.FrameLaws.{frame-append}
+use Rattle.theorems.proofs.FrameLaws.{frame-append}
 use Rattle.sections.proofs.Writes.{framed-two}
 use borrow.Author.Needs.{needs}
 use Rattle.sections.proofs.frames.put_two.Statement.{statement}

@@ -10,7 +10,7 @@ use denote.Ref.{now}
 use lib.Dec.{eqb}
 use lib.ListN.{length, getD, drop, length-set}
 use Rattle.protocol.specs.Frames.{framed}
-use Rattle.protocol.proofs.TestLaws.{eqb-same, eqb-other}
+use Rattle.theorems.proofs.TestLaws.{eqb-same, eqb-other}
 use Rattle.format.specs.Verdict.{answerOf}
 use Rattle.format.proofs.AskLaws.{says-no, says-yes, says-all}
 use Rattle.sections.specs.Taking.{nextAt, readTo}

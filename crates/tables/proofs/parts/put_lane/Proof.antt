@@ -8,7 +8,7 @@ use denote.Ref.{now}
 use lib.ListN.{length, length-set}
 use native.Mathlib.Omega.{arith}
 use Rattle.protocol.specs.Strings.{fromBits}
-use Rattle.protocol.proofs.StringLaws.{bits-of}
+use Rattle.theorems.proofs.StringLaws.{bits-of}
 use Rattle.strings.specs.Sums.{byteAt, bitOf}
 use Rattle.tables.proofs.LaneLaws.{Filled, Others, filled-more, others-still}
 use Rattle.tables.proofs.parts.put_lane.Statement.{statement}

@@ -4,7 +4,7 @@ use borrow.Author.Needs.{needs}
 use mathlib.Core.Path.{_∙_}
 use native.Mathlib.Omega.{arith}
 use denote.Ref.{now}
-use Rattle.protocol.proofs.StringLaws.{bits-congr}
+use Rattle.theorems.proofs.StringLaws.{bits-congr}
 use Rattle.tables.proofs.LaneLaws.{part-bit}
 use Rattle.tables.proofs.parts.spread_part.Statement.{statement}
 use Rattle.tables.proofs.parts.spread_part.Tie as tie

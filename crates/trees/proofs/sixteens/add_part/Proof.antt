@@ -9,7 +9,7 @@ use native.Mathlib.Omega.{arith}
 use denote.Ref.{now}
 use lib.Bits.{bitXor, xor-zero-r}
 use Rattle.protocol.specs.Leaves.{openedLeaf}
-use Rattle.protocol.proofs.TestLaws.{eqb-same, eqb-other}
+use Rattle.theorems.proofs.TestLaws.{eqb-same, eqb-other}
 use Rattle.strings.specs.Sums.{byteAt}
 use Rattle.trees.proofs.sixteens.add_part.Statement.{statement}
 use Rattle.trees.proofs.sixteens.add_part.Tie as tie

@@ -2,7 +2,7 @@
 -- Assumes nothing.
 use borrow.Author.Needs.{needs}
 use Rattle.algebra.specs.Bits.{Bits, elem}
-use Rattle.field.specs.Gf16.{modulus}
+use Rattle.galois.specs.Gf16.{modulus}
 use Rattle.field.proofs.ProductLaws.{Product, product-start, product-step, product-end}
 use Rattle.field.proofs.gf16.Gf16.multiply.Statement.{statement}
 use Rattle.field.proofs.gf16.Gf16.multiply.Tie as tie

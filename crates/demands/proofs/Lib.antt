@@ -1,0 +1,4 @@
+pub mod Demands
+pub mod Forgery
+pub mod ToldLaws
+pub mod Hiding

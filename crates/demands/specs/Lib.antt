@@ -1,0 +1,4 @@
+pub mod Told
+pub mod Demands
+pub mod Forgery
+pub mod Hiding
