@@ -50,7 +50,7 @@ closed() {
     within "$above" "a contract cites" \
         $(uses crates/solfadrus/src/lib.rt crates/solfadrus/src/sizes.rt crates/checking/src/*.rt crates/sections/src/reader.rt crates/sections/src/lib.rt) &&
         within "$above" "there are statements in" \
-            $(ls crates/solfadrus/specs/*.antt crates/checking/specs/*.antt | sed 's|crates/||; s|\.antt$||; /\/Lib$/d')
+            $(ls crates/theorems/specs/*.antt crates/hiding/specs/*.antt crates/demands/specs/*.antt crates/solfadrus/specs/*.antt crates/checking/specs/*.antt | sed 's|crates/||; s|\.antt$||; /\/Lib$/d; /\/Small/d')
 }
 
 # missed WHAT SED: a control, the list changed by a sed command.
@@ -120,7 +120,7 @@ lines=$work/lines
 all=$work/all
 missed "an import that is not listed" '/^protocol.specs.Reader|/d'
 missed "an import that is listed below" '1h; 1d; $G'
-missed "statements that are not listed" '/^solfadrus.specs.Forgery|/d'
+missed "statements that are not listed" '/^demands.specs.Forgery|/d'
 missed "a file of proofs, all of it" '$a algebra/proofs/BitFieldLaws|laws'
 closed "$order"
 cp docs/AUDIT.md "$page"
