@@ -273,7 +273,7 @@ int main(void)
     printf("Solfadrus: a proof of knowing x that solves %d quadratic equations in %d variables over GF(2),\n", M, N);
     printf("in %d repetitions with %d hash rows, over GF(%d).\n", TAU, T, MQ_FIELD_SIZE(DEGREE));
     printf("DEMO GENERATOR: leaves, challenges and key come from a small seeded generator, fit for show only.\n");
-    printf("The proof favours no solution, with leaves that are uniform and secret (SECURITY.md). These are neither.\n\n");
+    printf("A proof favours no solution where leaves are uniform and secret (SECURITY.md). Here they are neither.\n\n");
 
     printf("a key of %lu bytes, leaves of %lu bytes, of which %lu are opened, a witness of %lu bytes\n",
            (unsigned long)sizeof key, (unsigned long)sizeof leaves, (unsigned long)sizeof opened,
