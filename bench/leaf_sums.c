@@ -4,8 +4,8 @@
  *
  * First all programs must make the same bytes, at each width of a leaf up to that of the largest key; the narrow ones
  * have code of their own. The library must refuse other lengths. Then they are timed in turn, again and again, so that
- * a change of the machine's pace meets all of them, each time after a call that is not timed. The time is the thread's
- * processor time.
+ * a change of the machine's pace meets all of them, each time after a millisecond of calls that are not timed: the walk
+ * takes a hundred times as long, and leaves the caches as it likes. The time is the thread's processor time.
  */
 #define _XOPEN_SOURCE 700
 #include <stdio.h>
@@ -129,8 +129,10 @@ static void bench(uint32_t degree, int repetitions)
             abort();
     for (int k = 0; k < repetitions; k++)
         for (int p = 0; p < PROGRAMS; p++) {
-            sum(&t, p);
-            const double start = now();
+            double start = now();
+            while (sum(&t, p), now() - start < 1)
+                ;
+            start = now();
             sum(&t, p);
             taken[p][k] = now() - start;
         }
@@ -165,7 +167,7 @@ int main(int count, char **words)
             refuse(&t);
             drop_trees(&t);
         }
-    printf("the same bytes by each program, at each width of a leaf from 1 to %zu bytes and at both degrees\n\n", widest);
+    printf("the same bytes by each program, at both degrees and each width of a leaf from 1 to %zu bytes\n\n", widest);
     bench(8, repetitions);
     bench(4, repetitions);
     return 0;

@@ -58,7 +58,10 @@ dividing() {
     names=$1
     shift
     code "$@" | awk -v names="$names" '
-        BEGIN { by_eight = "[\\/%]=? *[(]*([a-zA-Z0-9_]+::)*(8|0x0*8|" names ")[^A-Za-z0-9_:]|>>=? *[(]*3[^0-9]|&=? *[(]*7[^0-9]" }
+        BEGIN {
+            by_eight = "[\\/%]=? *[(]*([a-zA-Z0-9_]+::)*(8|0x0*8|" names ")[^A-Za-z0-9_:]"
+            by_eight = by_eight "|>>=? *[(]*3[^0-9]|&=? *[(]*7[^0-9]"
+        }
         {
             sub(/^[^ ]* /, "")
             line = $0 " "
@@ -164,7 +167,7 @@ stands 'let b = c; // byte c / 8, bit c % 8'
 stands 'let b = c << 3;'
 # A function below the walk that divides by a name of its own for 8, and one that calls it.
 printf 'pub const OCTET: usize = BITS;\n' >>"$work/copy/crates/strings/src/lib.rt"
-printf 'pub fn place(c: usize) -> usize {\n    c %% OCTET\n}\npub fn turned(c: usize) -> usize {\n    7 - place(c)\n}\n' \
+printf 'pub fn %s(c: usize) -> usize {\n    %s\n}\n' place 'c % OCTET' turned '7 - place(c)' \
     >>"$work/copy/crates/strings/src/lib.rt"
 know "$work/copy"
 found crates/trees/src/lib.rt 'let b = strings::place(c);'

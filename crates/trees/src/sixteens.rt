@@ -13,7 +13,7 @@ ghost use lib.Bits.{bitXor};
 ghost use lib.Dec.{ltb};
 ghost use lib.ListN.{length};
 ghost use Rattle.protocol.specs.Leaves.{place};
-ghost use Rattle.strings.specs.Sums.{byteAt, bitOf, xorSum};
+ghost use Rattle.strings.specs.Sums.{byteAt, bitOf};
 ghost use Rattle.strings.specs.Rows.{RowAdded, RowsKept};
 ghost use Rattle.trees.specs.Trees.{leafByte, TreeFits, TreeSummed};
 ghost use Rattle.trees.specs.Partial.{heldPlane, RunningLeaves};

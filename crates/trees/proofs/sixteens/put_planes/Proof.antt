@@ -9,7 +9,6 @@ use denote.Ref.{now}
 use lib.Bits.{bitXor}
 use lib.ListN.{length, getD-replicate}
 use Rattle.strings.specs.Sums.{byteAt, xorSum}
-use Rattle.strings.proofs.Rows.{row-end}
 use Rattle.strings.proofs.SumLaws.{sum-more}
 use Rattle.trees.proofs.SixteenLaws.{row-apart, PlanesFrom, planes-more}
 use Rattle.trees.proofs.sixteens.put_planes.Statement.{statement}
