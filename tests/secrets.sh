@@ -59,16 +59,13 @@ sites() {
 }
 
 # The traced instructions and addresses: how many, and their sum. Valgrind's own lines begin with its process number.
-# A trace is not kept: it has some hundred megabytes.
-rm -f "$work/lines"
-mkfifo "$work/lines"
+# It writes each line by itself, which through a pipe would wake the reader as often. A trace, of some hundred
+# megabytes, is not kept.
 traced() {
-    wc -l <"$work/lines" >"$work/count" &
-    counting=$!
-    sum=$(valgrind --tool=lackey --trace-mem=yes --log-fd=9 "$work/traced" "$1" "$2" 9>&1 | grep -v '^==' |
-        tee "$work/lines" | sha256sum)
-    wait "$counting"
-    echo "$(cat "$work/count") $sum"
+    valgrind --tool=lackey --trace-mem=yes --log-file="$work/trace" "$work/traced" "$1" "$2" >/dev/null
+    grep -v '^==' "$work/trace" >"$work/lines"
+    echo "$(wc -l <"$work/lines") $(sha256sum <"$work/lines")"
+    rm "$work/trace" "$work/lines"
 }
 
 # same_traces MODE LEAST: a trace has at least so many lines, or there was none.

@@ -111,6 +111,3 @@ module _ (R : Ring) where
 
   pub combine₁ : {x y l r : F} (c : F) → l ≡ r → x ⊕ y ≡ c ⊗ (l ⊕ r) → x ≡ y
   combine₁ c h e = same-of-zero (e ∙ ap (λ w. c ⊗ w) (zero-of-same h) ∙ (simp ring))
-
-  pub combine₂ : {x y l r l′ r′ : F} (c : F) → l ≡ r → (c′ : F) → l′ ≡ r′ → x ⊕ y ≡ c ⊗ (l ⊕ r) ⊕ c′ ⊗ (l′ ⊕ r′) → x ≡ y
-  combine₂ c h c′ h′ e = same-of-zero (e ∙ ap₂ (λ v w. c ⊗ v ⊕ c′ ⊗ w) (zero-of-same h) (zero-of-same h′) ∙ (simp ring))

@@ -1,7 +1,7 @@
 -- All strings of a length over a field: how many, each once, and how many pass a test of each letter.
 -- Assumes nothing.
 use mathlib.Core.Path.{_≡_}
-use mathlib.Core.Logic.{_⊎_, inl, inr, _≢_}
+use mathlib.Core.Logic.{_⊎_, inl, inr}
 use mathlib.Core.Bool.{Bool}
 use mathlib.Core.List.{List}
 use Prim.Native.Nat.{ℕ, zero, suc, _^_, _≤_, _<_}
@@ -13,7 +13,7 @@ use Rattle.algebra.specs.Ring.{Ring}
 use Rattle.algebra.specs.Count.{count, same, passes, product}
 use Rattle.algebra.specs.Field.{Field}
 use Rattle.algebra.specs.Strings.{strings}
-use Rattle.algebra.proofs.CountLaws.{length-words, words-once, words-other, count-words}
+use Rattle.algebra.proofs.CountLaws.{length-words, words-once, count-words}
 
 -- a product above 2 ^ n has a factor above 2
 pub above : (n : ℕ) (f : ℕ → ℕ) (Q : ℕ → Type 0) → ((e : ℕ) → Q e ⊎ (f e ≤ 2)) → 2 ^ n < product n f → (e : ℕ) × (e < n) × Q e
@@ -36,9 +36,6 @@ module _ (K : Field) where
 
   pub strings-once : (n : ℕ) (s : List F) → length s ≡ n → count (same eqb s) (strings K n) ≡ 1
   strings-once n s h = rw (← h) (words-once eqb elements (K .elements-once) s)
-
-  pub strings-other : (n : ℕ) (s : List F) → length s ≢ n → count (same eqb s) (strings K n) ≡ 0
-  strings-other n s h = words-other eqb elements n s h
 
   -- tests of letter after letter: the counts multiply
   pub accepted : (n : ℕ) (P : ℕ → F → Bool) → count (passes P) (strings K n) ≡ product n (λ e. count (P e) elements)

@@ -1,14 +1,13 @@
 -- Laws of sums of bytes that bits weigh; and rows taken four at a time.
 -- Assumes nothing.
-use mathlib.Core.Path.{_≡_, refl, sym, ap, _∙_}
-use Prim.Native.Nat.{ℕ, zero, suc, _+_, _*_, _/_, _≤_, _<_}
+use mathlib.Core.Path.{_≡_, sym, ap, _∙_}
+use Prim.Native.Nat.{ℕ, zero, suc, _+_, _*_, _<_}
 use native.Mathlib.Nat.{zero-mul, one-mul, suc-mul}
 use native.Mathlib.Omega.{arith}
 use lib.Dec.{lit<}
-use lib.Bits.{bitXor, xor-zero-r, xor-self, xor-comm}
+use lib.Bits.{bitXor}
 use Rattle.strings.specs.Sums.{xorSum}
-use Rattle.strings.proofs.XorLaws.{xor-assoc}
-use Rattle.strings.proofs.SumLaws.{sum-same, sum-both, sum-parts, sum-short, sum-none, sum-lt, xor-scale}
+use Rattle.strings.proofs.SumLaws.{sum-same, sum-both, sum-parts, sum-none, sum-lt, xor-scale}
 
 -- ---- sums
 
@@ -37,8 +36,3 @@ pub bit-sum : (q n : ℕ) (f : ℕ → ℕ) → q < 2 → q * xorSum n f ≡ xor
 bit-sum zero n f h = zero-mul _ ∙ sym (sum-same n _ (λ i. 0) (λ i l. zero-mul (f i)) ∙ sum-none n)
 bit-sum (suc zero) n f h = one-mul _ ∙ sum-same n _ _ (λ i l. sym (one-mul (f i)))
 bit-sum (suc (suc q)) n f h = absurd (omega arith)
-
--- rows taken four at a time, and none past the last
-pub rows-by-four : (n : ℕ) (h : ℕ → ℕ) → ((ρ : ℕ) → n ≤ ρ → h ρ ≡ 0) → xorSum 4 (λ g. xorSum ((n + 3) / 4) (λ k. h (k * 4 + g))) ≡ xorSum n h
-rows-by-four n h none =
-    sum-swap 4 ((n + 3) / 4) (λ g k. h (k * 4 + g)) ∙ sum-blocks ((n + 3) / 4) 4 h ∙ sum-short n ((n + 3) / 4 * 4) h (omega arith) (λ i l k. none i l)

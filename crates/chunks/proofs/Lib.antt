@@ -1,5 +1,4 @@
 pub mod BitSumLaws
-pub mod BlockLaws
 pub mod HalfLaws
 pub mod PassLaws
 pub mod TurnLaws

@@ -16,7 +16,7 @@ use Rattle.strings.proofs.SumLaws.{sum-same, sum-parts, sum-past}
 use Rattle.strings.proofs.Meaning.{bitOf-lt}
 use Rattle.chunks.specs.Chunks.{chunk, cellAt}
 use Rattle.chunks.proofs.BitSumLaws.{sum-blocks}
-use Rattle.forms_choices.specs.Entries.{entryByte, choice, five, fivesWord, rowFive, upTo, Chosen, ChosenAll, wordByte, lookedUp, InWords, Weighed}
+use Rattle.forms_choices.specs.Entries.{entryByte, choice, five, fivesWord, rowFive, upTo, Chosen, wordByte, lookedUp, InWords, Weighed}
 
 -- ---- the five bits of a choice
 
@@ -61,13 +61,6 @@ up-to-first m f i h = ap (λ b. cond b (f i) 0) (ltb-yes i m h)
 pub up-to-past : (m : ℕ) (f : ℕ → ℕ) (i : ℕ) → m ≤ i → upTo m f i ≡ 0
 unfolding upTo
 up-to-past m f i h = ap (λ b. cond b (f i) 0) (ltb-no i m h)
-
-pub up-to-same : (m : ℕ) (f g : ℕ → ℕ) → ((i : ℕ) → i < m → f i ≡ g i) → (i : ℕ) → upTo m f i ≡ upTo m g i
-up-to-same m f g same i = go (decLt i m)
-  where
-    go : Dec (i < m) → upTo m f i ≡ upTo m g i
-    go (yes l) = up-to-first m f i l ∙ same i l ∙ sym (up-to-first m g i l)
-    go (no l) = up-to-past m f i (omega arith) ∙ sym (up-to-past m g i (omega arith))
 
 -- ---- entries
 
@@ -122,10 +115,6 @@ chosen-next χ W W′ m e own kept done q h = go (decLt q (e * 8))
     go : Dec (q < e * 8) → Chosen χ m W′ q
     go (yes lt) = λ g hg. ap (λ (w : ℕ). five w (g % 10)) (kept q (g / 10) lt (omega arith)) ∙ done q lt g hg
     go (no ge) = let same : e * 8 + (q - e * 8) ≡ q = omega arith in rw same at (own (q - e * 8) (omega arith))
-
--- the bytes may be given another way
-pub chosen-same : (χ ψ : ℕ → ℕ → ℕ) (m τ : ℕ) (W : List ℕ) → ((e i : ℕ) → i < m → χ e i ≡ ψ e i) → ChosenAll χ m τ W → ChosenAll ψ m τ W
-chosen-same χ ψ m τ W same chosen r hr g hg = chosen r hr g hg ∙ choice-same (upTo m (χ (r / 8))) (upTo m (ψ (r / 8))) (r % 8) g (λ i l. up-to-same m (χ (r / 8)) (ψ (r / 8)) (same (r / 8)) i)
 
 -- ---- what is looked up
 

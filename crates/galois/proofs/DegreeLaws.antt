@@ -2,7 +2,7 @@
 -- Assumes nothing.
 use mathlib.Core.Path.{_≡_, sym, ap}
 use mathlib.Core.Bool.{Bool, true, false, cond}
-use Prim.Native.Nat.{ℕ, _^_, _≤_}
+use Prim.Native.Nat.{ℕ, _≤_}
 use borrow.Author.Tests.{ne-eqb}
 use lib.Dec.{eqb, lit≤}
 use Rattle.algebra.specs.Coded.{Coded}
@@ -52,11 +52,6 @@ size-four d h = ap (λ (C : Coded). C .base .size) (sym (field-four d h))
 pub size-other : (d : ℕ) → (d ≡ gf16 .degree → ⊥) → gf256 .base .size ≡ sizeOf d
 unfolding sizeOf
 size-other d h = ap (λ (C : Coded). C .base .size) (sym (field-other d h))
-
--- the size is a power of two, and at most the bytes there are
-pub size-power : (d : ℕ) → sizeOf d ≡ 2 ^ degreeOf d
-unfolding sizeOf degreeOf
-size-power d = fieldOf d .size-is
 
 pub size-most : (d : ℕ) → sizeOf d ≤ 256
 unfolding sizeOf

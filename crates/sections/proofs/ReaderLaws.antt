@@ -3,7 +3,7 @@
 -- answer, the section's length, and what is left.
 --   yes? a == the answer is accepted
 -- Assumes nothing.
-use mathlib.Core.Path.{_≡_, refl, sym, ap, _∙_, subst}
+use mathlib.Core.Path.{_≡_, refl, sym, ap, _∙_}
 use mathlib.Core.Bool.{Bool, true, false, _&&_, false≢true}
 use mathlib.Core.List.{List, [], _∷_}
 use Prim.Native.Nat.{ℕ, zero, suc, _+_, _-_, _<_, _≤_}
@@ -23,7 +23,6 @@ use Rattle.format.specs.Verdict.{answerOf, andThen}
 use Rattle.format.specs.declared.Refusal.{Refusal}
 use Rattle.format.specs.declared.Verdict.the-variants.{Accepted, Refused}
 use Rattle.format.proofs.AskLaws.{stop-at}
-use Rattle.sections.specs.Reading.{Reads}
 use Rattle.sections.proofs.SectionLaws.{whole, section-is, and-no, follow-missing, follow-other, follow-next, length-more, section-end, section-part, length-part, framed-length}
 use Rattle.sections.specs.Taking.{answerOn, nextOn, bytesOn, answerAt, nextAt, bytesAt, readTo}
 use Rattle.sections.specs.Moved.{ReadsOn}
@@ -54,11 +53,6 @@ module _ (ls s : List ℕ) (i : ℕ) (h : i < length ls) (f : framed ls s ≡ tr
 
   pub section-length : length (sectionNo ls i s) ≡ getD ls i 0
   section-length = ap length (section-part ls s i h) ∙ length-part s (framedLength (take i ls) + 4) (getD ls i 0) (omega (arith, section-end ls i h, framed-length ls s f))
-
--- of a string that reads as sections from index at on: the reader takes the first, and what is left reads as the others
-pub reader-takes : (s : List ℕ) (at l : ℕ) (ls x : List ℕ) (xs : List (List ℕ)) → Reads s at (l ∷ ls) (x ∷ xs) → (answerAt s at ≡ accepted) × (bytesAt s at ≡ x) × Reads s (nextAt s at) ls xs
-unfolding answerAt bytesAt nextAt
-reader-takes s at l ls x xs (a, e, f, n, x-is, rest) = (ap answerOn f, ap (bytesOn s) f ∙ sym x-is, subst (λ k. Reads s k ls xs) (sym (ap (nextOn at) f)) rest)
 
 -- ---- one step of the reader, and the question on all
 

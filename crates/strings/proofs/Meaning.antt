@@ -11,7 +11,7 @@ use lib.Dec.{lit<}
 use lib.Bits.{bitXor, xor-shr, xor-mod}
 use Rattle.algebra.specs.Ring.{Ring}
 use Rattle.algebra.specs.Field.{Field}
-use Rattle.algebra.specs.Coded.{Coded, mulByte}
+use Rattle.algebra.specs.Coded.{Coded}
 use Rattle.algebra.specs.Sum.{sum}
 use Rattle.algebra.proofs.RingLaws.{mul-zero as times-zero}
 use Rattle.protocol.specs.Strings.{bit}
@@ -68,9 +68,6 @@ module _ (C : Coded) where
   unfolding xorSum
   byte-sum zero f = ap byte (sym (C .elem-zero)) ∙ C .byte-elem 0 (omega (arith, base .four≤size))
   byte-sum (suc k) f = C .byte-add (sum R k f) (f k) ∙ ap (λ (x : ℕ). bitXor x (byte (f k))) (byte-sum k f)
-
-  pub elem-product : (a b : ℕ) → elem (mulByte C a b) ≡ elem a ⊗ elem b
-  elem-product a b = C .elem-byte (elem a ⊗ elem b)
 
   pub byte-bit : (q : ℕ) → q < 2 → byte (elem q) ≡ q
   byte-bit q h = C .byte-elem q (omega (arith, base .four≤size))

@@ -1,13 +1,13 @@
 -- A buffer whose entries are those of a table is the table; and so for rows.
 -- Assumes nothing.
 use mathlib.Core.Path.{_≡_, refl, sym, ap, _∙_}
-use mathlib.Core.List.{List, [], _∷_}
+use mathlib.Core.List.{List}
 use Prim.Native.Nat.{ℕ, zero, suc, _+_, _*_, _/_, _%_, _<_, _≤_}
 use native.Mathlib.Nat.{min-eq-left, div-add-mod', div-lt-iff-lt-mul, mod-lt, mul-zero}
 use native.Mathlib.Omega.{arith}
 use lib.ListN.{length, getD, take, length-take}
 use lib.Seq.{ext-getD, getD-take}
-use Rattle.protocol.specs.Lists.{table, concat, blockAt}
+use Rattle.protocol.specs.Lists.{table, concat}
 use Rattle.theorems.proofs.ListLaws.{length-table, table-at, table-length, table-block, block-getD}
 
 pub list-table : (l : List ℕ) (n : ℕ) (f : ℕ → ℕ) → length l ≡ n → ((i : ℕ) → i < n → getD l i 0 ≡ f i) → l ≡ table n f
@@ -32,8 +32,3 @@ module _ (l : List ℕ) (n w : ℕ) (f : ℕ → List ℕ) (h : length l ≡ n *
 
   pub rows-table : l ≡ concat (table n f)
   rows-table = ext-getD 0 l (concat (table n f)) (h ∙ sym (table-length w n f rows)) (λ k lk. at-index k (rw (← h) lk) w refl)
-
--- six sections that are the six
-pub six-same : {a b c d e f a′ b′ c′ d′ e′ f′ : List ℕ} → a ≡ a′ → b ≡ b′ → c ≡ c′ → d ≡ d′ → e ≡ e′ → f ≡ f′
-    → _≡_ {A = List (List ℕ)} (a ∷ b ∷ c ∷ d ∷ e ∷ f ∷ []) (a′ ∷ b′ ∷ c′ ∷ d′ ∷ e′ ∷ f′ ∷ [])
-six-same p q r s t u = rw (p, q, r, s, t, u) refl
