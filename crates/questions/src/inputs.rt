@@ -23,9 +23,9 @@ use format::sizes::leaf_bits;
 use format::sizes::leaves_bytes;
 use format::sizes::tree_leaves;
 use format::sizes::witness_bytes;
-use sections::elements::elements;
-use sections::spare::row_spare;
-use sections::spare::rows_spare;
+use rows::elements::elements;
+use rows::spare::row_spare;
+use rows::spare::rows_spare;
 
 // Has Δ a byte for each repetition?
 pub fn challenge_exact(delta: &[u8], s: Sizes) -> bool

@@ -25,8 +25,8 @@ use format::sizes::key_lengths;
 use sections::framed_length;
 use sections::section_no;
 use sections::sections_form;
-use sections::spare::row_spare;
-use sections::spare::rows_spare;
+use rows::spare::row_spare;
+use rows::spare::rows_spare;
 
 // The bytes of a key of these sizes.
 pub fn key_bytes(s: Sizes) -> usize

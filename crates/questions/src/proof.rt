@@ -14,13 +14,13 @@ use format::also;
 use format::sizes::Sizes;
 use format::sizes::leaf_bits;
 use format::sizes::proof_lengths;
-use sections::elements::elements;
+use rows::elements::elements;
 use sections::reader::Places;
 use sections::reader::Walk;
 use sections::reader::read_sections;
 use sections::reader::section_from;
-use sections::spare::row_spare;
-use sections::spare::rows_spare;
+use rows::spare::row_spare;
+use rows::spare::rows_spare;
 
 // The places of the sections C, d, ũ, Ṽ, QS0, QS1.
 pub const C: usize = 0;

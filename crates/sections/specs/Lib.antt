@@ -2,4 +2,3 @@ pub mod Span
 pub mod Reading
 pub mod Moved
 pub mod Taking
-pub mod Spare

@@ -1,9 +1,7 @@
 // Sections, each after its byte count of four bytes: how one is found, and how a string of them is read.
-pub mod elements;
 pub mod frames;
 pub mod outputs;
 pub mod reader;
-pub mod spare;
 
 ghost use mathlib.Core.Path.{_≡_};
 ghost use mathlib.Core.List.{[], _∷_};

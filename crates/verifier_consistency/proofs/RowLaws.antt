@@ -13,7 +13,7 @@ use Rattle.protocol.specs.Lists.{allBelow}
 use Rattle.protocol.specs.Strings.{bit}
 use Rattle.theorems.proofs.StringLaws.{bit-lt}
 use Rattle.theorems.proofs.TestLaws.{bool-iff, eqb-same, eqb-eq}
-use Rattle.sections.proofs.SpareLaws.{or-zero, all-more}
+use Rattle.rows.proofs.SpareLaws.{or-zero, all-more}
 use Rattle.strings.specs.Sums.{byteAt}
 use Rattle.strings.proofs.XorLaws.{xor-assoc}
 use Rattle.verifier_consistency.specs.Consistency.{BitMasks, rowConsistent}

@@ -13,7 +13,7 @@ use Rattle.protocol.specs.Shape.{kOf}
 use Rattle.protocol.specs.Questions.{hExact, hSpare}
 use Rattle.theorems.proofs.TestLaws.{eqb-eq}
 use Rattle.format.specs.Sizes.{settingFor, alphabetFor, shapeFor}
-use Rattle.sections.proofs.SpareLaws.{rows-are}
+use Rattle.rows.proofs.SpareLaws.{rows-are}
 use Rattle.format.proofs.SizeLaws.{k-most}
 use Rattle.format.proofs.AskLaws.{no-of, yes-of, says-no, says-yes, says-all}
 use Rattle.questions.proofs.inputs.hash_matrix_form.Statement.{statement}

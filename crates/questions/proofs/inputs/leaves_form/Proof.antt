@@ -13,7 +13,7 @@ use Rattle.protocol.specs.Shape.{wOf}
 use Rattle.protocol.specs.Questions.{leavesExact, leavesSpare}
 use Rattle.theorems.proofs.TestLaws.{eqb-same, eqb-other}
 use Rattle.format.specs.Sizes.{settingFor, alphabetFor, shapeFor}
-use Rattle.sections.proofs.SpareLaws.{rows-are}
+use Rattle.rows.proofs.SpareLaws.{rows-are}
 use Rattle.format.proofs.SizeLaws.{l-most, trees-most}
 use Rattle.format.proofs.AskLaws.{go-on, stop-at, no-of, yes-of, says-no, says-yes, says-all}
 use Rattle.questions.proofs.inputs.leaves_form.Statement.{statement}

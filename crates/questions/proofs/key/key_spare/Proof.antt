@@ -9,7 +9,7 @@ use Rattle.protocol.specs.Key.{rowsSpare, keySpare}
 use Rattle.format.specs.Sizes.{settingFor, alphabetFor, shapeFor}
 use Rattle.format.proofs.SizeLaws.{in-limits, matrix-rows-most}
 use Rattle.format.proofs.AllLaws.{all-three}
-use Rattle.sections.proofs.SpareLaws.{rows-are}
+use Rattle.rows.proofs.SpareLaws.{rows-are}
 use Rattle.questions.proofs.key.key_spare.Statement.{statement}
 use Rattle.questions.proofs.key.key_spare.Tie as tie
 

@@ -11,7 +11,7 @@ use Rattle.protocol.specs.Shape.{lOf, wOf}
 use Rattle.protocol.specs.Sections.{lengths}
 use Rattle.protocol.specs.Questions.{proofSpare}
 use Rattle.format.specs.Sizes.{settingFor, alphabetFor, shapeFor}
-use Rattle.sections.proofs.SpareLaws.{rows-are}
+use Rattle.rows.proofs.SpareLaws.{rows-are}
 use Rattle.format.proofs.SizeLaws.{in-limits, l-most}
 use Rattle.format.proofs.AllLaws.{all-three}
 use Rattle.questions.proofs.proof.proof_spare.Statement.{statement}

@@ -21,7 +21,7 @@ use Rattle.protocol.specs.Lists.{allBelow, part, blockAt}
 use Rattle.protocol.specs.Strings.{bytesFor, bit, fromBits, spareZero}
 use Rattle.protocol.specs.Setting.{Setting, alphabetOf}
 use Rattle.protocol.specs.Key.{rowsSpare}
-use Rattle.sections.specs.Spare.{bitsSpare}
+use Rattle.rows.specs.Spare.{bitsSpare}
 use Rattle.theorems.proofs.TestLaws.{eqb-same, eqb-eq, ltb-yes, and-true, both-true, bool-iff, all-of}
 use Rattle.theorems.proofs.ElementLaws.{ltb-lt}
 use Rattle.theorems.proofs.ListLaws.{row-end, length-block, block-getD}

@@ -8,10 +8,10 @@ use borrow.Author.Needs.{needs}
 use denote.Ref.{now}
 use lib.Dec.{eqb}
 use lib.ListN.{length}
-use Rattle.sections.specs.Spare.{narrow}
-use Rattle.sections.proofs.SpareLaws.{narrowTo, narrow-none, narrow-more}
-use Rattle.sections.proofs.elements.above_narrow.Statement.{statement}
-use Rattle.sections.proofs.elements.above_narrow.Tie as tie
+use Rattle.rows.specs.Spare.{narrow}
+use Rattle.rows.proofs.SpareLaws.{narrowTo, narrow-none, narrow-more}
+use Rattle.rows.proofs.elements.above_narrow.Statement.{statement}
+use Rattle.rows.proofs.elements.above_narrow.Tie as tie
 
 abbrev Inv-loop : tie.InvT-loop
 Inv-loop s found₀ i₀ found i = (i ≤ length s) × (eqb found 0 ≡ narrowTo i s)

@@ -8,10 +8,10 @@ use borrow.Author.Needs.{needs}
 use denote.Ref.{now}
 use lib.ListN.{length}
 use lib.Dec.{eqb}
-use Rattle.sections.specs.Spare.{bitsSpare}
-use Rattle.sections.proofs.SpareLaws.{no-rows, row-fits, rows-more}
-use Rattle.sections.proofs.spare.spare_bits.Statement.{statement}
-use Rattle.sections.proofs.spare.spare_bits.Tie as tie
+use Rattle.rows.specs.Spare.{bitsSpare}
+use Rattle.rows.proofs.SpareLaws.{no-rows, row-fits, rows-more}
+use Rattle.rows.proofs.spare.spare_bits.Statement.{statement}
+use Rattle.rows.proofs.spare.spare_bits.Tie as tie
 
 abbrev Inv-loop : tie.InvT-loop
 Inv-loop s bits rows width used found₀ i₀ found i = (i ≤ rows) × (eqb found 0 ≡ bitsSpare bits i s)

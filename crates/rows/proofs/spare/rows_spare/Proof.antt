@@ -2,9 +2,9 @@
 -- Assumes nothing.
 use mathlib.Core.Path.{sym}
 use borrow.Author.Needs.{needs}
-use Rattle.sections.proofs.SpareLaws.{whole-bytes}
-use Rattle.sections.proofs.spare.rows_spare.Statement.{statement}
-use Rattle.sections.proofs.spare.rows_spare.Tie as tie
+use Rattle.rows.proofs.SpareLaws.{whole-bytes}
+use Rattle.rows.proofs.spare.rows_spare.Statement.{statement}
+use Rattle.rows.proofs.spare.rows_spare.Tie as tie
 
 returns : tie.Need-returns
 returns c = sym (whole-bytes _ _ _ (c .if1 .taken))

@@ -2,9 +2,9 @@
 -- Assumes nothing.
 use mathlib.Core.Path.{_∙_}
 use borrow.Author.Needs.{needs}
-use Rattle.sections.proofs.SpareLaws.{one-row}
-use Rattle.sections.proofs.spare.row_spare.Statement.{statement}
-use Rattle.sections.proofs.spare.row_spare.Tie as tie
+use Rattle.rows.proofs.SpareLaws.{one-row}
+use Rattle.rows.proofs.spare.row_spare.Statement.{statement}
+use Rattle.rows.proofs.spare.row_spare.Tie as tie
 
 rows-spare-requires : tie.Need-rows-spare-requires
 rows-spare-requires c κs = search needs

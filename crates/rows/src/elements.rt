@@ -3,7 +3,7 @@ ghost use mathlib.Core.Path.{_≡_};
 ghost use lib.Dec.{eqb};
 ghost use Rattle.protocol.specs.Alphabet.{elementsIn};
 ghost use Rattle.protocol.specs.Setting.{setting, alphabetOf};
-ghost use Rattle.sections.specs.Spare.{narrow};
+ghost use Rattle.rows.specs.Spare.{narrow};
 use field::Gf16;
 
 // What the bytes have above the elements of the smaller field, all together. What is tested is public, but so it takes

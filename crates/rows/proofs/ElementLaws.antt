@@ -17,7 +17,7 @@ use Rattle.protocol.specs.Alphabet.{elementsIn}
 use Rattle.protocol.specs.Setting.{setting, alphabetOf}
 use Rattle.theorems.proofs.TestLaws.{eqb-eq, eqb-same}
 use Rattle.theorems.proofs.ElementLaws.{elements-bytes}
-use Rattle.sections.specs.Spare.{narrow}
+use Rattle.rows.specs.Spare.{narrow}
 
 narrow-elements : (d : ℕ) (s : List ℕ) → d ≡ gf16 .degree → narrow s ≡ elementsIn (alphabetOf (setting d)) s
 unfolding narrow elementsIn sizeOf

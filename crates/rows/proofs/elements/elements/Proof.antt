@@ -3,9 +3,9 @@
 -- Assumes nothing.
 use borrow.Author.Needs.{needs}
 use denote.Ref.{now}
-use Rattle.sections.proofs.ElementLaws.{tested-elements}
-use Rattle.sections.proofs.elements.elements.Statement.{statement}
-use Rattle.sections.proofs.elements.elements.Tie as tie
+use Rattle.rows.proofs.ElementLaws.{tested-elements}
+use Rattle.rows.proofs.elements.elements.Statement.{statement}
+use Rattle.rows.proofs.elements.elements.Tie as tie
 
 above-narrow-requires : tie.Need-above-narrow-requires
 above-narrow-requires c κs = search needs

@@ -4,7 +4,7 @@ ghost use Prim.Native.Nat.{_+_, _*_, _<_, _≤_, _%_, _^_};
 ghost use lib.Dec.{eqb};
 ghost use lib.ListN.{length};
 ghost use Rattle.protocol.specs.Strings.{bytesFor, spareZero};
-ghost use Rattle.sections.specs.Spare.{bitsSpare};
+ghost use Rattle.rows.specs.Spare.{bitsSpare};
 use format::sizes::bytes_for;
 use strings::BITS;
 

@@ -1,0 +1,2 @@
+pub mod SpareLaws
+pub mod ElementLaws
