@@ -7,7 +7,7 @@ ghost use Rattle.format.specs.Verdict.{answerOf};
 ghost use Rattle.demands.specs.Told.{CommitOutput, HashOutput, BatchOutput, ProveOutput};
 use format::Verdict;
 use format::sizes::sizes_of;
-use questions::witness::solved;
+use questions_proof::witness::solved;
 
 // The second step (01): hash with H′. It takes no witness, and writes the sections ũ and Ṽ.
 pub fn hash(key: &[u8], degree: u32, leaves: &[u8], matrix: &[u8], out: &mut [u8]) -> Verdict

@@ -15,9 +15,9 @@ ghost use Rattle.verifier_consistency.specs.Consistency.{BitMasks, RowsO
 use format::sizes::MOST_HASH_ROWS;
 use format::sizes::Sizes;
 use lanes::LANES;
-use questions::proof::U;
-use questions::proof::V;
-use questions::proof::proof_section;
+use questions_proof::proof::U;
+use questions_proof::proof::V;
+use questions_proof::proof::proof_section;
 use sections::reader::Places;
 use strings::MASK_BYTE;
 

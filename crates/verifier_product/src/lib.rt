@@ -24,10 +24,10 @@ use forms::batch::batch_forms;
 use forms_batching::stacks::VECTORS;
 use forms_batching::stacks::fill_vectors;
 use lanes::LANES;
-use questions::proof::D;
-use questions::proof::QS0;
-use questions::proof::QS1;
-use questions::proof::proof_section;
+use questions_proof::proof::D;
+use questions_proof::proof::QS0;
+use questions_proof::proof::QS1;
+use questions_proof::proof::proof_section;
 use sections::reader::Places;
 
 // Adds δ_e to coordinate c of each lane, where the bit is set.

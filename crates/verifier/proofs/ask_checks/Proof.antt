@@ -20,7 +20,7 @@ use Rattle.format.proofs.AskLaws.{then-ask, go-on, stop-at}
 use Rattle.format.proofs.SizeLaws.{in-limits, w-most}
 use Rattle.sections.proofs.Writes.{take-length}
 use Rattle.tables_opened.specs.Opened.{Opened}
-use Rattle.questions.proofs.ProofLaws.{section-lengths}
+use Rattle.questions_proof.proofs.ProofLaws.{section-lengths}
 use Rattle.questions.proofs.AnswerLaws.{asked-of-each}
 use Rattle.verifier.proofs.GivenLaws.{sent-elements, challenge-lt, opened-is, opened-begins, opened-long, opened-narrow}
 use Rattle.verifier.proofs.ask_checks.Statement.{statement}

@@ -13,7 +13,7 @@ use Rattle.theorems.proofs.ElementLaws.{element-lt}
 use Rattle.format.proofs.SizeLaws.{in-limits}
 use Rattle.equations.proofs.BlockLaws.{bytes-enough}
 use Rattle.verifier_consistency.specs.Consistency.{firstInconsistent}
-use Rattle.questions.proofs.ProofLaws.{section-lengths}
+use Rattle.questions_proof.proofs.ProofLaws.{section-lengths}
 use Rattle.verifier_consistency.proofs.ConsistencyMeaning.{first-inconsistent-is}
 use Rattle.verifier_consistency.proofs.check_hashed.Statement.{statement}
 use Rattle.verifier_consistency.proofs.check_hashed.Tie as tie

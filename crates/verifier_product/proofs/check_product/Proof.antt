@@ -30,7 +30,7 @@ use Rattle.forms_columns.specs.Stacks.{coordinateOf}
 use Rattle.forms_choices.proofs.ChoiceLaws.{up-to-first}
 use Rattle.forms_batching.proofs.VectorLaws.{vectors-narrow}
 use Rattle.verifier_product.specs.Product.{productByte, firstDiffering}
-use Rattle.questions.proofs.ProofLaws.{section-lengths}
+use Rattle.questions_proof.proofs.ProofLaws.{section-lengths}
 use Rattle.verifier_product.proofs.ProductLaws.{key-narrow}
 use Rattle.verifier_product.proofs.ProductMeaning.{first-differing-is}
 use Rattle.verifier_product.proofs.check_product.Statement.{statement}

@@ -13,8 +13,8 @@ use Rattle.protocol.specs.Sections.{lengths}
 use Rattle.format.specs.Sizes.{alphabetFor, shapeFor}
 use Rattle.sections.specs.Taking.{bytesAt}
 use Rattle.sections.proofs.ReaderLaws.{section-taken, section-length}
-use Rattle.questions.proofs.proof.proof_section.Statement.{statement}
-use Rattle.questions.proofs.proof.proof_section.Tie as tie
+use Rattle.questions_proof.proofs.proof.proof_section.Statement.{statement}
+use Rattle.questions_proof.proofs.proof.proof_section.Tie as tie
 
 count : (A : Alphabet) (s : Shape) (i : ℕ) → i < 6 → i < length (lengths A s)
 unfolding lengths

@@ -6,8 +6,8 @@ use Rattle.protocol.specs.Alphabet.{elementsIn}
 use Rattle.protocol.specs.Questions.{proofElements}
 use Rattle.format.specs.Sizes.{alphabetFor}
 use Rattle.format.proofs.AllLaws.{all-three}
-use Rattle.questions.proofs.proof.proof_elements.Statement.{statement}
-use Rattle.questions.proofs.proof.proof_elements.Tie as tie
+use Rattle.questions_proof.proofs.proof.proof_elements.Statement.{statement}
+use Rattle.questions_proof.proofs.proof.proof_elements.Tie as tie
 
 proof-section-requires : tie.Need-proof-section-requires
 proof-section-requires c κs = search needs

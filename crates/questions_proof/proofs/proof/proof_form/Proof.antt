@@ -10,10 +10,10 @@ use Rattle.protocol.specs.Questions.{q12}
 use Rattle.format.specs.Sizes.{alphabetFor, shapeFor}
 use Rattle.format.specs.Verdict.{answerOf}
 use Rattle.format.proofs.AskLaws.{stop-at, then-ask, said-yes, same-first, same-also}
 use Rattle.questions.specs.Facts.{PlacesOf}
 use Rattle.sections.proofs.ReaderLaws.{refused-not}
-use Rattle.questions.proofs.proof.proof_form.Statement.{statement}
-use Rattle.questions.proofs.proof.proof_form.Tie as tie
+use Rattle.questions_proof.proofs.proof.proof_form.Statement.{statement}
+use Rattle.questions_proof.proofs.proof.proof_form.Tie as tie
 
 proof-lengths-requires : tie.Need-proof-lengths-requires
 proof-lengths-requires c κs = search needs

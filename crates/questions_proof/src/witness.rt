@@ -9,8 +9,8 @@ ghost use Rattle.protocol.specs.Answers.{ask};
 ghost use Rattle.protocol.specs.Questions.{q11};
 ghost use Rattle.format.specs.Sizes.{alphabetFor, shapeFor, SizesOf};
 ghost use Rattle.format.specs.Verdict.{answerOf};
 ghost use Rattle.questions.specs.Facts.{TestFacts};
-ghost use Rattle.questions.specs.Solved.{ErrorsAs};
+ghost use Rattle.questions_proof.specs.Solved.{ErrorsAs};
 use equations::Found;
 use format::Reason;
 use format::Verdict;
@@ -36,9 +36,9 @@ fn test_equations(errors: &mut [u8], key: &[u8], witness: &[u8], s: Sizes) -> Ve
     let n = s.n;
     equations::equation_errors(
         errors,
-        super::key::section_a(key, s),
-        super::key::section_b(key, s),
-        super::key::section_y(key, s),
+        questions::key::section_a(key, s),
+        questions::key::section_b(key, s),
+        questions::key::section_y(key, s),
         witness,
         n,
     );

@@ -7,8 +7,8 @@ use Rattle.format.specs.Sizes.{shapeFor}
 use Rattle.format.proofs.SizeLaws.{in-limits}
 use Rattle.sections.proofs.Writes.{prefix-length}
 use borrow.Author.Needs.{needs}
-use Rattle.questions.proofs.witness.solved.Statement.{statement}
-use Rattle.questions.proofs.witness.solved.Tie as tie
+use Rattle.questions_proof.proofs.witness.solved.Statement.{statement}
+use Rattle.questions_proof.proofs.witness.solved.Tie as tie
 
 fits : (c : tie.Start) → c .args .s .m ≤ mostEquations
 fits c = in-limits (shapeFor (c .args .s)) (c .pre .1 .of-key .in-range) .m-most

@@ -13,12 +13,12 @@ use Rattle.format.specs.Verdict.{answerOf}
 use Rattle.format.proofs.SizeLaws.{in-limits}
 use Rattle.equations.specs.Equations.{keyError}
 use Rattle.equations.proofs.BlockLaws.{bytes-enough}
-use Rattle.questions.proofs.SolvedLaws.{solved-as}
+use Rattle.questions_proof.proofs.SolvedLaws.{solved-as}
 use borrow.Author.Needs.{needs}
 use Rattle.format.specs.Sizes.{settingFor, alphabetFor, shapeFor}
 use Rattle.questions.proofs.KeyLaws.{facts-sized}
-use Rattle.questions.proofs.witness.test_equations.Statement.{statement}
-use Rattle.questions.proofs.witness.test_equations.Tie as tie
+use Rattle.questions_proof.proofs.witness.test_equations.Statement.{statement}
+use Rattle.questions_proof.proofs.witness.test_equations.Tie as tie
 
 section-a-requires : tie.Need-section-a-requires
 section-a-requires c κs = facts-sized (alphabetFor (c .before .before .before .before .args .s)) (shapeFor (c .before .before .before .before .args .s)) (now (c .before .before .before .before .args .key)) (c .before .before .before .before .pre .1 .of-key)

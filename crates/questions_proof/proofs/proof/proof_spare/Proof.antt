@@ -14,8 +14,8 @@ use Rattle.format.specs.Sizes.{settingFor, alphabetFor, shapeFor}
 use Rattle.rows.proofs.SpareLaws.{rows-are}
 use Rattle.format.proofs.SizeLaws.{in-limits, l-most}
 use Rattle.format.proofs.AllLaws.{all-three}
-use Rattle.questions.proofs.proof.proof_spare.Statement.{statement}
-use Rattle.questions.proofs.proof.proof_spare.Tie as tie
+use Rattle.questions_proof.proofs.proof.proof_spare.Statement.{statement}
+use Rattle.questions_proof.proofs.proof.proof_spare.Tie as tie
 
 proof-section-requires : tie.Need-proof-section-requires
 proof-section-requires c κs = search needs

@@ -16,7 +16,7 @@ use Rattle.theorems.proofs.AnswerLaws.{ask-none, ask-no, ask-yes}
 use Rattle.strings.specs.Sums.{byteAt}
 use Rattle.equations.specs.Equations.{keyError}
 use Rattle.equations.proofs.EquationsMeaning.{none-solves, first-named, first-refutes}
-use Rattle.questions.specs.Solved.{ErrorsAs}
+use Rattle.questions_proof.specs.Solved.{ErrorsAs}
 
 module _ (g : Setting) (key x : List ℕ) (spare : spareZero x (shapeOf key .n) ≡ true) (errors : List ℕ) (long : length errors ≡ shapeOf key .m)
     (are : (i : ℕ) → i < length errors → byteAt errors i ≡ keyError (shapeOf key .n) (sectionA (alphabetOf g) (shapeOf key) key) (sectionB (alphabetOf g) (shapeOf key) key) (sectionY (alphabetOf g) (shapeOf key) key) x i) where

@@ -3,8 +3,8 @@
 use mathlib.Core.Path.{refl}
 use native.Mathlib.Omega.{arith}
 use borrow.Author.Needs.{needs}
-use Rattle.questions.proofs.witness.answer.Statement.{statement}
-use Rattle.questions.proofs.witness.answer.Tie as tie
+use Rattle.questions_proof.proofs.witness.answer.Statement.{statement}
+use Rattle.questions_proof.proofs.witness.answer.Tie as tie
 
 first-failing-requires : tie.Need-first-failing-requires
 first-failing-requires c κs = search needs

@@ -1,0 +1,2 @@
+pub mod SolvedLaws
+pub mod ProofLaws
