@@ -192,7 +192,7 @@ fn look_up_plane(planes: &mut [u8], p: usize, words: &[u64], r: usize, groups: u
     ensures { λ _. ⌜ RowsKept chunk p (now (planes .entry)) (now (planes .exit)) ⌝ }
 {
     let at = p * CHUNK;
-    forms_choices::sums::look_up(&mut planes[at..at + CHUNK], words, r, groups, sums);
+    forms_sums::sums::look_up(&mut planes[at..at + CHUNK], words, r, groups, sums);
 }
 
 // The eight planes of the batched line whose rows of words begin with row `base`.
@@ -297,7 +297,7 @@ pub fn add_lines(
     let mut g = 0;
     while g * ELEMENTS < n {
         let from = g * ELEMENTS;
-        forms_choices::sums::fill_sums(sums, groups, m, strings::row_at(lines, m * CHUNK, g));
+        forms_sums::sums::fill_sums(sums, groups, m, strings::row_at(lines, m * CHUNK, g));
         let count = least(ELEMENTS, MOST_VARIABLES - from);
         add_products(mid, tau, words, groups, sums, vectors, from, count, degree);
         g += 1;

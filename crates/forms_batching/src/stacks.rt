@@ -157,7 +157,7 @@ fn absorb_two(
         → stackAt d (now (t .exit)) f z ≡ bitXor (stackAt d (now (t .entry)) f z) (bitXor (planeTimes d v S χ m f z (2 * k)) (planeTimes d v S χ m f z (2 * k + 1)))) ⌝ }
 {
     let mut both = [0u8; PAIR];
-    forms_choices::sums::look_up_two(&mut both, words, base + 2 * k, groups, sums);
+    forms_sums::sums::look_up_two(&mut both, words, base + 2 * k, groups, sums);
     forms_planes::absorb_planes(t, 2 * k, &both, masks);
 }
 
@@ -267,8 +267,8 @@ pub fn collect(
     let r = field::degree_of(s.degree);
     let mut q = 0;
     while q < rows {
-        forms_choices::sums::fill_sums(sums, groups, m, strings::row_at(cells, m * CHUNK, q));
-        forms_choices::sums::add_first(stacks, sums);
+        forms_sums::sums::fill_sums(sums, groups, m, strings::row_at(cells, m * CHUNK, q));
+        forms_sums::sums::add_first(stacks, sums);
         absorb_lanes(
             stacks,
             tau,

@@ -1,3 +1,2 @@
 pub mod ChoiceLaws
-pub mod EntryLaws
 pub mod PickLaws

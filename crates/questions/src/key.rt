@@ -22,11 +22,11 @@ use format::sizes::Sizes;
 use format::sizes::degree_served;
 use format::sizes::in_limits;
 use format::sizes::key_lengths;
+use rows::spare::row_spare;
+use rows::spare::rows_spare;
 use sections::framed_length;
 use sections::section_no;
 use sections::sections_form;
-use rows::spare::row_spare;
-use rows::spare::rows_spare;
 
 // The bytes of a key of these sizes.
 pub fn key_bytes(s: Sizes) -> usize

@@ -15,12 +15,12 @@ use format::sizes::Sizes;
 use format::sizes::leaf_bits;
 use format::sizes::proof_lengths;
 use rows::elements::elements;
+use rows::spare::row_spare;
+use rows::spare::rows_spare;
 use sections::reader::Places;
 use sections::reader::Walk;
 use sections::reader::read_sections;
 use sections::reader::section_from;
-use rows::spare::row_spare;
-use rows::spare::rows_spare;
 
 // The places of the sections C, d, ũ, Ṽ, QS0, QS1.
 pub const C: usize = 0;

@@ -7,8 +7,8 @@ use mathlib.Core.Path.{_≡_, sym}
 use native.Mathlib.Omega.{arith}
 use lib.Bits.{xor-zero-r}
 use Rattle.strings.specs.Sums.{xorSum}
-use Rattle.forms_choices.proofs.sums.add_last.Statement.{statement}
-use Rattle.forms_choices.proofs.sums.add_last.Tie as tie
+use Rattle.forms_sums.proofs.sums.add_last.Statement.{statement}
+use Rattle.forms_sums.proofs.sums.add_last.Tie as tie
 
 add-two-requires : tie.Need-add-two-requires
 add-two-requires c κs = search needs

@@ -10,8 +10,8 @@ use lib.ListN.{length, take, drop, length-take, length-drop}
 use Rattle.strings.specs.Sums.{byteAt}
 use Rattle.strings.proofs.Rows.{put-in, put-other}
 use Rattle.chunks.specs.Chunks.{chunk}
-use Rattle.forms_choices.proofs.sums.store.Statement.{statement}
-use Rattle.forms_choices.proofs.sums.store.Tie as tie
+use Rattle.forms_sums.proofs.sums.store.Statement.{statement}
+use Rattle.forms_sums.proofs.sums.store.Tie as tie
 
 mul-at : tie.Need-mul-at
 mul-at c = search needs

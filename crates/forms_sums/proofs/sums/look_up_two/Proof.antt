@@ -10,10 +10,10 @@ use lib.ListN.{length, getD-replicate}
 use lib.Bits.{bitXor}
 use Rattle.strings.specs.Sums.{byteAt, xorSum}
 use Rattle.chunks.specs.Chunks.{chunk}
 use Rattle.forms_choices.specs.Entries.{wordByte, lookedUp}
 use Rattle.forms_choices.proofs.ChoiceLaws.{looked-more, looked-last}
-use Rattle.forms_choices.proofs.sums.look_up_two.Statement.{statement}
-use Rattle.forms_choices.proofs.sums.look_up_two.Tie as tie
+use Rattle.forms_sums.proofs.sums.look_up_two.Statement.{statement}
+use Rattle.forms_sums.proofs.sums.look_up_two.Tie as tie
 
 abbrev Inv-loop : tie.InvT-loop
 Inv-loop out words r groups sums first₀ second₀ at k₀ first second k = (k ≤ groups / 10) × (length first ≡ chunk) × (length second ≡ chunk) × ((f : ℕ) → f < chunk → byteAt first f ≡ lookedUp sums words r (k * 10) f) × ((f : ℕ) → f < chunk → byteAt second f ≡ lookedUp sums words (r + 1) (k * 10) f)

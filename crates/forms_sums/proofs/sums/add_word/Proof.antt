@@ -11,9 +11,9 @@ use lib.Bits.{bitXor, xor-zero-r}
 use Rattle.strings.specs.Sums.{byteAt, xorSum}
 use Rattle.strings.proofs.SumLaws.{sum-step}
 use Rattle.chunks.specs.Chunks.{chunk, cellAt}
 use Rattle.forms_choices.specs.Entries.{five}
-use Rattle.forms_choices.proofs.sums.add_word.Statement.{statement}
-use Rattle.forms_choices.proofs.sums.add_word.Tie as tie
+use Rattle.forms_sums.proofs.sums.add_word.Statement.{statement}
+use Rattle.forms_sums.proofs.sums.add_word.Tie as tie
 
 -- byte f of the entry that five j of w chooses
 abbrev entry : List ℕ → ℕ → ℕ → ℕ → ℕ → ℕ

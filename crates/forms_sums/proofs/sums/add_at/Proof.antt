@@ -11,8 +11,8 @@ use native.Mathlib.Omega.{arith}
 use Rattle.strings.specs.Sums.{byteAt}
 use Rattle.strings.proofs.Elementwise.{changed, changed-more, changed-all}
 use Rattle.chunks.specs.Chunks.{chunk}
-use Rattle.forms_choices.proofs.sums.add_at.Statement.{statement}
-use Rattle.forms_choices.proofs.sums.add_at.Tie as tie
+use Rattle.forms_sums.proofs.sums.add_at.Statement.{statement}
+use Rattle.forms_sums.proofs.sums.add_at.Tie as tie
 
 abbrev change : List ℕ → ℕ → ℕ → ℕ → ℕ
 change s at k x = bitXor x (byteAt s (at + k))

@@ -10,10 +10,10 @@ use lib.ListN.{length, getD-replicate}
 use lib.Bits.{bitXor}
 use Rattle.strings.specs.Sums.{byteAt, xorSum}
 use Rattle.chunks.specs.Chunks.{chunk}
 use Rattle.forms_choices.specs.Entries.{wordByte, lookedUp}
 use Rattle.forms_choices.proofs.ChoiceLaws.{looked-more, looked-last}
-use Rattle.forms_choices.proofs.sums.look_up.Statement.{statement}
-use Rattle.forms_choices.proofs.sums.look_up.Tie as tie
+use Rattle.forms_sums.proofs.sums.look_up.Statement.{statement}
+use Rattle.forms_sums.proofs.sums.look_up.Tie as tie
 
 abbrev Inv-loop : tie.InvT-loop
 Inv-loop out words r groups sums sum₀ at k₀ sum k = (k ≤ groups / 10) × (length sum ≡ chunk) × ((f : ℕ) → f < chunk → byteAt sum f ≡ lookedUp sums words r (k * 10) f)

@@ -11,8 +11,8 @@ use native.Mathlib.Omega.{arith}
 use Rattle.strings.specs.Sums.{byteAt}
 use Rattle.strings.proofs.Elementwise.{changed, changed-more, changed-at, changed-past}
 use Rattle.chunks.specs.Chunks.{chunk}
-use Rattle.forms_choices.proofs.sums.add_first.Statement.{statement}
-use Rattle.forms_choices.proofs.sums.add_first.Tie as tie
+use Rattle.forms_sums.proofs.sums.add_first.Statement.{statement}
+use Rattle.forms_sums.proofs.sums.add_first.Tie as tie
 
 abbrev change : List ℕ → ℕ → ℕ → ℕ
 change sums k x = bitXor x (byteAt sums k)

@@ -1,8 +1,8 @@
 -- `forms_choices::sums::last_fives` meets its contract.
 -- Assumes nothing.
 use borrow.Author.Needs.{needs}
-use Rattle.forms_choices.proofs.sums.last_fives.Statement.{statement}
-use Rattle.forms_choices.proofs.sums.last_fives.Tie as tie
+use Rattle.forms_sums.proofs.sums.last_fives.Statement.{statement}
+use Rattle.forms_sums.proofs.sums.last_fives.Tie as tie
 
 sub-result : tie.Need-sub-result
 sub-result c = search needs

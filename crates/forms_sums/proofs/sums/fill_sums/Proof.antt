@@ -9,10 +9,10 @@ use native.Mathlib.Omega.{arith}
 use denote.Ref.{now}
 use lib.ListN.{length}
 use Rattle.chunks.specs.Chunks.{chunk, cellAt}
 use Rattle.forms_choices.specs.Entries.{entryByte, Tabled}
-use Rattle.forms_choices.proofs.EntryLaws.{entry-is}
-use Rattle.forms_choices.proofs.sums.fill_sums.Statement.{statement}
-use Rattle.forms_choices.proofs.sums.fill_sums.Tie as tie
+use Rattle.forms_sums.proofs.EntryLaws.{entry-is}
+use Rattle.forms_sums.proofs.sums.fill_sums.Statement.{statement}
+use Rattle.forms_sums.proofs.sums.fill_sums.Tie as tie
 
 -- one group more
 tabled-more : (S old new : List ℕ) (g : ℕ) → Tabled S old (g * 32) → ((v f : ℕ) → v < 32 → f < chunk → cellAt new (g * 32 + v) f ≡ entryByte S (g * 32 + v) f)

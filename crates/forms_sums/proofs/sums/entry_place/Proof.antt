@@ -4,9 +4,9 @@ use borrow.Author.Needs.{needs}
 use mathlib.Core.Path.{refl}
 use native.Mathlib.Nat.{mod-lt}
 use native.Mathlib.Omega.{arith}
 use Rattle.forms_choices.specs.Entries.{five}
-use Rattle.forms_choices.proofs.sums.entry_place.Statement.{statement}
-use Rattle.forms_choices.proofs.sums.entry_place.Tie as tie
+use Rattle.forms_sums.proofs.sums.entry_place.Statement.{statement}
+use Rattle.forms_sums.proofs.sums.entry_place.Tie as tie
 
 mul-result : tie.Need-mul-result
 mul-result c = search needs

@@ -7,10 +7,10 @@ ghost use lib.Bits.{bitXor};
 ghost use Rattle.strings.specs.Sums.{byteAt};
 ghost use Rattle.strings.specs.Rows.{RowsKept};
 ghost use Rattle.chunks.specs.Chunks.{chunk, pair, cellAt};
 ghost use Rattle.forms_choices.specs.Entries.{fives, mostSums, Tabled, five, wordByte, lookedUp, InWords};
-use super::fives::ROW_WORDS;
 use chunks::CHUNK;
 use chunks::subsets::fill_group;
+use forms_choices::fives::ROW_WORDS;
 
 // The rows of a group.
 const FIVE: usize = 5;
