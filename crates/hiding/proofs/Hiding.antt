@@ -9,8 +9,8 @@ use Rattle.protocol.specs.Shape.{Shape, shapeOf}
 use Rattle.hiding.specs.Masks.{OneMask}
 use Rattle.hiding.specs.View.{View, viewOf}
 use Rattle.hiding.specs.Hidden.{HiddenForm, hiddenOf, withHidden}
-use Rattle.hiding.specs.Hiding.{ExactlyOne, Solution, Honest, Keeps, OwnHidden, Gives, FullLeaves, FavoursNone, OneToOne, Corresponding}
-use Rattle.hiding.proofs.FormLaws.{with-exact, with-spare, with-bytes, own-form, given-back}
+use Rattle.hiding.specs.Hiding.{ExactlyOne, Solution, Honest, Keeps, OwnHidden, Gives, FullLeaves, FavoursNone, OneToOne, Corresponding, Common}
+use Rattle.hiding.proofs.FormLaws.{is-replacement, with-exact, with-spare, with-bytes, own-form, given-back}
 use Rattle.hiding.proofs.Choice.{in-tree, hidden-leaves}
 
 module _ (A : Alphabet) (laws : Lawful A) where
@@ -97,3 +97,13 @@ module _ (A : Alphabet) (laws : Lawful A) where
     back-over = back-over one key Δ H′ χ x y sx sy;
     over-back = back-over one key Δ H′ χ y x sy sx;
   }
+
+pub keeps-over : Common
+keeps-over A laws one = record {
+  replacement = λ key. is-replacement A (shapeOf key);
+  hidden-leaves = hidden-leaves A laws one;
+  own-hidden = own-hidden A laws;
+  full-leaves = full-leaves A laws one;
+  favours-none = favours-none A laws one;
+  corresponding = corresponding A laws one;
+}

@@ -2,6 +2,7 @@ pub mod BlockLaws
 pub mod AddLaws
 pub mod BasisLaws
 pub mod MaskLaws
+pub mod FourMasks
 pub mod ShiftLaws
 pub mod SameProofLaws
 pub mod HiddenLaws
@@ -9,5 +10,6 @@ pub mod KeepLaws
 pub mod FormLaws
 pub mod Choice
 pub mod Hiding
+pub mod Alphabets
 pub mod Settings
 pub mod SmallHiding

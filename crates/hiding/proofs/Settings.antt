@@ -15,9 +15,7 @@ use Rattle.hiding.specs.Hidden.{HiddenForm, withHidden}
 use Rattle.hiding.specs.Hiding.{Solution, Honest, Gives}
 use Rattle.hiding.specs.Settings.{HonestIn, GivesIn, HiddenLeavesIn, FullLeavesIn, KeepsWitness}
 use Rattle.hiding.proofs.MaskLaws.{mask-of}
-use Rattle.hiding.proofs.FormLaws.{is-replacement}
-use Rattle.hiding.proofs.Choice.{hidden-leaves}
-use Rattle.hiding.proofs.Hiding.{own-hidden, with-honest, full-leaves, favours-none, corresponding}
+use Rattle.hiding.proofs.Hiding.{with-honest, keeps-over}
 
 module _ (g : Setting) where
   abbrev A : Alphabet
@@ -62,23 +60,18 @@ module _ (g : Setting) where
       is-taken key leaves x Δ H′ χ (withHidden A (shapeOf key) leaves Δ hidden) x′ h (with-honest A laws key leaves x Δ hidden x′ (is-honest key leaves x Δ H′ χ h) f sol)
 
   hidden-leaves-in : HiddenLeavesIn g
-  hidden-leaves-in key leaves x Δ H′ χ x′ h sol = hidden-leaves A laws one key leaves x Δ H′ χ x′ (is-honest key leaves x Δ H′ χ h) sol
+  hidden-leaves-in key leaves x Δ H′ χ x′ h sol = keeps-over A laws one .hidden-leaves key leaves x Δ H′ χ x′ (is-honest key leaves x Δ H′ χ h) sol
 
   full-leaves-in : FullLeavesIn g
   full-leaves-in key leaves x Δ H′ χ x′ h b sol =
-      let only = full-leaves A laws one key leaves x Δ H′ χ x′ (is-honest key leaves x Δ H′ χ h) b sol in
+      let only = keeps-over A laws one .full-leaves key leaves x Δ H′ χ x′ (is-honest key leaves x Δ H′ χ h) b sol in
       let plain : (l : List ℕ) → GivesIn g key x′ (viewOf A key leaves x Δ H′ χ) l → Gives A key x′ (viewOf A key leaves x Δ H′ χ) l =
       λ l f. (is-honest key l x′ Δ H′ χ (f .0), f .1, f .2) in
       ((only .0 .0, (is-taken key leaves x Δ H′ χ (only .0 .0) x′ h (only .0 .1 .0), only .0 .1 .1, only .0 .1 .2)), λ a c fa fc. only .1 a c (plain a fa) (plain c fc))
 
   pub keeps-witness : KeepsWitness g
   keeps-witness = record {
-    replacement = λ key. is-replacement A (shapeOf key);
-    hidden-leaves = hidden-leaves A laws one;
-    own-hidden = own-hidden A laws;
-    full-leaves = full-leaves A laws one;
-    favours-none = favours-none A laws one;
-    corresponding = corresponding A laws one;
+    over = keeps-over A laws one;
     hidden-leaves-in = hidden-leaves-in;
     full-leaves-in = full-leaves-in;
   }

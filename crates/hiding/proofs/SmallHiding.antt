@@ -118,8 +118,8 @@ small-applied = record {
   honest₀ = honest-at Δ₀ challenge₀;
   keeps-view = here;
   keeps-view₀ = here₀;
-  only = λ h k. keeps-witness four .hidden-leaves key leaves witness Δ H′ χ other (honest-at Δ challenge) other-solution .1 h hidden k here;
-  only₀ = λ h k. keeps-witness four .hidden-leaves key leaves witness Δ₀ H′ χ other (honest-at Δ₀ challenge₀) other-solution .1 h hidden₀ k here₀;
+  only = λ h k. keeps-witness four .over .hidden-leaves key leaves witness Δ H′ χ other (honest-at Δ challenge) other-solution .1 h hidden k here;
+  only₀ = λ h k. keeps-witness four .over .hidden-leaves key leaves witness Δ₀ H′ χ other (honest-at Δ₀ challenge₀) other-solution .1 h hidden₀ k here₀;
 }
   where
     here : keeps Δ hidden

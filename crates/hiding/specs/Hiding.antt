@@ -7,6 +7,7 @@
 --     is asked
 --   Keeps key leaves x Δ H′ χ x′ hidden == with x′ and these hidden leaves the view is that of x and its own leaves
 --   Gives key x w leaves == with x these full leaves give the view w
+--   KeepsOver A == all that is shown over the alphabet A;  Common == it is shown of each that is lawful and has OneMask
 -- `HiddenLeaves` speaks of the hidden leaves, `FullLeaves` of full leaves without saying how they are put together.
 -- Each holds at every Δ, 0 included.
 -- Assumes nothing.
@@ -15,11 +16,12 @@ use mathlib.Core.Bool.{true}
 use mathlib.Core.List.{List}
 use Prim.Native.Nat.{ℕ}
 use Rattle.protocol.specs.Strings.{bytes}
-use Rattle.protocol.specs.Alphabet.{Alphabet, elementsIn}
+use Rattle.protocol.specs.Alphabet.{Alphabet, elementsIn, Lawful}
 use Rattle.protocol.specs.Shape.{shapeOf, limits, perTree}
 use Rattle.protocol.specs.Questions.{ΔExact, leavesExact, leavesSpare, witnessForm, solves}
 use Rattle.hiding.specs.View.{View, viewOf}
-use Rattle.hiding.specs.Hidden.{HiddenForm, hiddenOf, withHidden}
+use Rattle.hiding.specs.Hidden.{HiddenForm, hiddenOf, withHidden, IsReplacement}
+use Rattle.hiding.specs.Masks.{OneMask}
 
 abbrev pub ExactlyOne : {X : Type 0} → (X → Type 0) → Type 0
 ExactlyOne {X} P = ((x : X) × P x) × ((x y : X) → P x → P y → x ≡ y)
@@ -78,3 +80,14 @@ module _ (A : Alphabet) where
 
   abbrev pub Corresponding : Type 0
   Corresponding = (key Δ H′ χ x x′ : List ℕ) → Solution key x → Solution key x′ → OneToOne key Δ H′ χ x x′
+
+  pub record KeepsOver : Type 0 where
+    pub replacement : (key : List ℕ) → IsReplacement A (shapeOf key)
+    pub hidden-leaves : HiddenLeaves
+    pub own-hidden : OwnHidden
+    pub full-leaves : FullLeaves
+    pub favours-none : FavoursNone
+    pub corresponding : Corresponding
+
+abbrev pub Common : Type 1
+Common = (A : Alphabet) → Lawful A → OneMask A → KeepsOver A

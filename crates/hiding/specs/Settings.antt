@@ -16,8 +16,7 @@ use Rattle.protocol.specs.Shape.{shapeOf}
 use Rattle.protocol.specs.Questions.{solves}
 use Rattle.protocol.specs.Calls.{honestForm}
 use Rattle.hiding.specs.View.{View, viewOf}
-use Rattle.hiding.specs.Hidden.{IsReplacement}
-use Rattle.hiding.specs.Hiding.{ExactlyOne, Solution, Challenge, Keeps, HiddenLeaves, OwnHidden, FullLeaves, FavoursNone, Corresponding}
+use Rattle.hiding.specs.Hiding.{ExactlyOne, Solution, Challenge, Keeps, KeepsOver}
 
 module _ (g : Setting) where
   abbrev pub A : Alphabet
@@ -38,11 +37,6 @@ module _ (g : Setting) where
   FullLeavesIn = (key leaves x Δ H′ χ x′ : List ℕ) → HonestIn key leaves x Δ H′ χ → bytes leaves → Solution A key x′ → ExactlyOne (GivesIn key x′ (viewOf A key leaves x Δ H′ χ))
 
   pub record KeepsWitness : Type 0 where
-    pub replacement : (key : List ℕ) → IsReplacement A (shapeOf key)
-    pub hidden-leaves : HiddenLeaves A
-    pub own-hidden : OwnHidden A
-    pub full-leaves : FullLeaves A
-    pub favours-none : FavoursNone A
-    pub corresponding : Corresponding A
+    pub over : KeepsOver A
     pub hidden-leaves-in : HiddenLeavesIn
     pub full-leaves-in : FullLeavesIn

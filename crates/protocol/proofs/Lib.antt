@@ -3,6 +3,7 @@ pub mod MaskPlaces
 pub mod QuestionNumbers
 pub mod SmallExample
 pub mod ThreeRepetitions
+pub mod Symbols
 pub mod Edges
 pub mod CheckEdges
 pub mod Agreement

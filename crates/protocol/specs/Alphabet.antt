@@ -8,7 +8,7 @@
 --   sym A s c == coordinate c of s as an element;  elemAt A s i == byte i of s as an element
 --   elementsIn A s == each byte of s writes an element of the field: it is below the field's size
 -- Equations are written with sym and elemAt only. `Lawful` is what the theorems use of an alphabet;
--- for bits it is proved.
+-- for bits it is proved, and for the four symbols of request 11.
 -- Assumes nothing.
 use mathlib.Core.Path.{_≡_}
 use mathlib.Core.Bool.{Bool, true}

@@ -4,6 +4,7 @@ pub mod Frames
 pub mod Reader
 pub mod Alphabet
 pub mod Binary
+pub mod Quaternary
 pub mod Setting
 pub mod Shape
 pub mod MaskPlaces
@@ -23,5 +24,6 @@ pub mod SmallExample
 pub mod ThreeRepetitions
 pub mod QuestionNumbers
 pub mod PracticeKey
+pub mod Symbols
 pub mod Edges
 pub mod CheckEdges

@@ -8,7 +8,7 @@
 --     from n on (request 4; in 01 one mask serves all)
 --   kOf == k = n + rτ, r mask coordinates for each repetition: the coordinates that H′ covers
 --   lOf == L = k + t, all coordinates
---   wOf == w = ⌈L/8⌉, the bytes of a leaf
+--   wOf == w, the bytes of a leaf: ⌈L/8⌉ for bits, ⌈L/4⌉ for four symbols
 --   perTree == the leaves of a tree, as many as the field has elements;  perOpened == those of an opened tree, one
 --     fewer
 -- Assumes nothing.

@@ -120,9 +120,9 @@ module _ (g : Setting) where
     pub demand-3 : Demand3 g key leaves H′ χ proof
     demand-3 = record {
       count-equals-product = λ h. forgery-count g key leaves H′ χ proof h .count-is-product;
-      each-factor = λ h. forgery-count g key leaves H′ χ proof h .four-cases;
+      each-factor = λ h. forgery-count g key leaves H′ χ proof h .factors .four-cases;
       large-count-needs-full = λ h. forgery-count g key leaves H′ χ proof h .large-count;
-      full-spells-candidate = λ h. forgery-count g key leaves H′ χ proof h .full-error;
+      full-spells-candidate = λ h. forgery-count g key leaves H′ χ proof h .factors .full-error;
       other-bytes-refused = λ h Δ opened n b. other-bytes g key leaves H′ χ proof h Δ opened n b;
       every-challenge-once = λ Δ n b. numbers-once (A .K) (shapeOf key .τ) Δ n (λ e l. element-lt A Δ b e);
       challenges-in-all = strings-length (A .K .base) (shapeOf key .τ);

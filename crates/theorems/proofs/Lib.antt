@@ -3,6 +3,7 @@ pub mod ListLaws
 pub mod StringLaws
 pub mod FrameLaws
 pub mod BinaryLaws
+pub mod QuaternaryLaws
 pub mod LeafLaws
 pub mod VoleLaws
 pub mod FormLaws

@@ -22,6 +22,8 @@ use Rattle.algebra.proofs.ColumnLaws.{columns-fail, columns-all}
 use Rattle.protocol.specs.Lists.{allBelow, allTrue}
 use Rattle.protocol.specs.Frames.{frame}
 use Rattle.protocol.specs.Alphabet.{Alphabet, sym as symbol, elementsIn, IsSymbol, Lawful}
+use Rattle.protocol.specs.Binary.{binary}
+use Rattle.protocol.specs.Quaternary.{fours256}
 use Rattle.protocol.specs.Setting.{Setting, alphabetOf}
 use Rattle.protocol.specs.Shape.{Shape, shapeOf, limits, perTree, perOpened, wOf}
 use Rattle.protocol.specs.Sections.{Sections, bytesOf, sectionsIn}
@@ -34,7 +36,7 @@ use Rattle.protocol.specs.Questions.{ΔExact, hExact, χExact, solves, witnessF
 use Rattle.protocol.specs.Calls.{testQuestions, commitQuestions, batchQuestions, proveQuestions, verifyQuestions, honestQuestions, wellFormedQuestions, keyQuestions, verifyPuts, testAnswer, commitAnswer, batchAnswer, proveAnswer, verifyAnswer, honestForm, verifyForm, wellFormed}
 use Rattle.protocol.specs.Counting.{opening, acceptedCount, checksAt, factor, candidateBytes}
 use Rattle.protocol.specs.Coefficients.{conditions}
-use Rattle.theorems.specs.Statements.{OpenedByPlace, OpenedForm, VoleIdentity, Expansion, ProverExpansion, HonestAccepted, HonestWellFormed, AcceptsExactly, FirstNamed, StepsAreWhole, ProofReadsBack, CandidateIsWitness, ForgeryCount, HidingColumns, errorOf, factorOf}
+use Rattle.theorems.specs.Statements.{OpenedByPlace, OpenedForm, VoleIdentity, Expansion, ProverExpansion, HonestAccepted, HonestWellFormed, AcceptsExactly, FirstNamed, StepsAreWhole, ProofReadsBack, CandidateIsWitness, HonestChecks, Factors, HidingColumns, HoldsOver, EveryAlphabet, ForgeryCount, errorOf}
 use Rattle.theorems.proofs.TestLaws.{both-true, all-at, all-of, all-true, true-all, eqb-same, passes-all}
 use Rattle.theorems.proofs.FrameLaws.{frame-append}
 use Rattle.theorems.proofs.LeafLaws.{open-place}
@@ -47,6 +49,7 @@ use Rattle.theorems.proofs.Published.{names-eleven}
 use Rattle.theorems.proofs.CountingLaws.{Form, form-of, leaves-length, opened-exact, opened-spare, tree-is, splits, count-product}
 use Rattle.theorems.proofs.LimitLaws.{bounds-of}
 use Rattle.theorems.proofs.BinaryLaws.{binary-lawful}
+use Rattle.theorems.proofs.QuaternaryLaws.{fours256-lawful}
 use Rattle.theorems.proofs.ElementLaws.{honest-elements as proof-elements}
 use Rattle.theorems.proofs.SymbolLaws.{sym-symbol, pack-sym, u-symbol}
 use Rattle.theorems.proofs.HonestLaws.{passing-all, exact, sections-back, spare}
@@ -103,6 +106,16 @@ module _ (A : Alphabet) where
     unfolding factor
     factor-is e le = count-congr _ _ (checks-passing A (shapeOf key) key leaves H′ χ (sectionsIn A (shapeOf key) proof) e (leaves-length A (shapeOf key) leaves k7) le) elements
 
+    pub factors-of : Factors A key leaves H′ χ proof
+    factors-of = record {
+      four-cases = λ e l. rw (factor-is e l) (factor-values base (conditions A (shapeOf key) key leaves H′ χ (sectionsIn A (shapeOf key) proof) e));
+      full-exactly = full;
+      full-error = λ e l k. full e l .0 k .c2-zero;
+    }
+      where
+        full : (e : ℕ) → e < shapeOf key .τ → (factor A key leaves H′ χ proof e ≡ size) ↔ Trivial base (conditions A (shapeOf key) key leaves H′ χ (sectionsIn A (shapeOf key) proof) e)
+        full e l = rw (factor-is e l) (factor-iff base (conditions A (shapeOf key) key leaves H′ χ (sectionsIn A (shapeOf key) proof) e))
+
   pub hiding-columns : (key leaves proof : List ℕ) → HidingColumns A key leaves proof
   hiding-columns key leaves proof = record {
     failing = λ e i l n. columns-fail base (shapeOf key .m) (errorOf A key leaves proof e) i l n;
@@ -135,6 +148,32 @@ module _ (A : Alphabet) where
           both-true _ _ (eqb-same _ _ (laws .pack-length (s .n) _)) (laws .pack-spare (s .n) _ (λ c. laws .symbol-lt (x c))),
           λ i. ap (λ z. z ⊕ yOf A s key i) (ap₂ _⊕_ (quad-congr A s key i y x y x same same) (lin-congr A s key i y x same)),
         )
+
+    pub honest-checks : HonestChecks A
+    unfolding proofOf
+    honest-checks key leaves x H′ χ k7 solved e l y =
+        let s = shapeOf key in
+        ap (λ p. checksAt A key leaves H′ χ s p e (byte y)) (sections-back A laws s leaves key x H′ χ)
+        ∙ checks-passing A s key leaves H′ χ (sectionsOf A s leaves key x H′ χ) e (leaves-length A s leaves k7) l y
+        ∙ passing-all A laws s leaves key x H′ χ e l solved y
+
+    holds-over : HoldsOver A
+    holds-over = record {
+      opened-by-place = opened-by-place;
+      opened-form = opened-form;
+      vole-identity = vole-identity;
+      expansion = expansion;
+      prover-expansion = prover-expansion;
+      steps-are-whole = steps-are-whole;
+      proof-reads-back = proof-reads-back;
+      candidate-is-witness = candidate-is-witness;
+      hiding-columns = hiding-columns;
+      honest-checks = honest-checks;
+      factors = factors-of;
+    }
+
+pub every-alphabet : EveryAlphabet
+every-alphabet = record { lawful = holds-over; bits = λ K. holds-over (binary K) (binary-lawful K); fours = holds-over fours256 fours256-lawful }
 
 -- of the calls
 module _ (g : Setting) where
@@ -197,9 +236,7 @@ module _ (g : Setting) where
 
   pub forgery-count : (key leaves H′ χ proof : List ℕ) → wellFormed g key leaves H′ χ proof ≡ true → ForgeryCount g key leaves H′ χ proof
   forgery-count key leaves H′ χ proof h = record {
-    four-cases = four;
-    full-exactly = full;
-    full-error = λ e l k. full e l .0 k .c2-zero;
+    factors = factors-of A key leaves H′ χ proof (form .k7);
     count-is-product = count-product g key leaves H′ χ proof form;
     large-count = large;
   }
@@ -209,12 +246,6 @@ module _ (g : Setting) where
 
       f : ℕ → ℕ
       f = factor A key leaves H′ χ proof
-
-      four : (e : ℕ) → e < shapeOf key .τ → (f e ≡ 0) ⊎ ((f e ≡ 1) ⊎ ((f e ≡ 2) ⊎ (f e ≡ size)))
-      four e l = rw (factor-is A key leaves H′ χ proof (form .k7) e l) (factor-values base (conditions A (shapeOf key) key leaves H′ χ (sectionsIn A (shapeOf key) proof) e))
-
-      full : (e : ℕ) → e < shapeOf key .τ → (f e ≡ size) ↔ Trivial base (conditions A (shapeOf key) key leaves H′ χ (sectionsIn A (shapeOf key) proof) e)
-      full e l = rw (factor-is A key leaves H′ χ proof (form .k7) e l) (factor-iff base (conditions A (shapeOf key) key leaves H′ χ (sectionsIn A (shapeOf key) proof) e))
 
       large : 2 ^ (shapeOf key .τ) < acceptedCount g key leaves H′ χ proof → (e : ℕ) × (e < shapeOf key .τ) × (f e ≡ size)
       large k = finish (above (shapeOf key .τ) f (λ e. e < shapeOf key .τ → f e ≡ size) cases (rw (count-product g key leaves H′ χ proof form) at k))
@@ -226,7 +257,7 @@ module _ (g : Setting) where
           pick e (inr (inr (inr z))) = inl (λ l. z)
 
           by : (e : ℕ) → Dec (e < shapeOf key .τ) → (e < shapeOf key .τ → f e ≡ size) ⊎ (f e ≤ 2)
-          by e (yes l) = pick e (four e l)
+          by e (yes l) = pick e (factors-of A key leaves H′ χ proof (form .k7) .four-cases e l)
           by e (no n) = inl (λ l. absurd (n l))
 
           cases : (e : ℕ) → (e < shapeOf key .τ → f e ≡ size) ⊎ (f e ≤ 2)
@@ -270,9 +301,7 @@ module _ (g : Setting) where
       let form = form-of g key leaves H′ χ (bytesOf P) (honest-well-formed key leaves x H′ χ h) in
       accepted-of _
       (splits g key leaves H′ χ (bytesOf P) form Δ n ∙ passes-all (λ e y. checksAt A key leaves H′ χ s (sectionsIn A s (bytesOf P)) e (byte y)) Δ 𝟘
-      ∙ all-of (length Δ) _ (λ e l. ap (λ p. checksAt A key leaves H′ χ s p e (byte (getD Δ e 𝟘))) (sections-back A laws s leaves key x H′ χ)
-      ∙ checks-passing A s key leaves H′ χ P e (leaves-length A s leaves (form .k7)) (omega (arith, l, n)) (getD Δ e 𝟘)
-      ∙ passing-all A laws s leaves key x H′ χ e (omega (arith, l, n)) solved (getD Δ e 𝟘)))
+      ∙ all-of (length Δ) _ (λ e l. honest-checks A laws key leaves x H′ χ (form .k7) solved e (omega (arith, l, n)) (getD Δ e 𝟘)))
 
   bytes-back : (Δ : List ℕ) → ((e : ℕ) → e < length Δ → getD Δ e 0 < size) → map byte (map elem Δ) ≡ Δ
   bytes-back [] h = refl

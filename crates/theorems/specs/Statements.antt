@@ -15,7 +15,9 @@ use Rattle.algebra.specs.Count.{product}
 use Rattle.algebra.specs.Roots.{Trivial}
 use Rattle.algebra.specs.Columns.{zeroColumns}
 use Rattle.protocol.specs.Frames.{framed}
-use Rattle.protocol.specs.Alphabet.{Alphabet, sym}
+use Rattle.protocol.specs.Alphabet.{Alphabet, sym, Lawful}
+use Rattle.protocol.specs.Binary.{binary}
+use Rattle.protocol.specs.Quaternary.{fours256}
 use Rattle.protocol.specs.Setting.{Setting, alphabetOf}
 use Rattle.protocol.specs.Shape.{Shape, shapeOf, limits, perTree, perOpened, wOf}
 use Rattle.protocol.specs.Sections.{Sections, lengths, sectionsIn}
@@ -26,7 +28,7 @@ use Rattle.protocol.specs.Verifier.{W, correctionAt, candidate, batchedError}
 use Rattle.protocol.specs.Answers.{Answer, accepted, refused, Question, ask, allYes, word, Published}
 use Rattle.protocol.specs.Questions.{fails, witnessForm, treeOf, leavesExact, leavesSpare, consistentIn, productIn}
 use Rattle.protocol.specs.Calls.{testAnswer, commitAnswer, hashAnswer, batchAnswer, proveAnswer, verifyAnswer, testForm, commitForm, batchForm, proveForm, honestForm, verifyForm, wellFormed}
-use Rattle.protocol.specs.Counting.{opening, candidateBytes, acceptedCount, factor}
+use Rattle.protocol.specs.Counting.{opening, candidateBytes, acceptedCount, checksAt, factor}
 use Rattle.protocol.specs.Coefficients.{conditions}
 
 -- A refusal is that of a question which gets a no after all before it got a yes.
@@ -53,7 +55,7 @@ FirstFailing n holds i = (i < n) × (holds i ≡ false) × ((j : ℕ) → j < i 
 
 module _ (A : Alphabet) where
   open Alphabet A using (K)
-  open Coded K using (base, elem)
+  open Coded K using (base, elem, byte)
   open Field base using (R, size)
   open Ring R using (F, 𝟘, add as _⊕_, mul as _⊗_)
 
@@ -124,6 +126,42 @@ module _ (A : Alphabet) where
       pub failing : (e i : ℕ) → i < shapeOf key .m → errorOf e i ≢ 𝟘 → zeroColumns base (shapeOf key .m) (errorOf e) ≡ size ^ (shapeOf key .m - 1)
       pub solving : (e : ℕ) → ((i : ℕ) → i < shapeOf key .m → errorOf e i ≡ 𝟘) → zeroColumns base (shapeOf key .m) (errorOf e) ≡ size ^ (shapeOf key .m)
 
+  -- Of an honest proof both checks hold in every repetition, at every challenge.
+  abbrev pub HonestChecks : Type 0
+  HonestChecks = (key leaves x H′ χ : List ℕ) → leavesExact A (shapeOf key) (perTree A) leaves ≡ true → ((i : ℕ) → i < shapeOf key .m → error A (shapeOf key) key i (sym A x) ≡ 𝟘)
+      → (e : ℕ) → e < shapeOf key .τ → (y : F) → checksAt A key leaves H′ χ (shapeOf key) (sectionsIn A (shapeOf key) (proofOf A key leaves x H′ χ)) e (byte y) ≡ true
+
+  module _ (key leaves H′ χ proof : List ℕ) where
+    abbrev pub factorOf : ℕ → ℕ
+    factorOf e = factor A key leaves H′ χ proof e
+
+    -- The factors, of leaves of exact length.
+    pub record Factors : Type 0 where
+      pub four-cases : (e : ℕ) → e < shapeOf key .τ → (factorOf e ≡ 0) ⊎ ((factorOf e ≡ 1) ⊎ ((factorOf e ≡ 2) ⊎ (factorOf e ≡ size)))
+      pub full-exactly : (e : ℕ) → e < shapeOf key .τ → (factorOf e ≡ size) ↔ Trivial base (conditions A (shapeOf key) key leaves H′ χ (sectionsIn A (shapeOf key) proof) e)
+      pub full-error : (e : ℕ) → e < shapeOf key .τ → factorOf e ≡ size → batchedError A (shapeOf key) key χ leaves (sectionsIn A (shapeOf key) proof) e ≡ 𝟘
+
+  -- All of these.
+  pub record HoldsOver : Type 0 where
+    pub opened-by-place : OpenedByPlace
+    pub opened-form : OpenedForm
+    pub vole-identity : VoleIdentity
+    pub expansion : Expansion
+    pub prover-expansion : ProverExpansion
+    pub steps-are-whole : StepsAreWhole
+    pub proof-reads-back : ProofReadsBack
+    pub candidate-is-witness : (key leaves proof : List ℕ) → CandidateIsWitness key leaves proof
+    pub hiding-columns : (key leaves proof : List ℕ) → HidingColumns key leaves proof
+    pub honest-checks : HonestChecks
+    pub factors : (key leaves H′ χ proof : List ℕ) → leavesExact A (shapeOf key) (perTree A) leaves ≡ true → Factors key leaves H′ χ proof
+
+-- They hold over any lawful alphabet, and so over both that there are: bits, over every field, and the four symbols of
+-- request 11.
+pub record EveryAlphabet : Type 1 where
+  pub lawful : (A : Alphabet) → Lawful A → HoldsOver A
+  pub bits : (K : Coded) → HoldsOver (binary K)
+  pub fours : HoldsOver fours256
+
 -- Of the calls, in every setting.
 module _ (g : Setting) where
   abbrev pub A : Alphabet
@@ -178,14 +216,8 @@ module _ (g : Setting) where
   abbrev pub HonestWellFormed : Type 0
   HonestWellFormed = (key leaves x H′ χ : List ℕ) → honestForm g key leaves x H′ χ ≡ true → wellFormed g key leaves H′ χ (proofOf A key leaves x H′ χ) ≡ true
 
-  module _ (key leaves H′ χ proof : List ℕ) where
-    abbrev pub factorOf : ℕ → ℕ
-    factorOf e = factor A key leaves H′ χ proof e
-
-    -- The forgery count, of what is well-formed.
-    pub record ForgeryCount : Type 0 where
-      pub four-cases : (e : ℕ) → e < shapeOf key .τ → (factorOf e ≡ 0) ⊎ ((factorOf e ≡ 1) ⊎ ((factorOf e ≡ 2) ⊎ (factorOf e ≡ size)))
-      pub full-exactly : (e : ℕ) → e < shapeOf key .τ → (factorOf e ≡ size) ↔ Trivial base (conditions A (shapeOf key) key leaves H′ χ (sectionsIn A (shapeOf key) proof) e)
-      pub full-error : (e : ℕ) → e < shapeOf key .τ → factorOf e ≡ size → batchedError A (shapeOf key) key χ leaves (sectionsIn A (shapeOf key) proof) e ≡ 𝟘
-      pub count-is-product : acceptedCount g key leaves H′ χ proof ≡ product (shapeOf key .τ) factorOf
-      pub large-count : 2 ^ (shapeOf key .τ) < acceptedCount g key leaves H′ χ proof → (e : ℕ) × (e < shapeOf key .τ) × (factorOf e ≡ size)
+  -- The forgery count, of what is well-formed.
+  pub record ForgeryCount (key leaves H′ χ proof : List ℕ) : Type 0 where
+    pub factors : Factors A key leaves H′ χ proof
+    pub count-is-product : acceptedCount g key leaves H′ χ proof ≡ product (shapeOf key .τ) (factorOf A key leaves H′ χ proof)
+    pub large-count : 2 ^ (shapeOf key .τ) < acceptedCount g key leaves H′ χ proof → (e : ℕ) × (e < shapeOf key .τ) × (factorOf A key leaves H′ χ proof e ≡ size)
