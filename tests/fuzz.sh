@@ -47,15 +47,18 @@ started=$work/cases
 rm -rf "$seeds" "$started" "$work/new"
 mkdir "$seeds" "$started" "$work/new"
 cargo build --quiet --release --offline -j1 --manifest-path tests/shapes/Cargo.toml --target-dir "$work/shapes"
-cases=$("$work/shapes/release/shapes" | wc -l)
+# Those of alphabet 2, which alone the library serves until request 11.
+shapes=$work/shapes.txt
+"$work/shapes/release/shapes" | grep ' 2$' >"$shapes"
+cases=$(wc -l <"$shapes")
 # Those of degree 8 come first: this is the number of the first case of degree 4.
-four=$("$work/shapes/release/shapes" | grep -c ' 8$')
+four=$(grep -c ' 8 2$' "$shapes")
 if [ "$four" -lt 2 ] || [ "$cases" -lt $((four + 2)) ]; then
     echo "no shapes" >&2
     exit 1
 fi
 # The case of the small sizes with no equations, at each degree.
-none=$("$work/shapes/release/shapes" | grep -n '^9 0 2 5 [84]$' | cut -d: -f1)
+none=$(grep -n '^9 0 2 5 [84] 2$' "$shapes" | cut -d: -f1)
 [ "$(echo "$none" | wc -w)" = 2 ] || { echo "no shapes with no equations" >&2 && exit 1; }
 # seed NAME HEX...: a file of these bytes.
 seed() {

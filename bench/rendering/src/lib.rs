@@ -5,6 +5,9 @@
 use reference::word;
 use std::slice::{from_raw_parts, from_raw_parts_mut};
 
+/// The library's one alphabet until it serves request 11.
+const ALPHABET: u32 = 2;
+
 /// # Safety
 /// See above.
 #[no_mangle]
@@ -18,6 +21,7 @@ pub unsafe extern "C" fn rendering_test(
     word(reference::test(
         from_raw_parts(key, key_len),
         degree,
+        ALPHABET,
         from_raw_parts(witness, witness_len),
     ))
 }
@@ -39,6 +43,7 @@ pub unsafe extern "C" fn rendering_commit(
     word(reference::commit(
         from_raw_parts(key, key_len),
         degree,
+        ALPHABET,
         from_raw_parts(leaves, leaves_len),
         from_raw_parts(witness, witness_len),
         from_raw_parts_mut(out, out_len),
@@ -62,6 +67,7 @@ pub unsafe extern "C" fn rendering_hash(
     word(reference::hash(
         from_raw_parts(key, key_len),
         degree,
+        ALPHABET,
         from_raw_parts(leaves, leaves_len),
         from_raw_parts(hash_matrix, hash_matrix_len),
         from_raw_parts_mut(out, out_len),
@@ -87,6 +93,7 @@ pub unsafe extern "C" fn rendering_batch(
     word(reference::batch(
         from_raw_parts(key, key_len),
         degree,
+        ALPHABET,
         from_raw_parts(leaves, leaves_len),
         from_raw_parts(witness, witness_len),
         from_raw_parts(batching, batching_len),
@@ -115,6 +122,7 @@ pub unsafe extern "C" fn rendering_prove(
     word(reference::prove(
         from_raw_parts(key, key_len),
         degree,
+        ALPHABET,
         from_raw_parts(leaves, leaves_len),
         from_raw_parts(witness, witness_len),
         from_raw_parts(hash_matrix, hash_matrix_len),
@@ -144,6 +152,7 @@ pub unsafe extern "C" fn rendering_verify(
     word(reference::verify(
         from_raw_parts(key, key_len),
         degree,
+        ALPHABET,
         from_raw_parts(delta, delta_len),
         from_raw_parts(hash_matrix, hash_matrix_len),
         from_raw_parts(batching, batching_len),

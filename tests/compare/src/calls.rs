@@ -6,6 +6,9 @@ use crate::inputs::{section_start, Name};
 use reference::key::Shape;
 use reference::Answer;
 
+/// The library's one alphabet until it serves request 11.
+pub const ALPHABET: u32 = 2;
+
 /// An input as C lends it.
 #[derive(Clone, Copy, Debug)]
 pub struct Lent {
@@ -142,7 +145,7 @@ pub const TEST: Call = Call {
     writes: Writes::Nothing,
     answers: &[0, 1, 2, 3, 4, 9, 11, 16],
     library: |i, d, _| unsafe { mq_test(i[0].at, i[0].len, d, i[1].at, i[1].len) },
-    rendering: |i, d, _| reference::test(i[0], d, i[1]),
+    rendering: |i, d, _| reference::test(i[0], d, ALPHABET, i[1]),
 };
 
 pub const COMMIT: Call = Call {
@@ -155,7 +158,7 @@ pub const COMMIT: Call = Call {
             i[0].at, i[0].len, d, i[1].at, i[1].len, i[2].at, i[2].len, o.at, o.len,
         )
     },
-    rendering: |i, d, out| reference::commit(i[0], d, i[1], i[2], out),
+    rendering: |i, d, out| reference::commit(i[0], d, ALPHABET, i[1], i[2], out),
 };
 
 pub const HASH: Call = Call {
@@ -168,7 +171,7 @@ pub const HASH: Call = Call {
             i[0].at, i[0].len, d, i[1].at, i[1].len, i[2].at, i[2].len, o.at, o.len,
         )
     },
-    rendering: |i, d, out| reference::hash(i[0], d, i[1], i[2], out),
+    rendering: |i, d, out| reference::hash(i[0], d, ALPHABET, i[1], i[2], out),
 };
 
 pub const BATCH: Call = Call {
@@ -182,7 +185,7 @@ pub const BATCH: Call = Call {
             o.len,
         )
     },
-    rendering: |i, d, out| reference::batch(i[0], d, i[1], i[2], i[3], out),
+    rendering: |i, d, out| reference::batch(i[0], d, ALPHABET, i[1], i[2], i[3], out),
 };
 
 pub const PROVE: Call = Call {
@@ -202,7 +205,7 @@ pub const PROVE: Call = Call {
             i[4].len, o.at, o.len,
         )
     },
-    rendering: |i, d, out| reference::prove(i[0], d, i[1], i[2], i[3], i[4], out),
+    rendering: |i, d, out| reference::prove(i[0], d, ALPHABET, i[1], i[2], i[3], i[4], out),
 };
 
 pub const VERIFY: Call = Call {
@@ -223,7 +226,7 @@ pub const VERIFY: Call = Call {
             i[4].len, i[5].at, i[5].len,
         )
     },
-    rendering: |i, d, _| reference::verify(i[0], d, i[1], i[2], i[3], i[4], i[5]),
+    rendering: |i, d, _| reference::verify(i[0], d, ALPHABET, i[1], i[2], i[3], i[4], i[5]),
 };
 
 impl Call {

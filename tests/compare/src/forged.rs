@@ -237,7 +237,8 @@ pub fn flip_unseen(inputs: &mut Inputs, e: usize, c: usize) {
 fn passing_sets(inputs: &Inputs) -> Vec<Vec<u8>> {
     let shape = inputs.shape;
     let bytes = inputs.get(Name::Key);
-    let key = key_sections(header(shape.field, bytes), bytes).expect("a key of the right form");
+    let key = key_sections(header(shape.field, shape.symbols, bytes), bytes)
+        .expect("a key of the right form");
     let proof = proof_sections(&shape, inputs.get(Name::Proof)).expect("a proof of the right form");
     let (h, chi, leaves) = (
         inputs.get(Name::HashMatrix),

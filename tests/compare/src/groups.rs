@@ -1,7 +1,7 @@
 //! Groups of cases. Each group has its own random numbers, made from the run's seed and the group's number, so
 //! that it can be run alone.
 
-use crate::calls::{Call, Writes, CALLS, PROVE, STEPS, TEST, VERIFY};
+use crate::calls::{Call, Writes, ALPHABET, CALLS, PROVE, STEPS, TEST, VERIFY};
 use crate::damage::{all, layout_agrees, Damage};
 use crate::inputs::{section_start, Inputs, Name, Output};
 use crate::judge::{describe, Expected, Judge};
@@ -107,7 +107,7 @@ pub fn fixed() -> Vec<Group> {
 
 /// The same at a degree.
 fn at(degree: u32) -> Vec<Group> {
-    let at = |(n, m, tau, t): Four| (n, m, tau, t, degree);
+    let at = |(n, m, tau, t): Four| (n, m, tau, t, degree, ALPHABET);
     let mut groups = Vec::new();
     for which in 0..4 {
         let limit = shapes::LIMITS[which];
@@ -126,10 +126,18 @@ fn at(degree: u32) -> Vec<Group> {
     groups.extend(REPEATED.map(at).map(Group::Repetitions));
     groups.extend(FAILING.map(at).map(Group::Equations));
     groups.extend(EDITED.map(at).map(Group::Edits));
-    let none = shapes::no_equations(degree);
+    let none = shapes::no_equations(degree, ALPHABET);
     groups.extend(none.map(Group::NoEquations));
-    groups.extend(shapes::single(degree).into_iter().map(Group::Shape));
-    groups.extend(shapes::joint(degree).into_iter().map(Group::Kernels));
+    groups.extend(
+        shapes::single(degree, ALPHABET)
+            .into_iter()
+            .map(Group::Shape),
+    );
+    groups.extend(
+        shapes::joint(degree, ALPHABET)
+            .into_iter()
+            .map(Group::Kernels),
+    );
     groups.extend(FAR.map(at).map(Group::Kernels));
     if degree == 8 {
         groups.extend(LONG_LIVED.map(at).map(Group::Kernels));
@@ -415,6 +423,8 @@ impl Run<'_> {
                     inputs.degree = degree;
                     Name::Key
                 }
+                // The library takes no alphabet until request 11.
+                edits::What::Alphabet(_) => continue,
                 edits::What::Delta { at, byte } => put_byte(&mut inputs, Name::Delta, at, byte),
                 edits::What::Chi { at, byte } => put_byte(&mut inputs, Name::Batching, at, byte),
                 edits::What::Proof { at, byte } => put_byte(&mut inputs, Name::Proof, at, byte),
@@ -556,7 +566,7 @@ impl Run<'_> {
             })
             .collect();
         let degree = DEGREES[self.random.below(2)];
-        (sizes[0], sizes[1], sizes[2], sizes[3], degree)
+        (sizes[0], sizes[1], sizes[2], sizes[3], degree, ALPHABET)
     }
 
     /// Half of the time a multiple of 8 or beside one; 0 among them.
@@ -609,7 +619,7 @@ impl Run<'_> {
 
     /// "n=2, m=1, τ=1, t=1": bytes and answers as 01 gives them, with no rendering between.
     fn toy(&mut self) -> Result<(), String> {
-        let mut inputs = self.inputs((2, 1, 1, 1, 8));
+        let mut inputs = self.inputs((2, 1, 1, 1, 8, ALPHABET));
         let key = [
             2, 0, 1, 0, 1, 0, 1, 0, 2, 0, 0, 0, 2, 0, 1, 0, 0, 0, 1, 1, 0, 0, 0, 1,
         ];

@@ -1,5 +1,6 @@
 //! The inputs of the calls, by name, and how each is laid out.
 
+use reference::alphabet::TWO;
 use reference::cases::case;
 use reference::key::Shape;
 use reference::strings::bytes_for;
@@ -55,7 +56,7 @@ impl Section {
     }
 
     pub fn row_length(&self) -> usize {
-        bytes_for(self.bits)
+        bytes_for(&TWO, self.bits)
     }
 
     pub fn count_length(&self) -> usize {
@@ -154,8 +155,8 @@ impl Output {
 
 impl Inputs {
     /// Honest inputs, at random: the rendering's own cases. There is no proof among them yet.
-    pub fn honest(seed: u64, (n, m, tau, t, degree): Sizes) -> Inputs {
-        let made = case(seed, n, m, tau, t, degree);
+    pub fn honest(seed: u64, (n, m, tau, t, degree, alphabet): Sizes) -> Inputs {
+        let made = case(seed, n, m, tau, t, degree, alphabet);
         let mut inputs = Inputs {
             shape: made.shape,
             degree,

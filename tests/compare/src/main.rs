@@ -18,6 +18,7 @@ mod selftest;
 mod sizes;
 mod watch;
 
+use calls::ALPHABET;
 use groups::{fixed, Group, Run};
 use judge::{Judge, Tally, NUMBERS};
 use reference::cases::Random;
@@ -126,7 +127,7 @@ fn lengths() -> Result<(), String> {
             (9, 0, 2, 5),
             (320, 320, 48, 288),
         ] {
-            if !sizes::own_lengths_agree(&Shape::new(n, m, tau, t, degree)) {
+            if !sizes::own_lengths_agree(&Shape::new(n, m, tau, t, degree, ALPHABET)) {
                 return Err("the lengths of this program are not the rendering's".to_string());
             }
         }

@@ -48,7 +48,8 @@ impl Run<'_> {
     fn any_witness(&mut self, honest: &Inputs) -> Result<(), String> {
         for _ in 0..WITNESSES {
             let mut inputs = honest.clone();
-            *inputs.get_mut(Name::Witness) = self.random.string(honest.shape.n);
+            *inputs.get_mut(Name::Witness) =
+                self.random.string(&honest.shape.symbols, honest.shape.n);
             for call in CALLS.iter().filter(|c| c.takes.contains(&Name::Witness)) {
                 self.put(call, &inputs, &[], None)?;
                 if self.judge.word != 0 {

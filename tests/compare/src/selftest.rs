@@ -1,7 +1,7 @@
 //! That a difference is reported: after the library has returned, one thing is changed that it answered or left
 //! behind, and the comparison must say so.
 
-use crate::calls::{Call, BATCH, CALLS, COMMIT, HASH, PROVE, TEST, VERIFY};
+use crate::calls::{Call, ALPHABET, BATCH, CALLS, COMMIT, HASH, PROVE, TEST, VERIFY};
 use crate::groups::{add_proof, open_at};
 use crate::inputs::{section_start, Inputs, Name, Output};
 use crate::judge::{Judge, Tamper};
@@ -40,7 +40,7 @@ type Situation = (String, &'static Call, Inputs, Vec<u32>);
 
 /// Accepted and refused calls of each kind, at a degree.
 fn situations(random: &mut Random, degree: u32) -> Result<Vec<Situation>, String> {
-    let mut honest = Inputs::honest(random.number(), shapes::small(degree));
+    let mut honest = Inputs::honest(random.number(), shapes::small(degree, ALPHABET));
     add_proof(&mut honest)?;
     let mut situations = Vec::new();
     for call in CALLS {
@@ -48,7 +48,7 @@ fn situations(random: &mut Random, degree: u32) -> Result<Vec<Situation>, String
         situations.push((what, call, honest.clone(), vec![]));
     }
     // With no equations, accepted too, and 5 for a batching byte.
-    let [shape, ..] = shapes::no_equations(degree);
+    let [shape, ..] = shapes::no_equations(degree, ALPHABET);
     let mut none = Inputs::honest(random.number(), shape);
     add_proof(&mut none)?;
     for call in CALLS {

@@ -1,6 +1,6 @@
 //! The size functions, held against the lengths that the rendering uses.
 
-use crate::calls::{BATCH, COMMIT, HASH, PROVE};
+use crate::calls::{ALPHABET, BATCH, COMMIT, HASH, PROVE};
 use crate::inputs::{length, Name};
 use reference::cases::Random;
 use reference::field::Field;
@@ -94,7 +94,7 @@ pub fn compare(random: &mut Random, off: usize) -> Result<u64, String> {
 
 fn at(sizes: [usize; 4], degree: u32, off: usize) -> Result<u64, String> {
     let [n, m, tau, t] = sizes;
-    let shape = Field::of_degree(degree).map(|_| Shape::new(n, m, tau, t, degree));
+    let shape = Field::of_degree(degree).map(|_| Shape::new(n, m, tau, t, degree, ALPHABET));
     let shape = shape.filter(Shape::in_range);
     for (name, function, rendering) in FUNCTIONS {
         let answered = unsafe { function(n, m, tau, t, degree) } + off;

@@ -7,6 +7,9 @@
 
 use reference::word;
 
+/// The library's one alphabet until it serves request 11.
+const ALPHABET: u32 = 2;
+
 /// A byte string as C lends it. The fields are those of `struct lent` in tests/case.h.
 #[repr(C)]
 pub struct Lent {
@@ -26,7 +29,12 @@ impl Lent {
 
 #[no_mangle]
 pub unsafe extern "C" fn rendering_test(key: Lent, degree: u32, witness: Lent) -> u32 {
-    word(reference::test(key.input(), degree, witness.input()))
+    word(reference::test(
+        key.input(),
+        degree,
+        ALPHABET,
+        witness.input(),
+    ))
 }
 
 #[no_mangle]
@@ -40,6 +48,7 @@ pub unsafe extern "C" fn rendering_commit(
     word(reference::commit(
         key.input(),
         degree,
+        ALPHABET,
         leaves.input(),
         witness.input(),
         out.output(),
@@ -57,6 +66,7 @@ pub unsafe extern "C" fn rendering_hash(
     word(reference::hash(
         key.input(),
         degree,
+        ALPHABET,
         leaves.input(),
         h.input(),
         out.output(),
@@ -75,6 +85,7 @@ pub unsafe extern "C" fn rendering_batch(
     word(reference::batch(
         key.input(),
         degree,
+        ALPHABET,
         leaves.input(),
         witness.input(),
         chi.input(),
@@ -95,6 +106,7 @@ pub unsafe extern "C" fn rendering_prove(
     word(reference::prove(
         key.input(),
         degree,
+        ALPHABET,
         leaves.input(),
         witness.input(),
         h.input(),
@@ -116,6 +128,7 @@ pub unsafe extern "C" fn rendering_verify(
     word(reference::verify(
         key.input(),
         degree,
+        ALPHABET,
         delta.input(),
         h.input(),
         chi.input(),
@@ -137,7 +150,9 @@ pub struct Sizes {
 /// The light shapes with a size at a kernel's threshold, at degree 8 and then at degree 4.
 fn light() -> Vec<shapes::Sizes> {
     let degrees = shapes::DEGREES.into_iter();
-    degrees.flat_map(shapes::light).collect()
+    degrees
+        .flat_map(|degree| shapes::light(degree, ALPHABET))
+        .collect()
 }
 
 /// How many cases there are to start from: one for each of them.
@@ -149,7 +164,7 @@ pub extern "C" fn shape_count() -> usize {
 /// The sizes of one of them. The first of a degree is small, with spare bits in every section.
 #[no_mangle]
 pub extern "C" fn shape_sizes(which: usize) -> Sizes {
-    let (n, m, tau, t, degree) = light()[which];
+    let (n, m, tau, t, degree, _) = light()[which];
     Sizes {
         n,
         m,

@@ -1,7 +1,7 @@
 //! The inputs: the toy of 01 and its changes, and random honest cases and their changes.
 
 use reference::cases::{case, Case, Random};
-use reference::check::DEGREE;
+use reference::check::{ALPHABET, DEGREE};
 use reference::key::Shape;
 use reference::prover::whole;
 use reference::strings::write_section;
@@ -271,7 +271,7 @@ pub fn limits() -> Vec<Input> {
     ]
     .iter()
     .map(|&(n, m, tau, t, line)| {
-        let bytes = framed(&honest(&case(1, n, m, tau, t, DEGREE)));
+        let bytes = framed(&honest(&case(1, n, m, tau, t, DEGREE, ALPHABET)));
         assert_eq!(bytes.len() <= MOST, line != "unread 0 0");
         input(
             format!("honest, n = {n}, m = {m}, τ = {tau}, t = {t}"),
@@ -284,7 +284,7 @@ pub fn limits() -> Vec<Input> {
 
 /// A key with no equations: the section of χ is empty, and any other length is refused 5; the key has 20 bytes.
 pub fn no_equations() -> Vec<Input> {
-    let sections = honest(&case(3, 9, 0, 2, 5, DEGREE));
+    let sections = honest(&case(3, 9, 0, 2, 5, DEGREE, ALPHABET));
     [
         (3, vec![], "accepted 0 0"),
         (3, vec![0], "refused 5 0"),
@@ -304,7 +304,7 @@ pub fn no_equations() -> Vec<Input> {
 
 /// The length of an input of these sizes.
 fn total(n: usize, m: usize, tau: usize, t: usize) -> usize {
-    let shape = Shape::new(n, m, tau, t, DEGREE);
+    let shape = Shape::new(n, m, tau, t, DEGREE, ALPHABET);
     let key = 8 + 12 + shape.key_sections().iter().sum::<usize>();
     let proof = 24 + shape.proof_sections().iter().sum::<usize>();
     let challenges = shape.delta_length() + shape.h_length() + shape.chi_length();
@@ -318,7 +318,7 @@ fn of_length(length: usize) -> Case {
             for t in 1..=288 {
                 for m in 1..=320 {
                     if total(n, m, tau, t) == length {
-                        return case(2, n, m, tau, t, DEGREE);
+                        return case(2, n, m, tau, t, DEGREE, ALPHABET);
                     }
                 }
             }
@@ -404,7 +404,7 @@ pub fn random() -> Vec<Input> {
     for seed in 0..60 {
         let (n, m) = (1 + random.below(20), random.below(13));
         let (tau, t) = (1 + random.below(5), 1 + random.below(20));
-        let case = case(100 + seed, n, m, tau, t, DEGREE);
+        let case = case(100 + seed, n, m, tau, t, DEGREE, ALPHABET);
         let sections = honest(&case);
         inputs.push(input(
             format!("random {seed}"),

@@ -3,8 +3,10 @@
 //! "Each call puts those that concern its inputs, in this order. A no ends the call with that
 //! number."
 //!
-//! 02 (request 3) adds 16, "first of all questions", 17, "after 6", and 18, "after 13".
+//! 02 (request 3) adds 16, "first of all questions", 17, "after 6", and 18, "after 13"; and request 11 adds 24, "after
+//! 16", and so before 1.
 
+use crate::alphabet::Alphabet;
 use crate::field::Field;
 use crate::key::{has_header, header, sections as key_sections, Key, Shape};
 use crate::leaves::opened_of;
@@ -52,15 +54,23 @@ fn question_16(degree: u32) -> Result<Field, Answer> {
     Ok(found.unwrap())
 }
 
-/// 16, and then
+/// From 02 (request 11): "Refused: 24, an alphabet neither 2 nor 4, or 4 with degree 4, after 16."
+fn question_24(field: &Field, alphabet: u32) -> Result<Alphabet, Answer> {
+    let found = Alphabet::beside(field, alphabet);
+    question(24, found.is_some())?;
+    Ok(found.unwrap())
+}
+
+/// 16 and 24, and then
 /// "1. Has the key at least the 8 bytes of its header? 1
 /// 2. Are n, m, τ, t in range? 2
 /// 3. Are all counts and the key's length exact? 3
 /// 4. Are the key's spare bits 0? 4"
-fn questions_16_and_1_to_4(bytes: &[u8], degree: u32) -> Result<Key<'_>, Answer> {
+fn questions_of_the_key(bytes: &[u8], degree: u32, alphabet: u32) -> Result<Key<'_>, Answer> {
     let field = question_16(degree)?;
+    let symbols = question_24(&field, alphabet)?;
     question(1, has_header(bytes))?;
-    let shape = header(field, bytes);
+    let shape = header(field, symbols, bytes);
     question(2, shape.in_range())?;
     let found = key_sections(shape, bytes);
     question(3, found.is_some())?;
@@ -71,7 +81,7 @@ fn questions_16_and_1_to_4(bytes: &[u8], degree: u32) -> Result<Key<'_>, Answer>
 
 /// "6. Are the spare bits of H′ 0? 6"
 fn question_6(shape: &Shape, h: &[u8]) -> Result<(), Answer> {
-    question(6, spare_bits_are_0(h, shape.k()))
+    question(6, spare_bits_are_0(&shape.symbols, h, shape.k()))
 }
 
 /// From 02 (request 3): "17, a byte of Δ or χ above 15 at degree 4, after 6". Where no H′ is taken 6 is
@@ -89,14 +99,15 @@ fn question_17(shape: &Shape, challenges: &[&[u8]]) -> Result<(), Answer> {
 /// The length is that of full leaves for the prover's calls, of opened leaves for the verifier's.
 fn questions_7_and_8(shape: &Shape, leaves: &[u8], length: usize) -> Result<(), Answer> {
     question(7, leaves.len() == length)?;
-    question(8, spare_bits_are_0(leaves, shape.l()))
+    question(8, spare_bits_are_0(&shape.symbols, leaves, shape.l()))
 }
 
 /// "9. Has the witness ⌈n/8⌉ bytes, spare bits 0? 9"
 fn question_9(shape: &Shape, witness: &[u8]) -> Result<(), Answer> {
     question(
         9,
-        witness.len() == shape.witness_length() && spare_bits_are_0(witness, shape.n),
+        witness.len() == shape.witness_length()
+            && spare_bits_are_0(&shape.symbols, witness, shape.n),
     )
 }
 
@@ -114,7 +125,7 @@ fn question_10(out: &[u8], lengths: &[usize]) -> Result<(), Answer> {
 /// "11. Does the witness solve the system? 11", and from 02: "Refusal 11 now names the
 /// lowest-numbered failing equation, in the test call and every prover call that takes a witness."
 fn question_11(key: &Key, witness: &[u8]) -> Result<(), Answer> {
-    let x = unpack(witness, key.shape.n);
+    let x = unpack(&key.shape.symbols, witness, key.shape.n);
     match key.first_failing(&x) {
         None => Ok(()),
         Some(lowest) => question_with_place(11, false, lowest),
@@ -174,26 +185,33 @@ fn write(result: Result<Vec<u8>, Answer>, out: &mut [u8]) -> Answer {
     }
 }
 
-/// "A separate call tests a key and witness: questions 1 to 4, 9, 11." And 16 before them (02): the degree
-/// is "passed beside the key in every call that takes one, the test call too".
-pub fn test(key: &[u8], degree: u32, witness: &[u8]) -> Answer {
-    match tested(key, degree, witness) {
+/// "A separate call tests a key and witness: questions 1 to 4, 9, 11." And 16 and 24 before them (02): the degree is
+/// "passed beside the key in every call that takes one, the test call too", and the alphabet "beside the degree".
+pub fn test(key: &[u8], degree: u32, alphabet: u32, witness: &[u8]) -> Answer {
+    match tested(key, degree, alphabet, witness) {
         Ok(()) => Answer::Accepted,
         Err(refusal) => refusal,
     }
 }
 
 /// The questions of `test`, in order.
-fn tested(key: &[u8], degree: u32, witness: &[u8]) -> Result<(), Answer> {
-    let key = questions_16_and_1_to_4(key, degree)?;
+fn tested(key: &[u8], degree: u32, alphabet: u32, witness: &[u8]) -> Result<(), Answer> {
+    let key = questions_of_the_key(key, degree, alphabet)?;
     question_9(&key.shape, witness)?;
     question_11(&key, witness)
 }
 
 /// The first step: "Three step calls write the first two ... sections. All take the key and full
-/// leaves; the first also the witness". Questions 16, 1 to 4, 7 to 11.
-pub fn commit(key: &[u8], degree: u32, leaves: &[u8], witness: &[u8], out: &mut [u8]) -> Answer {
-    let result = committed(key, degree, leaves, witness, out);
+/// leaves; the first also the witness". Questions 16, 24, 1 to 4, 7 to 11.
+pub fn commit(
+    key: &[u8],
+    degree: u32,
+    alphabet: u32,
+    leaves: &[u8],
+    witness: &[u8],
+    out: &mut [u8],
+) -> Answer {
+    let result = committed(key, degree, alphabet, leaves, witness, out);
     write(result, out)
 }
 
@@ -201,11 +219,12 @@ pub fn commit(key: &[u8], degree: u32, leaves: &[u8], witness: &[u8], out: &mut 
 fn committed(
     key: &[u8],
     degree: u32,
+    alphabet: u32,
     leaves: &[u8],
     witness: &[u8],
     out: &[u8],
 ) -> Result<Vec<u8>, Answer> {
-    let key = questions_16_and_1_to_4(key, degree)?;
+    let key = questions_of_the_key(key, degree, alphabet)?;
     let shape = &key.shape;
     questions_7_and_8(shape, leaves, shape.leaves_length())?;
     question_9(shape, witness)?;
@@ -215,15 +234,29 @@ fn committed(
 }
 
 /// The second step: "the middle two ... sections"; it takes "the key and full leaves; ... the
-/// second H′". Questions 16, 1 to 8, 10: it takes neither Δ nor χ, and so does not put 17.
-pub fn hash(key: &[u8], degree: u32, leaves: &[u8], h: &[u8], out: &mut [u8]) -> Answer {
-    let result = hashed(key, degree, leaves, h, out);
+/// second H′". Questions 16, 24, 1 to 8, 10: it takes neither Δ nor χ, and so does not put 17.
+pub fn hash(
+    key: &[u8],
+    degree: u32,
+    alphabet: u32,
+    leaves: &[u8],
+    h: &[u8],
+    out: &mut [u8],
+) -> Answer {
+    let result = hashed(key, degree, alphabet, leaves, h, out);
     write(result, out)
 }
 
 /// The questions of `hash`, in order, and then the bytes to be written.
-fn hashed(key: &[u8], degree: u32, leaves: &[u8], h: &[u8], out: &[u8]) -> Result<Vec<u8>, Answer> {
-    let key = questions_16_and_1_to_4(key, degree)?;
+fn hashed(
+    key: &[u8],
+    degree: u32,
+    alphabet: u32,
+    leaves: &[u8],
+    h: &[u8],
+    out: &[u8],
+) -> Result<Vec<u8>, Answer> {
+    let key = questions_of_the_key(key, degree, alphabet)?;
     let shape = &key.shape;
     question(5, h.len() == shape.h_length())?;
     question_6(shape, h)?;
@@ -233,16 +266,17 @@ fn hashed(key: &[u8], degree: u32, leaves: &[u8], h: &[u8], out: &[u8]) -> Resul
 }
 
 /// The third step: "the last two sections"; it takes "the key and full leaves; ... the third the
-/// witness and χ." Questions 16, 1 to 5, 17, 7 to 11.
+/// witness and χ." Questions 16, 24, 1 to 5, 17, 7 to 11.
 pub fn batch(
     key: &[u8],
     degree: u32,
+    alphabet: u32,
     leaves: &[u8],
     witness: &[u8],
     chi: &[u8],
     out: &mut [u8],
 ) -> Answer {
-    let result = batched(key, degree, leaves, witness, chi, out);
+    let result = batched(key, degree, alphabet, leaves, witness, chi, out);
     write(result, out)
 }
 
@@ -250,12 +284,13 @@ pub fn batch(
 fn batched(
     key: &[u8],
     degree: u32,
+    alphabet: u32,
     leaves: &[u8],
     witness: &[u8],
     chi: &[u8],
     out: &[u8],
 ) -> Result<Vec<u8>, Answer> {
-    let key = questions_16_and_1_to_4(key, degree)?;
+    let key = questions_of_the_key(key, degree, alphabet)?;
     let shape = &key.shape;
     question(5, chi.len() == shape.chi_length())?;
     question_17(shape, &[chi])?;
@@ -266,17 +301,18 @@ fn batched(
     Ok(third_step(&key, leaves, witness, chi))
 }
 
-/// "A whole call takes all of these and writes all six, the same bytes." Questions 16, 1 to 6, 17, 7 to 11.
+/// "A whole call takes all of these and writes all six, the same bytes." Questions 16, 24, 1 to 6, 17, 7 to 11.
 pub fn prove(
     key: &[u8],
     degree: u32,
+    alphabet: u32,
     leaves: &[u8],
     witness: &[u8],
     h: &[u8],
     chi: &[u8],
     out: &mut [u8],
 ) -> Answer {
-    let result = proved(key, degree, leaves, witness, h, chi, out);
+    let result = proved(key, degree, alphabet, leaves, witness, h, chi, out);
     write(result, out)
 }
 
@@ -284,13 +320,14 @@ pub fn prove(
 fn proved(
     key: &[u8],
     degree: u32,
+    alphabet: u32,
     leaves: &[u8],
     witness: &[u8],
     h: &[u8],
     chi: &[u8],
     out: &[u8],
 ) -> Result<Vec<u8>, Answer> {
-    let key = questions_16_and_1_to_4(key, degree)?;
+    let key = questions_of_the_key(key, degree, alphabet)?;
     let shape = &key.shape;
     question(
         5,
@@ -306,17 +343,18 @@ fn proved(
 }
 
 /// "The verifier accepts only what is right, whoever wrote the proof." "The verifier never
-/// writes." Questions 16, 1 to 6, 17, 7, 8, 12, 13, 18, 14, 15.
+/// writes." Questions 16, 24, 1 to 6, 17, 7, 8, 12, 13, 18, 14, 15.
 pub fn verify(
     key: &[u8],
     degree: u32,
+    alphabet: u32,
     delta: &[u8],
     h: &[u8],
     chi: &[u8],
     opened: &[u8],
     proof: &[u8],
 ) -> Answer {
-    match verified(key, degree, delta, h, chi, opened, proof) {
+    match verified(key, degree, alphabet, delta, h, chi, opened, proof) {
         Ok(()) => Answer::Accepted,
         Err(refusal) => refusal,
     }
@@ -326,13 +364,14 @@ pub fn verify(
 fn verified(
     key: &[u8],
     degree: u32,
+    alphabet: u32,
     delta: &[u8],
     h: &[u8],
     chi: &[u8],
     opened: &[u8],
     proof: &[u8],
 ) -> Result<(), Answer> {
-    let key = questions_16_and_1_to_4(key, degree)?;
+    let key = questions_of_the_key(key, degree, alphabet)?;
     let shape = &key.shape;
     question(
         5,

@@ -1,9 +1,13 @@
 //! Random cases for tests. Nothing here is in 01 but the layout of what is made.
 
+use crate::alphabet::Alphabet;
 use crate::field::Field;
 use crate::key::{sections, Key, Shape};
 use crate::leaves::open_leaves;
 use crate::strings::{bytes_for, pack, unpack, write_section};
+
+/// The degrees and alphabets that are taken.
+pub const SETTINGS: [(u32, u32); 3] = [(8, 2), (4, 2), (8, 4)];
 
 /// splitmix64, a small generator of deterministic numbers.
 #[derive(Clone, Debug)]
@@ -29,20 +33,21 @@ impl Random {
         (self.number() % bound as u64) as usize
     }
 
-    /// A string of so many random bits, spare bits 0.
-    pub fn string(&mut self, bits: usize) -> Vec<u8> {
+    /// A string of so many random symbols, spare bits 0.
+    pub fn string(&mut self, alphabet: &Alphabet, entries: usize) -> Vec<u8> {
         let mut vector = Vec::new();
-        for _ in 0..bits {
-            vector.push((self.number() >> 63) as u8);
+        for _ in 0..entries {
+            let symbol = self.number() >> (64 - alphabet.bits);
+            vector.push(alphabet.element(symbol as u8));
         }
-        pack(&vector)
+        pack(alphabet, &vector)
     }
 
-    /// So many strings one after another, each of so many random bits, spare bits 0.
-    pub fn strings(&mut self, how_many: usize, bits: usize) -> Vec<u8> {
+    /// So many strings one after another, each of so many random symbols, spare bits 0.
+    pub fn strings(&mut self, alphabet: &Alphabet, how_many: usize, entries: usize) -> Vec<u8> {
         let mut strings = Vec::new();
         for _ in 0..how_many {
-            strings.extend_from_slice(&self.string(bits));
+            strings.extend_from_slice(&self.string(alphabet, entries));
         }
         strings
     }
@@ -85,6 +90,11 @@ impl Case {
         self.shape.degree()
     }
 
+    /// The alphabet of this case, named "beside the degree" (02, request 11).
+    pub fn alphabet(&self) -> u32 {
+        self.shape.alphabet()
+    }
+
     /// The length of the whole proof: "24 bytes more than these together."
     pub fn proof_length(&self) -> usize {
         self.shape.proof_length()
@@ -104,33 +114,51 @@ pub fn key_bytes(shape: &Shape, a: &[u8], b: &[u8], y: &[u8]) -> Vec<u8> {
     key
 }
 
-/// A random case at a degree, 8 or 4: A, b and x at random, y so that x solves; leaves, H′, χ, Δ at
-/// random, spare bits 0.
-pub fn case(seed: u64, n: usize, m: usize, tau: usize, t: usize, degree: u32) -> Case {
-    case_of(seed, Shape::new(n, m, tau, t, degree))
+/// A random case at a degree, 8 or 4, and an alphabet, 2, or 4 at degree 8: A, b and x at random, y so that x solves;
+/// leaves, H′, χ, Δ at random, spare bits 0.
+pub fn case(
+    seed: u64,
+    n: usize,
+    m: usize,
+    tau: usize,
+    t: usize,
+    degree: u32,
+    alphabet: u32,
+) -> Case {
+    case_of(seed, Shape::new(n, m, tau, t, degree, alphabet))
 }
 
-/// The same over a field.
-pub fn case_over(field: Field, seed: u64, n: usize, m: usize, tau: usize, t: usize) -> Case {
-    case(seed, n, m, tau, t, field.degree as u32)
+/// The same over a field, with an alphabet.
+pub fn case_over(
+    field: Field,
+    symbols: Alphabet,
+    seed: u64,
+    n: usize,
+    m: usize,
+    tau: usize,
+    t: usize,
+) -> Case {
+    let (degree, alphabet) = (field.degree as u32, symbols.size as u32);
+    case(seed, n, m, tau, t, degree, alphabet)
 }
 
 /// The same of a shape.
 pub fn case_of(seed: u64, shape: Shape) -> Case {
     let Shape {
         field,
+        symbols,
         n,
         m,
         tau,
         t,
     } = shape;
     let mut random = Random::new(seed);
-    let a = random.strings(m * n, n);
-    let b = random.strings(m, n);
-    let witness = random.string(n);
-    let x = unpack(&witness, n);
+    let a = random.strings(&symbols, m * n, n);
+    let b = random.strings(&symbols, m, n);
+    let witness = random.string(&symbols, n);
+    let x = unpack(&symbols, &witness, n);
     // With y = 0 an equation's error is its left side, which is then taken for y.
-    let zero = vec![0; bytes_for(m)];
+    let zero = vec![0; bytes_for(&symbols, m)];
     let with_zero = Key {
         shape,
         a: &a,
@@ -141,9 +169,9 @@ pub fn case_of(seed: u64, shape: Shape) -> Case {
     for i in 0..m {
         y.push(with_zero.error(i, &x));
     }
-    let key = key_bytes(&shape, &a, &b, &pack(&y));
-    let leaves = random.strings(tau * field.size, shape.l());
-    let h = random.strings(t, shape.k());
+    let key = key_bytes(&shape, &a, &b, &pack(&symbols, &y));
+    let leaves = random.strings(&symbols, tau * field.size, shape.l());
+    let h = random.strings(&symbols, t, shape.k());
     let chi = random.elements(&field, shape.chi_length());
     let delta = random.elements(&field, shape.delta_length());
     Case {

@@ -9,6 +9,9 @@ pub const LIMIT: usize = 65_536;
 /// From 02 (request 3): "the check program stays at 8."
 pub const DEGREE: u32 = 8;
 
+/// From 02 (request 11): "the check program stays at 2".
+pub const ALPHABET: u32 = 2;
+
 /// "A check program reads key, Δ, H′, χ, opened leaves, proof from standard input, each after its
 /// four-byte count, and prints one line: verdict (accepted, refused or unread), number, place,
 /// decimal, a space between."
@@ -18,7 +21,7 @@ pub fn line(input: &[u8]) -> String {
     match six_sections(input) {
         None => "unread 0 0".to_string(),
         Some([key, delta, h, chi, opened, proof]) => {
-            match verify(key, DEGREE, delta, h, chi, opened, proof) {
+            match verify(key, DEGREE, ALPHABET, delta, h, chi, opened, proof) {
                 Answer::Accepted => "accepted 0 0".to_string(),
                 Answer::Refused { number, place } => format!("refused {number} {place}"),
             }

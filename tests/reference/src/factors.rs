@@ -39,13 +39,17 @@ pub fn factors(key: &Key, h: &[u8], chi: &[u8], leaves: &[u8], proof: &Proof) ->
     factors
 }
 
-/// "The candidate witness of repetition e is the first n of u_e+C_e, plus d." A vector of n bits.
+/// "The candidate witness of repetition e is the first n of u_e+C_e, plus d." A vector of n entries of
+/// the alphabet, as elements of K.
 pub fn candidate(shape: &Shape, e: usize, leaves: &[u8], proof: &Proof) -> Vec<u8> {
     let u_e = u(shape, leaves, e);
     let c_e = proof.correction(shape, e);
     let mut x = Vec::new();
     for c in 0..shape.n {
-        x.push(add(add(u_e[c], c_e[c]), coordinate(proof.d, c)));
+        x.push(add(
+            add(u_e[c], c_e[c]),
+            coordinate(&shape.symbols, proof.d, c),
+        ));
     }
     x
 }

@@ -1,5 +1,7 @@
 //! The field K and its elements.
 
+use crate::alphabet::Alphabet;
+
 /// "The field's size, modulus and degree belong to the field, not to each caller."
 ///
 /// An element is a byte below `size`. The modulus is written as a number whose bit s is the
@@ -32,16 +34,6 @@ pub const ALPHA: u8 = 0x02;
 /// "a byte is an element, a sum is exclusive or."
 pub fn add(a: u8, b: u8) -> u8 {
     a ^ b
-}
-
-/// A bit times an element of K, as in "j·ℓ(e,j) over K, coordinate by coordinate": the element where
-/// the bit is 1, else 0.
-pub fn bit_times(bit: u8, element: u8) -> u8 {
-    if bit == 1 {
-        element
-    } else {
-        0
-    }
 }
 
 impl Field {
@@ -80,6 +72,16 @@ impl Field {
         product as u8
     }
 
+    /// A symbol, given as the element that it stands for, times an element of K, as in "j·ℓ(e,j) over K, coordinate by
+    /// coordinate". It is the product in K; for 0 and 1, which are all that bits stand for, it is taken at once.
+    pub fn symbol_times(&self, symbol: u8, element: u8) -> u8 {
+        match symbol {
+            0 => 0,
+            1 => element,
+            _ => self.mul(symbol, element),
+        }
+    }
+
     /// α^s: "α is 02."
     pub fn alpha_to(&self, s: usize) -> u8 {
         let mut power = 1;
@@ -90,11 +92,12 @@ impl Field {
     }
 
     /// The mask element of a vector z from the coordinate `start` on, Σ α^s·z[start+s] with s below
-    /// the degree. u, v_e or W_e is put for z, and for `start` what 02 puts in place of 01's n: the
+    /// the degree, or below 4 with four symbols: "four symbols for each repetition with α^0 to α^3" (02,
+    /// request 11). u, v_e or W_e is put for z, and for `start` what 02 puts in place of 01's n: the
     /// first mask coordinate of the repetition. 003 calls it lift_r.
-    pub fn mask(&self, start: usize, z: &[u8]) -> u8 {
+    pub fn mask(&self, alphabet: &Alphabet, start: usize, z: &[u8]) -> u8 {
         let mut sum = 0;
-        for s in 0..self.degree {
+        for s in 0..alphabet.mask_symbols(self) {
             sum = add(sum, self.mul(self.alpha_to(s), z[start + s]));
         }
         sum

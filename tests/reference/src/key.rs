@@ -1,12 +1,15 @@
 //! The key, its shape, and its equations at a point.
 
-use crate::field::{add, bit_times, Field};
+use crate::alphabet::Alphabet;
+use crate::field::{add, Field};
 use crate::strings::{bytes_for, coordinate, exact_sections, spare_bits_are_0, two_bytes};
 
-/// "n variables", "m equations", "τ repetitions", "t hash rows".
+/// "n variables", "m equations", "τ repetitions", "t hash rows", and the field and alphabet that the degree and
+/// alphabet beside the key name. "n, t, k and L count symbols, as do the entries of y" (02, request 11).
 #[derive(Clone, Copy, Debug, PartialEq, Eq)]
 pub struct Shape {
     pub field: Field,
+    pub symbols: Alphabet,
     pub n: usize,
     pub m: usize,
     pub tau: usize,
@@ -14,11 +17,13 @@ pub struct Shape {
 }
 
 impl Shape {
-    /// The shape of these sizes at a degree, which must be 8 or 4.
-    pub fn new(n: usize, m: usize, tau: usize, t: usize, degree: u32) -> Shape {
+    /// The shape of these sizes at a degree, which must be 8 or 4, and an alphabet, 2, or 4 at degree 8.
+    pub fn new(n: usize, m: usize, tau: usize, t: usize, degree: u32, alphabet: u32) -> Shape {
         let field = Field::of_degree(degree).expect("degree 8 or 4");
+        let symbols = Alphabet::beside(&field, alphabet).expect("alphabet 2, or 4 at degree 8");
         Shape {
             field,
+            symbols,
             n,
             m,
             tau,
@@ -31,6 +36,16 @@ impl Shape {
         self.field.degree as u32
     }
 
+    /// The alphabet, "2 or 4", that the caller names "beside the degree" (02, request 11).
+    pub fn alphabet(&self) -> u32 {
+        self.symbols.size as u32
+    }
+
+    /// The bytes of a row of so many entries.
+    fn row(&self, entries: usize) -> usize {
+        bytes_for(&self.symbols, entries)
+    }
+
     /// From 01: "n variables 1..160, m equations 1..160, τ repetitions 1..48, t hash rows 1..160"; and from 02: "n and
     /// m go to 320 and t to 288" (request 1), "m = 0 is taken" (request 12).
     pub fn in_range(&self) -> bool {
@@ -40,14 +55,25 @@ impl Shape {
             && (1..=288).contains(&self.t)
     }
 
-    /// From 02: "there are now r coordinates for each repetition, r the degree: k = n+rτ".
+    /// r of 02: "r coordinates for each repetition, r the degree" (request 4); with alphabet 4 "four symbols for each
+    /// repetition" (request 11).
+    pub fn r(&self) -> usize {
+        self.symbols.mask_symbols(&self.field)
+    }
+
+    /// From 02: "there are now r coordinates for each repetition, ...: k = n+rτ".
     pub fn k(&self) -> usize {
-        self.n + self.field.degree * self.tau
+        self.n + self.r() * self.tau
     }
 
     /// Where the mask coordinates of repetition e start: "repetition e uses n+re up to n+re+r−1" (02).
     pub fn mask_start(&self, e: usize) -> usize {
-        self.n + self.field.degree * e
+        self.n + self.r() * e
+    }
+
+    /// The mask element of repetition e in a vector z, which is u, v_e or W_e.
+    pub fn mask(&self, e: usize, z: &[u8]) -> u8 {
+        self.field.mask(&self.symbols, self.mask_start(e), z)
     }
 
     /// "L = k+t".
@@ -55,18 +81,19 @@ impl Shape {
         self.k() + self.t
     }
 
-    /// "w = ⌈L/8⌉".
+    /// "w = ⌈L/8⌉", and ⌈L/4⌉ with alphabet 4: "every bit row of c entries becomes a symbol row of ⌈c/4⌉ bytes" (02,
+    /// request 11), here and in every length below.
     pub fn w(&self) -> usize {
-        bytes_for(self.l())
+        self.row(self.l())
     }
 
     /// "A has m matrices of n rows of ⌈n/8⌉ bytes ...; b has m rows of ⌈n/8⌉ bytes; y has m bits." With
     /// m = 0 "A, b and y are empty" (02, request 12).
     pub fn key_sections(&self) -> [usize; 3] {
         [
-            self.m * self.n * bytes_for(self.n),
-            self.m * bytes_for(self.n),
-            bytes_for(self.m),
+            self.m * self.n * self.row(self.n),
+            self.m * self.row(self.n),
+            self.row(self.m),
         ]
     }
 
@@ -94,7 +121,7 @@ impl Shape {
 
     /// "H′, t rows of k bits (⌈k/8⌉ bytes a row)".
     pub fn h_length(&self) -> usize {
-        self.t * bytes_for(self.k())
+        self.t * self.row(self.k())
     }
 
     /// "χ, τ columns of m bytes"; with m = 0 "χ has no bytes" (02, request 12).
@@ -104,7 +131,7 @@ impl Shape {
 
     /// "Has the witness ⌈n/8⌉ bytes".
     pub fn witness_length(&self) -> usize {
-        bytes_for(self.n)
+        self.row(self.n)
     }
 
     /// "The proof has the sections C, d, ũ, Ṽ, QS0, QS1, in that order, ...: (τ−1)·w, ⌈n/8⌉,
@@ -112,8 +139,8 @@ impl Shape {
     pub fn proof_sections(&self) -> [usize; 6] {
         [
             (self.tau - 1) * self.w(),
-            bytes_for(self.n),
-            bytes_for(self.t),
+            self.row(self.n),
+            self.row(self.t),
             self.tau * self.t,
             self.tau,
             self.tau,
@@ -158,9 +185,10 @@ pub fn has_header(bytes: &[u8]) -> bool {
 }
 
 /// "A key is n, m, τ, t, two bytes each, lowest first".
-pub fn header(field: Field, bytes: &[u8]) -> Shape {
+pub fn header(field: Field, symbols: Alphabet, bytes: &[u8]) -> Shape {
     Shape {
         field,
+        symbols,
         n: two_bytes(bytes, 0),
         m: two_bytes(bytes, 2),
         tau: two_bytes(bytes, 4),
@@ -190,47 +218,58 @@ pub fn sections<'a>(shape: Shape, bytes: &'a [u8]) -> Option<Key<'a>> {
 }
 
 impl Key<'_> {
-    /// "Are the key's spare bits 0?" The rows of A and of b have n bits each, y has m.
+    /// "Are the key's spare bits 0?" The rows of A and of b have n entries each, y has m.
     pub fn spare_bits_are_0(&self) -> bool {
-        spare_bits_are_0(self.a, self.shape.n)
-            && spare_bits_are_0(self.b, self.shape.n)
-            && spare_bits_are_0(self.y, self.shape.m)
+        let symbols = &self.shape.symbols;
+        spare_bits_are_0(symbols, self.a, self.shape.n)
+            && spare_bits_are_0(symbols, self.b, self.shape.n)
+            && spare_bits_are_0(symbols, self.y, self.shape.m)
     }
 
-    /// The bit of A_i in the given row and column: "m matrices of n rows of ⌈n/8⌉ bytes, matrix 0
-    /// row 0 first".
-    pub fn a_bit(&self, i: usize, row: usize, column: usize) -> u8 {
-        let length = bytes_for(self.shape.n);
+    /// Row `row` of A_i, packed: "m matrices of n rows of ⌈n/8⌉ bytes, matrix 0 row 0 first".
+    pub fn a_row(&self, i: usize, row: usize) -> &[u8] {
+        let length = self.shape.row(self.shape.n);
         let start = (i * self.shape.n + row) * length;
-        coordinate(&self.a[start..start + length], column)
+        &self.a[start..start + length]
     }
 
-    /// The bit of b_i in the given column: "b has m rows of ⌈n/8⌉ bytes".
-    pub fn b_bit(&self, i: usize, column: usize) -> u8 {
-        let length = bytes_for(self.shape.n);
-        let start = i * length;
-        coordinate(&self.b[start..start + length], column)
+    /// b_i, packed: "b has m rows of ⌈n/8⌉ bytes".
+    pub fn b_row(&self, i: usize) -> &[u8] {
+        let length = self.shape.row(self.shape.n);
+        &self.b[i * length..(i + 1) * length]
     }
 
-    /// y_i: "y has m bits."
-    pub fn y_bit(&self, i: usize) -> u8 {
-        coordinate(self.y, i)
+    /// The entry of A_i in the given row and column, as an element of K.
+    pub fn a_entry(&self, i: usize, row: usize, column: usize) -> u8 {
+        coordinate(&self.shape.symbols, self.a_row(i, row), column)
+    }
+
+    /// The entry of b_i in the given column, as an element of K.
+    pub fn b_entry(&self, i: usize, column: usize) -> u8 {
+        coordinate(&self.shape.symbols, self.b_row(i), column)
+    }
+
+    /// y_i as an element of K: "y has m bits", or m symbols.
+    pub fn y_entry(&self, i: usize) -> u8 {
+        coordinate(&self.shape.symbols, self.y, i)
     }
 
     /// pᵀA_i·q = Σ over rows r of p[r]·(Σ over columns c of A_i[r][c]·q[c]), over K.
     ///
-    /// With p and q both x this is the first part of "xᵀA_i·x + b_i·x = y_i", where "over GF(2) each
-    /// product of a row with x is the parity of the ones that row and x share."
-    /// "A_i need not be symmetric", so p and q are not interchangeable.
+    /// With p and q both x this is the first part of "xᵀA_i·x + b_i·x = y_i", where "over GF(2) each product of a row
+    /// with x is the parity of the ones that row and x share." With alphabet 4 the products are those of GF(4) inside
+    /// K. "A_i need not be symmetric", so p and q are not interchangeable.
     pub fn a_form(&self, i: usize, p: &[u8], q: &[u8]) -> u8 {
+        let field = &self.shape.field;
         let mut sum = 0;
         for row in 0..self.shape.n {
+            let entries = self.a_row(i, row);
             let mut row_sum = 0;
             for column in 0..self.shape.n {
-                let term = bit_times(self.a_bit(i, row, column), q[column]);
-                row_sum = add(row_sum, term);
+                let entry = coordinate(&self.shape.symbols, entries, column);
+                row_sum = add(row_sum, field.symbol_times(entry, q[column]));
             }
-            sum = add(sum, self.shape.field.mul(p[row], row_sum));
+            sum = add(sum, field.mul(p[row], row_sum));
         }
         sum
     }
@@ -240,16 +279,20 @@ impl Key<'_> {
     pub fn b_form(&self, i: usize, q: &[u8]) -> u8 {
         let mut sum = 0;
         for column in 0..self.shape.n {
-            sum = add(sum, bit_times(self.b_bit(i, column), q[column]));
+            let term = self
+                .shape
+                .field
+                .symbol_times(self.b_entry(i, column), q[column]);
+            sum = add(sum, term);
         }
         sum
     }
 
     /// "An equation's error at a candidate is its left side plus y_i", the left side being
-    /// "xᵀA_i·x + b_i·x". Here x is a vector of n bits, and so the error is 0 or 1.
+    /// "xᵀA_i·x + b_i·x". Here x is a vector of n entries of the alphabet, and so the error is one of its elements.
     pub fn error(&self, i: usize, x: &[u8]) -> u8 {
         let left_side = add(self.a_form(i, x, x), self.b_form(i, x));
-        add(left_side, self.y_bit(i))
+        add(left_side, self.y_entry(i))
     }
 
     /// The lowest-numbered equation that fails at x, counted from 0; nothing where x solves all: "A

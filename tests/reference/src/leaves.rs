@@ -1,6 +1,6 @@
 //! Full leaves, opened leaves and the sums over them.
 
-use crate::field::{add, bit_times};
+use crate::field::add;
 use crate::key::Shape;
 use crate::strings::coordinate;
 
@@ -44,13 +44,14 @@ pub fn open_leaves(shape: &Shape, leaves: &[u8], delta: &[u8]) -> Vec<u8> {
     opened
 }
 
-/// "u_e = Σ ℓ(e,j) over GF(2)", coordinate by coordinate.
+/// "u_e = Σ ℓ(e,j) over GF(2)", coordinate by coordinate; over GF(4) with alphabet 4 (02, request 11). Elements of K
+/// that the alphabet's symbols stand for.
 pub fn u(shape: &Shape, leaves: &[u8], e: usize) -> Vec<u8> {
     let mut u_e = vec![0; shape.l()];
     for j in 0..shape.field.size {
         let string = leaf(shape, leaves, e, j);
         for c in 0..shape.l() {
-            u_e[c] = add(u_e[c], coordinate(string, c));
+            u_e[c] = add(u_e[c], coordinate(&shape.symbols, string, c));
         }
     }
     u_e
@@ -62,15 +63,15 @@ pub fn v(shape: &Shape, leaves: &[u8], e: usize) -> Vec<u8> {
     for j in 0..shape.field.size {
         let string = leaf(shape, leaves, e, j);
         for c in 0..shape.l() {
-            v_e[c] = add(v_e[c], bit_times(coordinate(string, c), j as u8));
+            let symbol = coordinate(&shape.symbols, string, c);
+            v_e[c] = add(v_e[c], shape.field.symbol_times(symbol, j as u8));
         }
     }
     v_e
 }
 
 /// H·z, with u, v_e or W_e put for z: "H = [H′ | identity of size t]. ũ = H·u; Ṽ_e = H·v_e." Coordinate
-/// r is Σ H′[r][c]·z[c] over c below k,
-/// plus z[k+r].
+/// r is Σ H′[r][c]·z[c] over c below k, plus z[k+r].
 pub fn hash_of(shape: &Shape, h: &[u8], z: &[u8]) -> Vec<u8> {
     let row_length = shape.h_length() / shape.t;
     let mut product = Vec::new();
@@ -78,7 +79,8 @@ pub fn hash_of(shape: &Shape, h: &[u8], z: &[u8]) -> Vec<u8> {
         let row = &h[r * row_length..(r + 1) * row_length];
         let mut sum = 0;
         for c in 0..shape.k() {
-            sum = add(sum, bit_times(coordinate(row, c), z[c]));
+            let entry = coordinate(&shape.symbols, row, c);
+            sum = add(sum, shape.field.symbol_times(entry, z[c]));
         }
         product.push(add(sum, z[shape.k() + r]));
     }

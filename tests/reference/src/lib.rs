@@ -7,11 +7,15 @@
 //! where that is named.
 //!
 //! A *string* is packed bytes as 01 lays them out; a *vector* here is a `Vec<u8>` holding one
-//! element of K for each coordinate. A bit is the element 0 or 1 of K.
+//! element of K for each coordinate. A bit is the element 0 or 1 of K; a symbol of alphabet 4 is one of the
+//! elements 00, 01, BC, BD (02, request 11).
 
 // Coordinates are counted as in 01, by number, so that each line can be held against its equation.
 #![allow(clippy::needless_range_loop)]
+// A call takes what INTERFACE.md lists, one by one.
+#![allow(clippy::too_many_arguments)]
 
+pub mod alphabet;
 pub mod calls;
 pub mod cases;
 pub mod check;
@@ -22,6 +26,7 @@ pub mod leaves;
 pub mod prover;
 pub mod sittings;
 pub mod strings;
+pub mod toy44;
 pub mod toys;
 pub mod verifier;
 

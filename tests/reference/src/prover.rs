@@ -18,7 +18,7 @@ pub fn section_c(shape: &Shape, leaves: &[u8]) -> Vec<u8> {
         for c in 0..shape.l() {
             c_e.push(add(u_e[c], u_0[c]));
         }
-        section.extend_from_slice(&pack(&c_e));
+        section.extend_from_slice(&pack(&shape.symbols, &c_e));
     }
     section
 }
@@ -30,13 +30,13 @@ pub fn section_d(shape: &Shape, leaves: &[u8], x: &[u8]) -> Vec<u8> {
     for c in 0..shape.n {
         d.push(add(x[c], u_0[c]));
     }
-    pack(&d)
+    pack(&shape.symbols, &d)
 }
 
 /// "ũ = H·u".
 pub fn section_u_tilde(shape: &Shape, leaves: &[u8], h: &[u8]) -> Vec<u8> {
     let u_0 = u(shape, leaves, 0);
-    pack(&hash_of(shape, h, &u_0))
+    pack(&shape.symbols, &hash_of(shape, h, &u_0))
 }
 
 /// "Ṽ_e = H·v_e", "by repetition, rising, and Ṽ in each repetition by hash row."
@@ -55,18 +55,24 @@ pub fn section_v_tilde(shape: &Shape, leaves: &[u8], h: &[u8]) -> Vec<u8> {
 /// a₀ = vᵀA_i·v; a₁ = vᵀA_i·x + xᵀA_i·v + b_i·v; a₂ = xᵀA_i·x + b_i·x + y_i.
 /// Only the first n coordinates of v_e enter.
 pub fn coefficients(key: &Key, i: usize, v_e: &[u8], x: &[u8]) -> [u8; 3] {
-    let a_0 = key.a_form(i, v_e, v_e);
-    let a_1 = add(
-        add(key.a_form(i, v_e, x), key.a_form(i, x, v_e)),
-        key.b_form(i, v_e),
-    );
-    let a_2 = add(add(key.a_form(i, x, x), key.b_form(i, x)), key.y_bit(i));
-    [a_0, a_1, a_2]
+    let a_2 = add(add(key.a_form(i, x, x), key.b_form(i, x)), key.y_entry(i));
+    [a_0(key, i, v_e), a_1(key, i, v_e, x), a_2]
+}
+
+/// a₀ = vᵀA_i·v.
+fn a_0(key: &Key, i: usize, v_e: &[u8]) -> u8 {
+    key.a_form(i, v_e, v_e)
+}
+
+/// a₁ = vᵀA_i·x + xᵀA_i·v + b_i·v.
+fn a_1(key: &Key, i: usize, v_e: &[u8], x: &[u8]) -> u8 {
+    let mixed = add(key.a_form(i, v_e, x), key.a_form(i, x, v_e));
+    add(mixed, key.b_form(i, v_e))
 }
 
 /// "QS0_e = Σ χ(e,i)·a₀ + A*₀,e", where A*₀,e takes v_e at the mask coordinates of e (02). "by
 /// repetition, rising".
-pub fn section_qs0(key: &Key, leaves: &[u8], x: &[u8], chi: &[u8]) -> Vec<u8> {
+pub fn section_qs0(key: &Key, leaves: &[u8], chi: &[u8]) -> Vec<u8> {
     let shape = &key.shape;
     let field = &shape.field;
     let mut section = Vec::new();
@@ -74,10 +80,9 @@ pub fn section_qs0(key: &Key, leaves: &[u8], x: &[u8], chi: &[u8]) -> Vec<u8> {
         let v_e = v(shape, leaves, e);
         let mut sum = 0;
         for i in 0..shape.m {
-            let a_0 = coefficients(key, i, &v_e, x)[0];
-            sum = add(sum, field.mul(shape.column(chi, e)[i], a_0));
+            sum = add(sum, field.mul(shape.column(chi, e)[i], a_0(key, i, &v_e)));
         }
-        let mask_0 = field.mask(shape.mask_start(e), &v_e);
+        let mask_0 = shape.mask(e, &v_e);
         section.push(add(sum, mask_0));
     }
     section
@@ -94,10 +99,12 @@ pub fn section_qs1(key: &Key, leaves: &[u8], x: &[u8], chi: &[u8]) -> Vec<u8> {
         let v_e = v(shape, leaves, e);
         let mut sum = 0;
         for i in 0..shape.m {
-            let a_1 = coefficients(key, i, &v_e, x)[1];
-            sum = add(sum, field.mul(shape.column(chi, e)[i], a_1));
+            sum = add(
+                sum,
+                field.mul(shape.column(chi, e)[i], a_1(key, i, &v_e, x)),
+            );
         }
-        let mask_1 = field.mask(shape.mask_start(e), &u_0);
+        let mask_1 = shape.mask(e, &u_0);
         section.push(add(sum, mask_1));
     }
     section
@@ -106,7 +113,7 @@ pub fn section_qs1(key: &Key, leaves: &[u8], x: &[u8], chi: &[u8]) -> Vec<u8> {
 /// "Three step calls write the first two, the middle two and the last two sections." The first:
 /// it takes "the key and full leaves; the first also the witness".
 pub fn first_step(key: &Key, leaves: &[u8], witness: &[u8]) -> Vec<u8> {
-    let x = unpack(witness, key.shape.n);
+    let x = unpack(&key.shape.symbols, witness, key.shape.n);
     let mut out = Vec::new();
     write_section(&mut out, &section_c(&key.shape, leaves));
     write_section(&mut out, &section_d(&key.shape, leaves, &x));
@@ -123,9 +130,9 @@ pub fn second_step(key: &Key, leaves: &[u8], h: &[u8]) -> Vec<u8> {
 
 /// The third step: "the third the witness and χ."
 pub fn third_step(key: &Key, leaves: &[u8], witness: &[u8], chi: &[u8]) -> Vec<u8> {
-    let x = unpack(witness, key.shape.n);
+    let x = unpack(&key.shape.symbols, witness, key.shape.n);
     let mut out = Vec::new();
-    write_section(&mut out, &section_qs0(key, leaves, &x, chi));
+    write_section(&mut out, &section_qs0(key, leaves, chi));
     write_section(&mut out, &section_qs1(key, leaves, &x, chi));
     out
 }

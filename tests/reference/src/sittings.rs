@@ -1,10 +1,11 @@
-//! The computed examples with a mask for each repetition: two files in the form of the older vectors, always with the
-//! same bytes. Nothing here is in 01 or 02 but the layout of what is made.
+//! The computed examples with a mask for each repetition: files in the form of the older vectors, always with the same
+//! bytes, two of bits and one of four symbols. Nothing here is in 01 or 02 but the layout of what is made.
 //!
 //! Leaves and H′ come from the first seed at which the example tells something: no two masks are alike, nor two bytes
 //! of QS0 or of QS1, none of these is 0, nor d nor ũ, and every change is refused. Of the two changes of C the first is
 //! one that consistency does not see, but the product check does.
 
+use crate::alphabet::{Alphabet, FOUR, TWO};
 use crate::calls::{verify, word};
 use crate::cases::{case_over, Case, Random};
 use crate::factors::factors;
@@ -12,7 +13,7 @@ use crate::field::{Field, GF16, GF256};
 use crate::key::{header, Key};
 use crate::leaves::{u, v};
 use crate::prover::{first_step, second_step, third_step, whole};
-use crate::strings::pack;
+use crate::strings::{pack, symbol};
 use crate::verifier::sections;
 
 /// The sections of a proof by the names that the files have for them.
@@ -46,6 +47,31 @@ const CHANGES: [Change; 12] = [
     change(2, 0, 2),
 ];
 
+/// The same of four symbols: in C symbols 0 and 1, in d and ũ also several changes of one symbol.
+const CHANGES_OF_SYMBOLS: [Change; 14] = [
+    change(0, 0, 2),
+    change(0, 0, 12),
+    change(4, 0, 1),
+    change(4, 1, 2),
+    change(5, 0, 1),
+    change(5, 1, 188),
+    change(3, 0, 1),
+    change(3, 1, 2),
+    change(1, 0, 1),
+    change(1, 0, 2),
+    change(1, 0, 12),
+    change(2, 0, 1),
+    change(2, 0, 2),
+    change(2, 0, 12),
+];
+
+fn changes_of(sitting: &Case) -> &'static [Change] {
+    match sitting.alphabet() {
+        4 => &CHANGES_OF_SYMBOLS,
+        _ => &CHANGES,
+    }
+}
+
 /// GF(16): two sittings, of two and of three repetitions.
 pub fn degree_4() -> String {
     let mut text = heading(
@@ -56,6 +82,7 @@ pub fn degree_4() -> String {
 
     let old = fixed(
         GF16,
+        TWO,
         "090002000200020024000000ff002801c301f2007d01ed01fe00b401f400db006800b900f5012a00ac014a00e800830004000000ac01\
          88010100000003",
         "b100",
@@ -71,6 +98,7 @@ pub fn degree_4() -> String {
 
     let three = fixed(
         GF16,
+        TWO,
         "050001000300020005000000\
          07170a1e00\
          0100000016\
@@ -100,19 +128,82 @@ pub fn degree_8() -> String {
 
     let old = fixed(
         GF256,
+        TWO,
         "0900030002000500360000009801db01130008013d01fa0069008f018a01ab010201c6000300af0040007a01280054006201b300fc00\
          e6006f001501cf00fa010e0006000000d8002e0072000100000003",
         "c501",
         "47e952adf6fa",
         "cbc6",
     );
-    for (number, start) in [old, case_over(GF256, 2051, 5, 2, 3, 4)].iter().enumerate() {
+    for (number, start) in [old, case_over(GF256, TWO, 2051, 5, 2, 3, 4)]
+        .iter()
+        .enumerate()
+    {
         let sitting = telling(start);
         text += &common(number, &sitting);
         text += &exchanged(&sitting);
         text += &sums(&sitting);
     }
     text
+}
+
+/// Four symbols over GF(256) (02, request 11): three sittings, of two, three and two repetitions. The last has no spare
+/// bits anywhere.
+pub fn four_valued() -> String {
+    let mut text = heading(
+        "GF(256) with alphabet 4: symbols of two bits, four to a byte, lowest first; 0, 1, 2, 3 stand for 00, 01, BC, BD; \
+         four mask symbols for each repetition: k = n+4*tau, and repetition e uses n+4e to n+4e+3",
+    );
+    text += "# commit, hash, batch: what the steps write. u_e: its L symbols, packed. v_e: a byte for each of its L \
+             coordinates.\n\
+             # A, b, y and the witness of each sitting have 1, 2 and 3 in them; y of two entries has 2 and 3.\n";
+    for (number, [n, m, tau, t]) in [[9, 5, 2, 5], [6, 2, 3, 3], [8, 4, 2, 4]]
+        .into_iter()
+        .enumerate()
+    {
+        let sitting = telling(&with_all_symbols(n, m, tau, t));
+        text += &common(number, &sitting);
+        let [w, d, t_bytes] = [
+            sitting.shape.w(),
+            sitting.shape.witness_length(),
+            t.div_ceil(4),
+        ];
+        let both_rows = [change(3, 0, 1), change(3, t, 1)];
+        text += &several(&sitting, &both_rows);
+        let product_and_consistency = [change(4, 0, 1), change(3, t, 1)];
+        text += &several(&sitting, &product_and_consistency);
+        // The last bits of C, d and ũ: spare, but in the last sitting.
+        for last in [
+            change(0, w - 1, 128),
+            change(1, d - 1, 128),
+            change(2, t_bytes - 1, 128),
+        ] {
+            text += &several(&sitting, &[last]);
+        }
+        text += &exchanged(&sitting);
+        text += &sums(&sitting);
+    }
+    text
+}
+
+/// The case of the first seed at which A, b, y and the witness have 1, 2 and 3 in them; y of two entries 2 and 3.
+fn with_all_symbols(n: usize, m: usize, tau: usize, t: usize) -> Case {
+    let has = |string: &[u8], symbols: &[u8]| {
+        let there: Vec<u8> = (0..4 * string.len())
+            .map(|c| symbol(&FOUR, string, c))
+            .collect();
+        symbols.iter().all(|symbol| there.contains(symbol))
+    };
+    let all = [1, 2, 3];
+    let in_y = if m == 2 { &all[1..] } else { &all[..] };
+    for seed in 0.. {
+        let case = case_over(GF256, FOUR, seed, n, m, tau, t);
+        let key = case.read_key();
+        if has(key.a, &all) && has(key.b, &all) && has(key.y, in_y) && has(&case.witness, &all) {
+            return case;
+        }
+    }
+    unreachable!("some seed has all symbols")
 }
 
 fn heading(what: &str) -> String {
@@ -127,10 +218,17 @@ fn heading(what: &str) -> String {
 }
 
 /// A sitting whose key, witness, χ and Δ are given; its leaves and H′ are still empty.
-fn fixed(field: Field, key: &str, witness: &str, chi: &str, delta: &str) -> Case {
+fn fixed(
+    field: Field,
+    symbols: Alphabet,
+    key: &str,
+    witness: &str,
+    chi: &str,
+    delta: &str,
+) -> Case {
     let key = bytes(key);
     Case {
-        shape: header(field, &key),
+        shape: header(field, symbols, &key),
         key,
         witness: bytes(witness),
         leaves: Vec::new(),
@@ -146,8 +244,8 @@ fn telling(start: &Case) -> Case {
     for seed in 0.. {
         let mut random = Random::new(seed);
         let mut sitting = start.clone();
-        sitting.leaves = random.strings(shape.tau * shape.field.size, shape.l());
-        sitting.h = random.strings(shape.t, shape.k());
+        sitting.leaves = random.strings(&shape.symbols, shape.tau * shape.field.size, shape.l());
+        sitting.h = random.strings(&shape.symbols, shape.t, shape.k());
         if masks_differ(&sitting) && checks_differ(&sitting) && changes_are_refused(&sitting) {
             return sitting;
         }
@@ -167,11 +265,7 @@ fn differ(elements: &[u8]) -> bool {
 /// repetition's coordinates then shows in QS0 and in QS1.
 fn masks_differ(sitting: &Case) -> bool {
     let shape = &sitting.shape;
-    let masks = |z: &[u8]| -> Vec<u8> {
-        (0..shape.tau)
-            .map(|e| shape.field.mask(shape.mask_start(e), z))
-            .collect()
-    };
+    let masks = |z: &[u8]| -> Vec<u8> { (0..shape.tau).map(|e| shape.mask(e, z)).collect() };
     differ(&masks(&u(shape, &sitting.leaves, 0)))
         && (0..shape.tau).all(|e| differ(&masks(&v(shape, &sitting.leaves, e))))
 }
@@ -186,12 +280,13 @@ fn checks_differ(sitting: &Case) -> bool {
 
 /// Whether each change is refused: the first of C by the product check, the second by consistency.
 fn changes_are_refused(sitting: &Case) -> bool {
+    let changes = changes_of(sitting);
     let proof = proof_of(sitting);
     let number = |changes: &[Change]| reply(sitting, &changed(sitting, &proof, changes)) / 65_536;
     number(&[]) == 0
-        && number(&CHANGES[0..1]) == 15
-        && number(&CHANGES[1..2]) == 14
-        && CHANGES.iter().all(|change| number(&[*change]) != 0)
+        && number(&changes[0..1]) == 15
+        && number(&changes[1..2]) == 14
+        && changes.iter().all(|change| number(&[*change]) != 0)
         && (sitting.shape.tau < 3 || reply(sitting, &with_rows_exchanged(sitting, &proof)) != 0)
 }
 
@@ -210,6 +305,7 @@ fn reply(sitting: &Case, proof: &[u8]) -> u32 {
     word(verify(
         &sitting.key,
         sitting.degree(),
+        sitting.alphabet(),
         &sitting.delta,
         &sitting.h,
         &sitting.chi,
@@ -263,7 +359,7 @@ fn common(number: usize, sitting: &Case) -> String {
         text += &line(name, value);
     }
     text += &format!("reply = {}\n", reply(sitting, &proof));
-    for change in &CHANGES {
+    for change in changes_of(sitting) {
         let other = changed(sitting, &proof, &[*change]);
         let read = sections(shape, &other).unwrap();
         let factors: Vec<String> = factors(&key, &sitting.h, &sitting.chi, &sitting.leaves, &read)
@@ -318,7 +414,10 @@ fn sums(sitting: &Case) -> String {
     text += &line("hash", &second_step(&key, leaves, &sitting.h));
     text += &line("batch", &third_step(&key, leaves, witness, &sitting.chi));
     for e in 0..shape.tau {
-        text += &line(&format!("u_{e}"), &pack(&u(shape, leaves, e)));
+        text += &line(
+            &format!("u_{e}"),
+            &pack(&shape.symbols, &u(shape, leaves, e)),
+        );
     }
     for e in 0..shape.tau {
         text += &line(&format!("v_{e}"), &v(shape, leaves, e));

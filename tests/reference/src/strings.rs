@@ -1,45 +1,62 @@
-//! Bit strings, spare bits, counts and sections.
+//! Strings of bits or of symbols, spare bits, counts and sections.
+//!
+//! What 01 says of bits is said here of an alphabet's symbols (02, request 11): "A symbol takes two bits, four to a
+//! byte, lowest first", "so every bit row of c entries becomes a symbol row of ⌈c/4⌉ bytes."
 
-/// "A bit string of L bits takes ⌈L/8⌉ bytes".
-pub fn bytes_for(bits: usize) -> usize {
-    bits.div_ceil(8)
+use crate::alphabet::Alphabet;
+
+/// "A bit string of L bits takes ⌈L/8⌉ bytes", and one of four symbols ⌈L/4⌉ (02, request 11).
+pub fn bytes_for(alphabet: &Alphabet, entries: usize) -> usize {
+    entries.div_ceil(alphabet.in_a_byte())
 }
 
-/// "coordinate c is bit c mod 8 (bit 0 lowest) of byte ⌊c/8⌋."
-pub fn coordinate(string: &[u8], c: usize) -> u8 {
-    (string[c / 8] >> (c % 8)) & 1
+/// The number of the symbol at coordinate c: "coordinate c is bit c mod 8 (bit 0 lowest) of byte ⌊c/8⌋"; of four
+/// symbols each takes "two bits, four to a byte, lowest first".
+pub fn symbol(alphabet: &Alphabet, string: &[u8], c: usize) -> u8 {
+    match alphabet.size {
+        2 => (string[c / 8] >> (c % 8)) & 1,
+        _ => (string[c / 4] >> (2 * (c % 4))) & 3,
+    }
 }
 
-/// The first `bits` coordinates of a string, as a vector of 0 and 1: "coordinate c is bit c mod 8 (bit
-/// 0 lowest) of byte ⌊c/8⌋."
-pub fn unpack(string: &[u8], bits: usize) -> Vec<u8> {
+/// Coordinate c as the element of K that its symbol stands for; a bit stands for 0 or 1.
+pub fn coordinate(alphabet: &Alphabet, string: &[u8], c: usize) -> u8 {
+    alphabet.element(symbol(alphabet, string, c))
+}
+
+/// The first so many coordinates of a string, as a vector of elements of K.
+pub fn unpack(alphabet: &Alphabet, string: &[u8], entries: usize) -> Vec<u8> {
     let mut vector = Vec::new();
-    for c in 0..bits {
-        vector.push(coordinate(string, c));
+    for c in 0..entries {
+        vector.push(coordinate(alphabet, string, c));
     }
     vector
 }
 
-/// The string whose coordinates are the given bits: "coordinate c is bit c mod 8 (bit 0 lowest) of byte
-/// ⌊c/8⌋. Bits past the last coordinate are spare and must be 0."
-pub fn pack(vector: &[u8]) -> Vec<u8> {
-    let mut string = vec![0; bytes_for(vector.len())];
+/// The string whose coordinates are the symbols that stand for the given elements: "Bits past the last coordinate are
+/// spare and must be 0."
+pub fn pack(alphabet: &Alphabet, vector: &[u8]) -> Vec<u8> {
+    let mut string = vec![0; bytes_for(alphabet, vector.len())];
     for c in 0..vector.len() {
-        string[c / 8] |= vector[c] << (c % 8);
+        let symbol = alphabet.symbol(vector[c]);
+        match alphabet.size {
+            2 => string[c / 8] |= symbol << (c % 8),
+            _ => string[c / 4] |= symbol << (2 * (c % 4)),
+        }
     }
     string
 }
 
 /// "Bits past the last coordinate are spare and must be 0."
 ///
-/// Said of each of the strings of `bits` bits that lie one after another in `strings`.
-pub fn spare_bits_are_0(strings: &[u8], bits: usize) -> bool {
-    let length = bytes_for(bits);
+/// Said of each of the strings of so many entries that lie one after another in `strings`.
+pub fn spare_bits_are_0(alphabet: &Alphabet, strings: &[u8], entries: usize) -> bool {
+    let length = bytes_for(alphabet, entries);
     let mut start = 0;
     while start < strings.len() {
         let string = &strings[start..start + length];
-        for c in bits..8 * length {
-            if coordinate(string, c) != 0 {
+        for c in entries..alphabet.in_a_byte() * length {
+            if symbol(alphabet, string, c) != 0 {
                 return false;
             }
         }

@@ -13,7 +13,7 @@ use crate::verifier::sections;
 
 /// What is lent: 01's key (x0·x1 + x0 = 1) and witness, 16 leaves of one byte, H′, χ and a Δ.
 pub fn lent_at_degree_4() -> Case {
-    let shape = Shape::new(2, 1, 1, 1, 4);
+    let shape = Shape::new(2, 1, 1, 1, 4, 2);
     let mut leaves = vec![0; shape.leaves_length()];
     leaves[0x03] = 0x25;
     leaves[0x09] = 0x4A;
@@ -50,7 +50,7 @@ fn proof_of(toy: &Case) -> Vec<u8> {
 }
 
 /// "02 09" and so on.
-fn hex(bytes: &[u8]) -> String {
+pub fn hex(bytes: &[u8]) -> String {
     let words: Vec<String> = bytes.iter().map(|byte| format!("{byte:02X}")).collect();
     match words.is_empty() {
         true => "none".to_string(),
@@ -58,7 +58,7 @@ fn hex(bytes: &[u8]) -> String {
     }
 }
 
-fn row(name: &str, value: String) -> String {
+pub fn row(name: &str, value: String) -> String {
     // By characters, which the format's width counts too.
     format!("{name:<44} {value}\n")
 }
@@ -103,9 +103,9 @@ fn lent(toy: &Case) -> String {
 fn computed(toy: &Case, proof: &[u8]) -> String {
     let shape = &toy.shape;
     let (u_0, v_0) = (u(shape, &toy.leaves, 0), v(shape, &toy.leaves, 0));
-    let mut text = row("u", hex(&pack(&u_0)));
+    let mut text = row("u", hex(&pack(&shape.symbols, &u_0)));
     text += &row("v, an element for each coordinate", hex(&v_0));
-    let mask = |z: &[u8]| hex(&[shape.field.mask(shape.mask_start(0), z)]);
+    let mask = |z: &[u8]| hex(&[shape.mask(0, z)]);
     text += &row("mask A*₁, of u", mask(&u_0));
     text += &row("mask A*₀, of v", mask(&v_0));
     let read = sections(shape, proof).unwrap();
@@ -123,7 +123,7 @@ fn computed(toy: &Case, proof: &[u8]) -> String {
     text + &row("proof's length", proof.len().to_string())
 }
 
-fn said(answer: Answer) -> String {
+pub fn said(answer: Answer) -> String {
     match answer {
         Answer::Accepted => "accepted 0 0".to_string(),
         Answer::Refused { number, place } => format!("refused {number} {place}"),
@@ -137,6 +137,7 @@ fn at(toy: &Case, delta_0: u8, proof: &[u8]) -> Answer {
     verify(
         &toy.key,
         toy.degree(),
+        toy.alphabet(),
         &delta,
         &toy.h,
         &toy.chi,
@@ -148,7 +149,7 @@ fn at(toy: &Case, delta_0: u8, proof: &[u8]) -> Answer {
 fn verified(toy: &Case, proof: &[u8]) -> String {
     let mut text = row(
         "test of key and witness",
-        said(test(&toy.key, toy.degree(), &toy.witness)),
+        said(test(&toy.key, toy.degree(), toy.alphabet(), &toy.witness)),
     );
     text += &row("Δ", hex(&toy.delta));
     text += &row("opened leaves at this Δ", hex(&toy.opened()));
@@ -200,7 +201,7 @@ fn accepted(toy: &Case, proof: &[u8]) -> String {
 fn doctored(toy: &Case, proof: &[u8]) -> String {
     let mut doctored = toy.clone();
     *doctored.key.last_mut().unwrap() = 0x00;
-    let answer = test(&doctored.key, toy.degree(), &toy.witness);
+    let answer = test(&doctored.key, toy.degree(), toy.alphabet(), &toy.witness);
     let mut text = row("key with y = 00, test of the witness", said(answer));
     for change in [0x01, 0x02] {
         let byte = proof[28] ^ change;
@@ -215,11 +216,12 @@ fn doctored(toy: &Case, proof: &[u8]) -> String {
 fn no_elements(toy: &Case, proof: &[u8]) -> String {
     let opened = toy.opened();
     let (key, h) = (&toy.key, &toy.h);
-    let put = |degree, delta, chi| said(verify(key, degree, &[delta], h, &[chi], &opened, proof));
+    let put =
+        |degree, delta, chi| said(verify(key, degree, 2, &[delta], h, &[chi], &opened, proof));
     let (delta, chi) = (toy.delta[0], toy.chi[0]);
     let mut text = row(
         "degree 5, test of key and witness",
-        said(test(key, 5, &toy.witness)),
+        said(test(key, 5, 2, &toy.witness)),
     );
     text += &row("degree 5, verifier", put(5, delta, chi));
     text += &row("χ changed to 10", put(4, delta, 0x10));

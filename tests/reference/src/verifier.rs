@@ -2,7 +2,7 @@
 //!
 //! Every function takes what the questions of `calls` have found well-formed.
 
-use crate::field::{add, bit_times};
+use crate::field::add;
 use crate::key::{Key, Shape};
 use crate::leaves::{hash_of, opened_leaf};
 use crate::strings::{coordinate, exact_sections, spare_bits_are_0, unpack};
@@ -33,21 +33,22 @@ pub fn sections<'a>(shape: &Shape, bytes: &'a [u8]) -> Option<Proof<'a>> {
 }
 
 impl Proof<'_> {
-    /// "Are the spare bits of C, d, ũ 0?" Each C_e has L bits, d has n, ũ has t.
+    /// "Are the spare bits of C, d, ũ 0?" Each C_e has L entries, d has n, ũ has t.
     pub fn spare_bits_are_0(&self, shape: &Shape) -> bool {
-        spare_bits_are_0(self.c, shape.l())
-            && spare_bits_are_0(self.d, shape.n)
-            && spare_bits_are_0(self.u_tilde, shape.t)
+        let symbols = &shape.symbols;
+        spare_bits_are_0(symbols, self.c, shape.l())
+            && spare_bits_are_0(symbols, self.d, shape.n)
+            && spare_bits_are_0(symbols, self.u_tilde, shape.t)
     }
 
-    /// C_e as a vector of L bits: "C_0 is all zero and not sent"; the first correction sent "is
+    /// C_e as a vector of L entries: "C_0 is all zero and not sent"; the first correction sent "is
     /// C_1."
     pub fn correction(&self, shape: &Shape, e: usize) -> Vec<u8> {
         if e == 0 {
             return vec![0; shape.l()];
         }
         let string = &self.c[(e - 1) * shape.w()..e * shape.w()];
-        unpack(string, shape.l())
+        unpack(&shape.symbols, string, shape.l())
     }
 }
 
@@ -59,12 +60,13 @@ pub fn w(shape: &Shape, delta_e: u8, opened_e: &[u8], c_e: &[u8]) -> Vec<u8> {
             let string = opened_leaf(shape, opened_e, delta_e, j);
             let factor = add(j as u8, delta_e);
             for c in 0..shape.l() {
-                w_e[c] = add(w_e[c], bit_times(coordinate(string, c), factor));
+                let symbol = coordinate(&shape.symbols, string, c);
+                w_e[c] = add(w_e[c], shape.field.symbol_times(symbol, factor));
             }
         }
     }
     for c in 0..shape.l() {
-        w_e[c] = add(w_e[c], bit_times(c_e[c], delta_e));
+        w_e[c] = add(w_e[c], shape.field.symbol_times(c_e[c], delta_e));
     }
     w_e
 }
@@ -73,7 +75,8 @@ pub fn w(shape: &Shape, delta_e: u8, opened_e: &[u8], c_e: &[u8]) -> Vec<u8> {
 pub fn k(shape: &Shape, delta_e: u8, w_e: &[u8], d: &[u8]) -> Vec<u8> {
     let mut k_e = Vec::new();
     for c in 0..shape.n {
-        k_e.push(add(w_e[c], bit_times(coordinate(d, c), delta_e)));
+        let symbol = coordinate(&shape.symbols, d, c);
+        k_e.push(add(w_e[c], shape.field.symbol_times(symbol, delta_e)));
     }
     k_e
 }
@@ -91,8 +94,8 @@ pub fn consistency(
     let left = hash_of(shape, h, &w_e);
     for r in 0..shape.t {
         let v_tilde = proof.v_tilde[e * shape.t + r];
-        let u_tilde = coordinate(proof.u_tilde, r);
-        let right = add(v_tilde, bit_times(u_tilde, delta_e));
+        let u_tilde = coordinate(&shape.symbols, proof.u_tilde, r);
+        let right = add(v_tilde, shape.field.symbol_times(u_tilde, delta_e));
         if left[r] != right {
             return false;
         }
@@ -120,11 +123,11 @@ pub fn product_check(
     for i in 0..shape.m {
         let quadratic = key.a_form(i, &k_e, &k_e);
         let linear = field.mul(delta_e, key.b_form(i, &k_e));
-        let constant = bit_times(key.y_bit(i), delta_squared);
+        let constant = field.symbol_times(key.y_entry(i), delta_squared);
         let bracket = add(add(quadratic, linear), constant);
         left = add(left, field.mul(shape.column(chi, e)[i], bracket));
     }
-    left = add(left, field.mask(shape.mask_start(e), &w_e));
+    left = add(left, shape.mask(e, &w_e));
 
     let right = add(proof.qs0[e], field.mul(proof.qs1[e], delta_e));
     left == right

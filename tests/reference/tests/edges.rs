@@ -1,13 +1,13 @@
 //! Edges of the ranges: n = 320, 321, 0, m = 320, 321, t = 288, 289, 0 and τ = 48, 49, 0. m = 0 is taken, and has a
 //! file of its own.
 
-use reference::cases::{case, Case};
+use reference::cases::{case, Case, SETTINGS};
 use reference::strings::write_section;
 use reference::*;
 
 fn whole_proof(case: &Case) {
     assert_eq!(
-        test(&case.key, case.degree(), &case.witness),
+        test(&case.key, case.degree(), case.alphabet(), &case.witness),
         Answer::Accepted
     );
     let mut proof = vec![0; case.proof_length()];
@@ -15,6 +15,7 @@ fn whole_proof(case: &Case) {
         prove(
             &case.key,
             case.degree(),
+            case.alphabet(),
             &case.leaves,
             &case.witness,
             &case.h,
@@ -27,6 +28,7 @@ fn whole_proof(case: &Case) {
         verify(
             &case.key,
             case.degree(),
+            case.alphabet(),
             &case.delta,
             &case.h,
             &case.chi,
@@ -39,21 +41,35 @@ fn whole_proof(case: &Case) {
 
 #[test]
 fn taken_at_the_highest() {
-    for degree in [8, 4] {
-        whole_proof(&case(1, 320, 2, 2, 3, degree));
-        whole_proof(&case(2, 3, 320, 2, 3, degree));
-        whole_proof(&case(3, 3, 2, 48, 3, degree));
-        whole_proof(&case(4, 3, 2, 2, 288, degree));
-        whole_proof(&case(5, 1, 1, 1, 1, degree));
+    for (degree, alphabet) in SETTINGS {
+        whole_proof(&case(1, 320, 2, 2, 3, degree, alphabet));
+        whole_proof(&case(2, 3, 320, 2, 3, degree, alphabet));
+        whole_proof(&case(3, 3, 2, 48, 3, degree, alphabet));
+        whole_proof(&case(4, 3, 2, 2, 288, degree, alphabet));
+        whole_proof(&case(5, 1, 1, 1, 1, degree, alphabet));
     }
-    whole_proof(&case(6, 160, 160, 48, 160, 8));
-    whole_proof(&case(7, 320, 320, 2, 288, 8));
+    whole_proof(&case(6, 160, 160, 48, 160, 8, 2));
+    whole_proof(&case(7, 320, 320, 2, 288, 8, 2));
 }
 
 /// "sixteen leaves per tree: 150 variables, 43 repetitions (document 003)" (02, request 3).
 #[test]
 fn the_fast_set() {
-    whole_proof(&case(8, 150, 150, 43, 144, 4));
+    whole_proof(&case(8, 150, 150, 43, 144, 4, 2));
+}
+
+/// "document 003's set over GF(4) with 88 variables and 17 repetitions" (02, request 11). 003 asks t for 4^-t = 2^-144.
+#[test]
+fn the_four_valued_set() {
+    whole_proof(&case(8, 88, 88, 17, 72, 8, 4));
+}
+
+/// All limits but m, of four symbols: the longest leaves, of 200 bytes.
+#[test]
+fn the_longest_leaves() {
+    let case = case(12, 320, 1, 48, 288, 8, 4);
+    assert_eq!(case.shape.w(), 200);
+    whole_proof(&case);
 }
 
 /// "every key served before gets the same replies", and those past the limits of 01 go on to the other questions: a
@@ -62,9 +78,9 @@ fn the_fast_set() {
 fn headers_alone() {
     for (place, lowest, highest) in [(0, 1, 320), (1, 0, 320), (2, 1, 48), (3, 1, 288)] {
         for number in [0, 1, 47, 160, 161, 255, 256, 257, highest, highest + 1] {
-            for degree in [8, 4] {
+            for (degree, alphabet) in SETTINGS {
                 let taken = (lowest..=highest).contains(&number);
-                let answer = test(&with_number(place, number)[..8], degree, &[0]);
+                let answer = test(&with_number(place, number)[..8], degree, alphabet, &[0]);
                 assert_eq!(word(answer), if taken { 3 } else { 2 } * 65_536);
             }
         }
@@ -73,7 +89,7 @@ fn headers_alone() {
 
 /// The key of a case, one number of its header replaced: "n, m, τ, t, two bytes each".
 fn with_number(place: usize, number: usize) -> Vec<u8> {
-    let mut key = case(9, 5, 3, 2, 4, 8).key;
+    let mut key = case(9, 5, 3, 2, 4, 8, 2).key;
     key[2 * place] = (number % 256) as u8;
     key[2 * place + 1] = (number / 256) as u8;
     key
@@ -81,11 +97,12 @@ fn with_number(place: usize, number: usize) -> Vec<u8> {
 
 #[test]
 fn refused_2_outside() {
-    refused_2_outside_at(8);
-    refused_2_outside_at(4);
+    for (degree, alphabet) in SETTINGS {
+        refused_2_outside_at(degree, alphabet);
+    }
 }
 
-fn refused_2_outside_at(degree: u32) {
+fn refused_2_outside_at(degree: u32, alphabet: u32) {
     let refused_2 = Answer::Refused {
         number: 2,
         place: 0,
@@ -96,19 +113,28 @@ fn refused_2_outside_at(degree: u32) {
             if [place, outside] == [1, 0] {
                 continue;
             }
-            assert_eq!(test(&with_number(place, outside), degree, &[0]), refused_2);
+            assert_eq!(
+                test(&with_number(place, outside), degree, alphabet, &[0]),
+                refused_2
+            );
             // Also where the whole key has the length of such a shape, and so only 2 is left.
             if outside == highest + 1 {
                 let mut numbers = [5, 3, 2, 4];
                 numbers[place] = outside;
-                let larger = case(9, numbers[0], numbers[1], numbers[2], numbers[3], degree);
-                assert_eq!(test(&larger.key, degree, &larger.witness), refused_2);
+                let larger = case(
+                    9, numbers[0], numbers[1], numbers[2], numbers[3], degree, alphabet,
+                );
+                assert_eq!(
+                    test(&larger.key, degree, alphabet, &larger.witness),
+                    refused_2
+                );
                 let mut out = vec![0xEE; larger.proof_length()];
                 let before = out.clone();
                 assert_eq!(
                     prove(
                         &larger.key,
                         degree,
+                        alphabet,
                         &larger.leaves,
                         &larger.witness,
                         &larger.h,
@@ -122,6 +148,7 @@ fn refused_2_outside_at(degree: u32) {
                     verify(
                         &larger.key,
                         degree,
+                        alphabet,
                         &larger.delta,
                         &larger.h,
                         &larger.chi,
@@ -137,12 +164,13 @@ fn refused_2_outside_at(degree: u32) {
 
 #[test]
 fn refused_3_with_counts_up_to_the_highest() {
-    refused_3_at(8);
-    refused_3_at(4);
+    for (degree, alphabet) in SETTINGS {
+        refused_3_at(degree, alphabet);
+    }
 }
 
-fn refused_3_at(degree: u32) {
-    let case = case(9, 5, 3, 2, 4, degree);
+fn refused_3_at(degree: u32, alphabet: u32) {
+    let case = case(9, 5, 3, 2, 4, degree, alphabet);
     let refused_3 = Answer::Refused {
         number: 3,
         place: 0,
@@ -155,26 +183,38 @@ fn refused_3_at(degree: u32) {
             let right = key[place..place + 4].to_vec();
             key[place..place + 4].copy_from_slice(&count.to_le_bytes());
             if key[place..place + 4] != right {
-                assert_eq!(test(&key, case.degree(), &case.witness), refused_3);
+                assert_eq!(
+                    test(&key, case.degree(), case.alphabet(), &case.witness),
+                    refused_3
+                );
             }
         }
     }
     // Every cut past the header, and a byte more.
     for length in 8..case.key.len() {
         assert_eq!(
-            test(&case.key[..length], case.degree(), &case.witness),
+            test(
+                &case.key[..length],
+                case.degree(),
+                case.alphabet(),
+                &case.witness
+            ),
             refused_3
         );
     }
     let mut longer = case.key.clone();
     longer.push(0);
-    assert_eq!(test(&longer, case.degree(), &case.witness), refused_3);
+    assert_eq!(
+        test(&longer, case.degree(), case.alphabet(), &case.witness),
+        refused_3
+    );
     // The same in the proof: 12.
     let mut proof = vec![0; case.proof_length()];
     assert_eq!(
         prove(
             &case.key,
             case.degree(),
+            case.alphabet(),
             &case.leaves,
             &case.witness,
             &case.h,
@@ -188,6 +228,7 @@ fn refused_3_at(degree: u32) {
         verify(
             &case.key,
             case.degree(),
+            case.alphabet(),
             &case.delta,
             &case.h,
             &case.chi,
@@ -222,17 +263,19 @@ fn refused_3_at(degree: u32) {
 /// or longer, and also the next one longer or shorter by a byte, so that the whole length is right.
 #[test]
 fn refused_3_and_12_with_counts_that_fit_the_bytes() {
-    refused_3_and_12_at(8);
-    refused_3_and_12_at(4);
+    for (degree, alphabet) in SETTINGS {
+        refused_3_and_12_at(degree, alphabet);
+    }
 }
 
-fn refused_3_and_12_at(degree: u32) {
-    let case = case(10, 5, 3, 2, 4, degree);
+fn refused_3_and_12_at(degree: u32, alphabet: u32) {
+    let case = case(10, 5, 3, 2, 4, degree, alphabet);
     let mut proof = vec![0; case.proof_length()];
     assert_eq!(
         prove(
             &case.key,
             case.degree(),
+            case.alphabet(),
             &case.leaves,
             &case.witness,
             &case.h,
@@ -248,7 +291,10 @@ fn refused_3_and_12_at(degree: u32) {
         for length in lengths {
             write_section(&mut key, &vec![0; length]);
         }
-        assert_eq!(word(test(&key, case.degree(), &case.witness)), 3 * 65_536);
+        assert_eq!(
+            word(test(&key, case.degree(), case.alphabet(), &case.witness)),
+            3 * 65_536
+        );
     }
     for lengths in other_lengths(&case.shape.proof_sections()) {
         let mut other = Vec::new();
@@ -258,6 +304,7 @@ fn refused_3_and_12_at(degree: u32) {
         let answer = verify(
             &case.key,
             case.degree(),
+            case.alphabet(),
             &case.delta,
             &case.h,
             &case.chi,
@@ -288,18 +335,30 @@ fn other_lengths(right: &[usize]) -> Vec<Vec<usize>> {
 }
 
 /// "matrix 0 row 0 first": the form of one bit alone. Answers cannot show a transposed A_i, since
-/// xᵀA_i·x is also xᵀA_iᵀ·x; this does.
+/// xᵀA_i·x is also xᵀA_iᵀ·x; this does. With four symbols too.
 #[test]
 fn rows_and_columns_of_a() {
-    let case = case(11, 10, 3, 1, 1, 8);
+    for (degree, alphabet) in SETTINGS {
+        rows_and_columns_of_a_at(degree, alphabet);
+    }
+}
+
+fn rows_and_columns_of_a_at(degree: u32, alphabet: u32) {
+    let case = case(11, 10, 3, 1, 1, degree, alphabet);
     let key = case.read_key();
     let unit = |place: usize| -> Vec<u8> { (0..10).map(|c| (c == place) as u8).collect() };
     for i in 0..3 {
         for row in 0..10 {
             for column in 0..10 {
-                let byte = key.a[(i * 10 + row) * 2 + column / 8];
-                let bit = (byte >> (column % 8)) & 1;
-                assert_eq!(key.a_form(i, &unit(row), &unit(column)), bit);
+                let entry = if alphabet == 4 {
+                    let byte = key.a[(i * 10 + row) * 3 + column / 4];
+                    [0x00, 0x01, 0xBC, 0xBD][(byte >> (2 * (column % 4))) as usize & 3]
+                } else {
+                    let byte = key.a[(i * 10 + row) * 2 + column / 8];
+                    (byte >> (column % 8)) & 1
+                };
+                assert_eq!(key.a_form(i, &unit(row), &unit(column)), entry);
+                assert_eq!(key.a_entry(i, row, column), entry);
             }
         }
     }

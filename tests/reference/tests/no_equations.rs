@@ -1,7 +1,7 @@
 //! Keys with no equations (02, request 12): "m = 0 is taken: A, b and y are empty, χ has no bytes, and QS0 and QS1 are
 //! the masks alone."
 
-use reference::cases::{case, Case};
+use reference::cases::{case, Case, SETTINGS};
 use reference::check::line;
 use reference::factors::{batched_error, candidate, factors};
 use reference::leaves::{u, v};
@@ -9,12 +9,19 @@ use reference::strings::write_section;
 use reference::verifier::sections;
 use reference::*;
 
-const DEGREES: [u32; 2] = [8, 4];
-
 fn proof_of(case: &Case, witness: &[u8]) -> Vec<u8> {
     let mut out = vec![0xEE; case.proof_length()];
-    let (key, degree) = (&case.key, case.degree());
-    let answer = prove(key, degree, &case.leaves, witness, &case.h, &[], &mut out);
+    let (degree, alphabet) = (case.degree(), case.alphabet());
+    let answer = prove(
+        &case.key,
+        degree,
+        alphabet,
+        &case.leaves,
+        witness,
+        &case.h,
+        &[],
+        &mut out,
+    );
     assert_eq!(answer, Answer::Accepted);
     out
 }
@@ -24,6 +31,7 @@ fn verify_at(case: &Case, delta: &[u8], proof: &[u8]) -> Answer {
     verify(
         &case.key,
         case.degree(),
+        case.alphabet(),
         delta,
         &case.h,
         &[],
@@ -36,20 +44,23 @@ fn verify_at(case: &Case, delta: &[u8], proof: &[u8]) -> Answer {
 #[test]
 fn the_key() {
     let key = [5, 0, 0, 0, 2, 0, 4, 0, 0, 0, 0, 0, 0, 0, 0, 0, 0, 0, 0, 0];
-    for degree in DEGREES {
-        let case = case(1, 5, 0, 2, 4, degree);
+    for (degree, alphabet) in SETTINGS {
+        let case = case(1, 5, 0, 2, 4, degree, alphabet);
         assert_eq!(case.key, key);
         assert_eq!([case.shape.key_length(), case.shape.chi_length()], [20, 0]);
         assert_eq!(case.shape.key_sections(), [0, 0, 0]);
-        assert_eq!(test(&key, degree, &case.witness), Answer::Accepted);
+        assert_eq!(
+            test(&key, degree, alphabet, &case.witness),
+            Answer::Accepted
+        );
     }
 }
 
 /// Other lengths and counts are 3; "n, τ, t" of 0, also beside m = 0, are 2.
 #[test]
 fn refused_keys() {
-    let key = case(1, 5, 0, 2, 4, 8).key;
-    let number = |key: &[u8]| word(test(key, 8, &[0])) / 65_536;
+    let key = case(1, 5, 0, 2, 4, 8, 2).key;
+    let number = |key: &[u8]| word(test(key, 8, 2, &[0])) / 65_536;
     for length in 0..20 {
         assert_eq!(number(&key[..length]), if length < 8 { 1 } else { 3 });
     }
@@ -82,29 +93,33 @@ fn refused_keys() {
 /// "practice keys that any witness fits": 11 never, 9 as ever.
 #[test]
 fn any_witness_fits() {
-    for degree in DEGREES {
-        let case = case(2, 5, 0, 2, 4, degree);
+    for (degree, alphabet) in SETTINGS {
+        let case = case(2, 5, 0, 2, 4, degree, alphabet);
         for byte in 0..=255u8 {
-            let fits = byte < 32;
+            // Five entries: five bits, or a byte and a symbol.
+            let (witness, fits) = match alphabet {
+                4 => (vec![byte.wrapping_mul(31), byte], byte < 4),
+                _ => (vec![byte], byte < 32),
+            };
             let expected = if fits { 0 } else { 9 * 65_536 };
-            assert_eq!(word(test(&case.key, degree, &[byte])), expected);
+            assert_eq!(word(test(&case.key, degree, alphabet, &witness)), expected);
             let mut first = vec![0; case.shape.commit_length()];
             let mut third = vec![0; case.shape.batch_length()];
             let (key, leaves) = (&case.key, &case.leaves);
             let answers = [
-                commit(key, degree, leaves, &[byte], &mut first),
-                batch(key, degree, leaves, &[byte], &[], &mut third),
+                commit(key, degree, alphabet, leaves, &witness, &mut first),
+                batch(key, degree, alphabet, leaves, &witness, &[], &mut third),
             ];
             assert_eq!(answers.map(word), [expected; 2]);
             if fits {
-                let proof = proof_of(&case, &[byte]);
+                let proof = proof_of(&case, &witness);
                 assert_eq!(verify_at(&case, &case.delta, &proof), Answer::Accepted);
                 assert_eq!(proof[..first.len()], first);
                 assert_eq!(proof[proof.len() - third.len()..], third);
             }
         }
-        for witness in [&[][..], &[0, 0][..]] {
-            assert_eq!(word(test(&case.key, degree, witness)), 9 * 65_536);
+        for witness in [&[][..], &[0; 3][..], &[0, 0][case.witness.len() - 1..]] {
+            assert_eq!(word(test(&case.key, degree, alphabet, witness)), 9 * 65_536);
         }
     }
 }
@@ -112,17 +127,27 @@ fn any_witness_fits() {
 /// "χ has no bytes": one byte, also of 0, or a column is 5.
 #[test]
 fn chi_is_empty() {
-    for degree in DEGREES {
-        let case = case(3, 5, 0, 2, 4, degree);
+    for (degree, alphabet) in SETTINGS {
+        let case = case(3, 5, 0, 2, 4, degree, alphabet);
         let proof = proof_of(&case, &case.witness);
         let (key, opened) = (&case.key, case.opened());
         for chi in [&[0][..], &[0, 0], &[0x10]] {
-            let answer = verify(key, degree, &case.delta, &case.h, chi, &opened, &proof);
+            let answer = verify(
+                key,
+                degree,
+                alphabet,
+                &case.delta,
+                &case.h,
+                chi,
+                &opened,
+                &proof,
+            );
             assert_eq!(word(answer), 5 * 65_536);
             let mut out = vec![0xEE; proof.len()];
             let answer = prove(
                 key,
                 degree,
+                alphabet,
                 &case.leaves,
                 &case.witness,
                 &case.h,
@@ -131,7 +156,15 @@ fn chi_is_empty() {
             );
             assert_eq!(word(answer), 5 * 65_536);
             let mut out = vec![0xEE; case.shape.batch_length()];
-            let answer = batch(key, degree, &case.leaves, &case.witness, chi, &mut out);
+            let answer = batch(
+                key,
+                degree,
+                alphabet,
+                &case.leaves,
+                &case.witness,
+                chi,
+                &mut out,
+            );
             assert_eq!(word(answer), 5 * 65_536);
             assert!(out.iter().all(|byte| *byte == 0xEE));
         }
@@ -141,9 +174,9 @@ fn chi_is_empty() {
 /// "QS0 and QS1 are the masks alone."
 #[test]
 fn the_masks_alone() {
-    for degree in DEGREES {
+    for (degree, alphabet) in SETTINGS {
         for seed in 0..10 {
-            let case = case(seed, 1 + seed as usize, 0, 3, 2, degree);
+            let case = case(seed, 1 + seed as usize, 0, 3, 2, degree, alphabet);
             let shape = case.shape;
             let proof = proof_of(&case, &case.witness);
             let read = sections(&shape, &proof).unwrap();
@@ -151,8 +184,10 @@ fn the_masks_alone() {
             for e in 0..3 {
                 let mut masks = [0, 0];
                 let v_e = v(&shape, &case.leaves, e);
-                for s in 0..shape.field.degree {
-                    let c = shape.n + shape.field.degree * e + s;
+                // "r coordinates for each repetition, r the degree"; with four symbols, four.
+                let r = if alphabet == 4 { 4 } else { degree as usize };
+                for s in 0..r {
+                    let c = shape.n + r * e + s;
                     masks[0] ^= shape.field.mul(1 << s, v_e[c]);
                     masks[1] ^= shape.field.mul(1 << s, u_0[c]);
                 }
@@ -172,7 +207,7 @@ fn the_toys_without_their_equation() {
     leaves[6] = 0x02;
     leaves[7] = 0x04;
     let mut out = vec![0xEE; 29];
-    let answer = prove(&key, 8, &leaves, &[0x01], &[0x05, 0x00], &[], &mut out);
+    let answer = prove(&key, 8, 2, &leaves, &[0x01], &[0x05, 0x00], &[], &mut out);
     assert_eq!(answer, Answer::Accepted);
     assert_eq!(
         [out[8], out[13], out[18], out[23], out[28]],
@@ -180,7 +215,7 @@ fn the_toys_without_their_equation() {
     );
 
     let toy = toys::lent_at_degree_4();
-    let answer = prove(&key, 4, &toy.leaves, &[0x01], &toy.h, &[], &mut out);
+    let answer = prove(&key, 4, 2, &toy.leaves, &[0x01], &toy.h, &[], &mut out);
     assert_eq!(answer, Answer::Accepted);
     assert_eq!(
         [out[8], out[13], out[18], out[23], out[28]],
@@ -191,8 +226,8 @@ fn the_toys_without_their_equation() {
 /// Every Δ of one repetition, and all 256 of two at degree 4.
 #[test]
 fn accepted_at_every_delta() {
-    for (degree, tau) in [(8, 1), (4, 1), (4, 2)] {
-        let case = case(5, 6, 0, tau, 3, degree);
+    for (degree, alphabet, tau) in [(8, 2, 1), (4, 2, 1), (4, 2, 2), (8, 4, 1)] {
+        let case = case(5, 6, 0, tau, 3, degree, alphabet);
         let proof = proof_of(&case, &case.witness);
         let size = 1usize << degree;
         for number in 0..size.pow(tau as u32) {
@@ -208,8 +243,8 @@ fn accepted_at_every_delta() {
 /// by nothing.
 #[test]
 fn factors_are_0_1_or_the_size() {
-    for degree in DEGREES {
-        let case = case(6, 3, 0, 2, 2, degree);
+    for (degree, alphabet) in SETTINGS {
+        let case = case(6, 3, 0, 2, 2, degree, alphabet);
         let size = case.shape.field.size;
         let honest = proof_of(&case, &case.witness);
         let key = case.read_key();
@@ -242,7 +277,7 @@ fn factors_are_0_1_or_the_size() {
 /// "The single empty column counts as one column with sum zero."
 #[test]
 fn the_empty_column() {
-    let case = case(7, 4, 0, 2, 2, 4);
+    let case = case(7, 4, 0, 2, 2, 4, 2);
     let key = case.read_key();
     let proof = proof_of(&case, &case.witness);
     let read = sections(&case.shape, &proof).unwrap();
@@ -257,7 +292,7 @@ fn the_empty_column() {
 /// The check program reads an empty section for χ.
 #[test]
 fn the_check_program() {
-    let case = case(8, 2, 0, 1, 1, 8);
+    let case = case(8, 2, 0, 1, 1, 8, 2);
     let proof = proof_of(&case, &case.witness);
     let lines = [&[][..], &[0][..]].map(|chi| {
         let mut input = Vec::new();
@@ -278,8 +313,8 @@ fn the_check_program() {
 
 #[test]
 fn the_highest_with_no_equations() {
-    for degree in DEGREES {
-        let case = case(9, 320, 0, 48, 288, degree);
+    for (degree, alphabet) in SETTINGS {
+        let case = case(9, 320, 0, 48, 288, degree, alphabet);
         let proof = proof_of(&case, &case.witness);
         assert_eq!(verify_at(&case, &case.delta, &proof), Answer::Accepted);
     }

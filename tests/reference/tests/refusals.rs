@@ -1,6 +1,7 @@
 //! Every refusal, the order of the questions, and outputs left as they were.
 
-use reference::cases::{case, Case};
+use reference::cases::{case, key_bytes, Case, SETTINGS};
+use reference::key::Shape;
 use reference::strings::bytes_for;
 use reference::*;
 
@@ -9,6 +10,7 @@ use reference::*;
 struct Lent {
     key: Vec<u8>,
     degree: u32,
+    alphabet: u32,
     witness: Vec<u8>,
     leaves: Vec<u8>,
     h: Vec<u8>,
@@ -19,22 +21,22 @@ struct Lent {
     out: [usize; 4],
 }
 
-const DEGREES: [u32; 2] = [8, 4];
-
 /// Three equations.
-fn sitting(degree: u32) -> (Case, Lent) {
-    sitting_of(degree, 3)
+fn sitting(degree: u32, alphabet: u32) -> (Case, Lent) {
+    sitting_of(degree, alphabet, 3, 4)
 }
 
-fn sitting_of(degree: u32, m: usize) -> (Case, Lent) {
-    // n, m, k, L and t leave spare bits: k = 29, L = 33 at degree 8, k = 17, L = 21 at degree 4.
-    let case = case(31, 5, m, 3, 4, degree);
+fn sitting_of(degree: u32, alphabet: u32, m: usize, t: usize) -> (Case, Lent) {
+    // With t = 4: k = 29, L = 33 at degree 8 and alphabet 2, k = 17, L = 21 at the others. n, m, k and L leave spare
+    // bits, and t at alphabet 2; at alphabet 4 it does with t = 5.
+    let case = case(31, 5, m, 3, t, degree, alphabet);
     let shape = case.shape;
     let mut proof = vec![0; case.proof_length()];
     assert_eq!(
         prove(
             &case.key,
             degree,
+            alphabet,
             &case.leaves,
             &case.witness,
             &case.h,
@@ -46,6 +48,7 @@ fn sitting_of(degree: u32, m: usize) -> (Case, Lent) {
     let lent = Lent {
         key: case.key.clone(),
         degree,
+        alphabet,
         witness: case.witness.clone(),
         leaves: case.leaves.clone(),
         h: case.h.clone(),
@@ -70,12 +73,12 @@ const CALLS: [&str; 6] = ["test", "commit", "hash", "batch", "prove", "verify"];
 /// there" (02, request 12), and of the challenges that 17 speaks of only Δ has bytes.
 fn questions(call: &str, degree: u32, m: usize) -> Vec<u32> {
     let mut numbers = match call {
-        "test" => vec![16, 1, 2, 3, 4, 9, 11],
-        "commit" => vec![16, 1, 2, 3, 4, 7, 8, 9, 10, 11],
-        "hash" => vec![16, 1, 2, 3, 4, 5, 6, 7, 8, 10],
-        "batch" => vec![16, 1, 2, 3, 4, 5, 17, 7, 8, 9, 10, 11],
-        "prove" => vec![16, 1, 2, 3, 4, 5, 6, 17, 7, 8, 9, 10, 11],
-        _ => vec![16, 1, 2, 3, 4, 5, 6, 17, 7, 8, 12, 13, 18, 14, 15],
+        "test" => vec![16, 24, 1, 2, 3, 4, 9, 11],
+        "commit" => vec![16, 24, 1, 2, 3, 4, 7, 8, 9, 10, 11],
+        "hash" => vec![16, 24, 1, 2, 3, 4, 5, 6, 7, 8, 10],
+        "batch" => vec![16, 24, 1, 2, 3, 4, 5, 17, 7, 8, 9, 10, 11],
+        "prove" => vec![16, 24, 1, 2, 3, 4, 5, 6, 17, 7, 8, 9, 10, 11],
+        _ => vec![16, 24, 1, 2, 3, 4, 5, 6, 17, 7, 8, 12, 13, 18, 14, 15],
     };
     numbers.retain(|number| degree == 4 || ![17, 18].contains(number));
     if m == 0 {
@@ -88,7 +91,8 @@ fn questions(call: &str, degree: u32, m: usize) -> Vec<u32> {
 /// Puts a call; looks that a refusal leaves the output as it was, and that an acceptance writes
 /// its sections of the honest proof.
 fn put(call: &str, lent: &Lent, honest: &[u8]) -> Answer {
-    let (key, degree, leaves) = (&lent.key, lent.degree, &lent.leaves);
+    let (key, degree, alphabet) = (&lent.key, lent.degree, lent.alphabet);
+    let leaves = &lent.leaves;
     let [first, second, third, whole] = lent.out;
     // The output of the call, and where its sections start in the proof.
     let (mut out, start) = match call {
@@ -99,13 +103,22 @@ fn put(call: &str, lent: &Lent, honest: &[u8]) -> Answer {
         _ => (Vec::new(), 0),
     };
     let answer = match call {
-        "test" => test(key, degree, &lent.witness),
-        "commit" => commit(key, degree, leaves, &lent.witness, &mut out),
-        "hash" => hash(key, degree, leaves, &lent.h, &mut out),
-        "batch" => batch(key, degree, leaves, &lent.witness, &lent.chi, &mut out),
+        "test" => test(key, degree, alphabet, &lent.witness),
+        "commit" => commit(key, degree, alphabet, leaves, &lent.witness, &mut out),
+        "hash" => hash(key, degree, alphabet, leaves, &lent.h, &mut out),
+        "batch" => batch(
+            key,
+            degree,
+            alphabet,
+            leaves,
+            &lent.witness,
+            &lent.chi,
+            &mut out,
+        ),
         "prove" => prove(
             key,
             degree,
+            alphabet,
             leaves,
             &lent.witness,
             &lent.h,
@@ -115,6 +128,7 @@ fn put(call: &str, lent: &Lent, honest: &[u8]) -> Answer {
         _ => verify(
             key,
             degree,
+            alphabet,
             &lent.delta,
             &lent.h,
             &lent.chi,
@@ -136,32 +150,37 @@ fn spoil(number: u32, call: &str, lent: &mut Lent) {
         1 => lent.key.truncate(7),
         2 => lent.key[0] = 0,
         3 => lent.key[8] ^= 1,
-        4 => lent.key[12] |= 0x80,
+        4 => {
+            // The last byte of row 0 of A.
+            let last = 12 + lent.witness.len() - 1;
+            lent.key[last] |= 0x80;
+        }
         5 => match call {
             "hash" => lent.h.push(0),
             "batch" => lent.chi.push(0),
             "prove" => lent.chi.push(0),
             _ => lent.delta.push(0),
         },
-        6 => lent.h[row(lent.degree) - 1] |= 0x80,
+        6 => lent.h[row(lent.degree, lent.alphabet) - 1] |= 0x80,
         7 => {
             lent.leaves.push(0);
             lent.opened.push(0);
         }
         8 => {
-            lent.leaves[w(lent.degree) - 1] |= 0x80;
-            lent.opened[w(lent.degree) - 1] |= 0x80;
+            lent.leaves[w(lent.degree, lent.alphabet) - 1] |= 0x80;
+            lent.opened[w(lent.degree, lent.alphabet) - 1] |= 0x80;
         }
-        9 => lent.witness[0] |= 0x80,
+        9 => *lent.witness.last_mut().unwrap() |= 0x80,
         10 => lent.out = lent.out.map(|length| length + 1),
         11 => {
             // y has one byte, the last of the key: equation 1 now fails.
             let last = lent.key.len() - 1;
-            lent.key[last] ^= 0b10;
+            lent.key[last] ^= if lent.alphabet == 4 { 0b1000 } else { 0b10 };
         }
         12 => lent.proof.push(0),
-        13 => lent.proof[4 + w(lent.degree) - 1] |= 0x80,
+        13 => lent.proof[4 + w(lent.degree, lent.alphabet) - 1] |= 0x80,
         16 => lent.degree += 1,
+        24 => lent.alphabet += 1,
         17 => match call {
             "verify" => lent.delta[2] |= 0x10,
             _ => *lent.chi.last_mut().unwrap() |= 0x10,
@@ -180,19 +199,21 @@ fn spoil(number: u32, call: &str, lent: &mut Lent) {
     }
 }
 
-/// The bytes of a leaf: L is 33 at degree 8, 21 at degree 4.
-fn w(degree: u32) -> usize {
-    match degree {
-        4 => 3,
-        _ => 5,
+/// The bytes of a leaf: L is 33 at degree 8, 21 at degree 4, 21 at alphabet 4.
+fn w(degree: u32, alphabet: u32) -> usize {
+    match (degree, alphabet) {
+        (8, 2) => 5,
+        (4, 2) => 3,
+        _ => 6,
     }
 }
 
-/// The bytes of a row of H′: k is 29 at degree 8, 17 at degree 4.
-fn row(degree: u32) -> usize {
-    match degree {
-        4 => 3,
-        _ => 4,
+/// The bytes of a row of H′: k is 29 at degree 8, 17 at degree 4, 17 at alphabet 4.
+fn row(degree: u32, alphabet: u32) -> usize {
+    match (degree, alphabet) {
+        (8, 2) => 4,
+        (4, 2) => 3,
+        _ => 5,
     }
 }
 
@@ -207,14 +228,14 @@ fn place_of(number: u32) -> u32 {
 
 #[test]
 fn honest_is_accepted_by_every_call() {
-    for degree in DEGREES {
-        honest_is_accepted_by_every_call_at(degree, 3);
-        honest_is_accepted_by_every_call_at(degree, 0);
+    for (degree, alphabet) in SETTINGS {
+        honest_is_accepted_by_every_call_at(degree, alphabet, 3);
+        honest_is_accepted_by_every_call_at(degree, alphabet, 0);
     }
 }
 
-fn honest_is_accepted_by_every_call_at(degree: u32, m: usize) {
-    let (_, lent) = sitting_of(degree, m);
+fn honest_is_accepted_by_every_call_at(degree: u32, alphabet: u32, m: usize) {
+    let (_, lent) = sitting_of(degree, alphabet, m, 4);
     for call in CALLS {
         assert_eq!(put(call, &lent, &lent.proof), Answer::Accepted);
     }
@@ -222,14 +243,14 @@ fn honest_is_accepted_by_every_call_at(degree: u32, m: usize) {
 
 #[test]
 fn every_refusal_of_every_call() {
-    for degree in DEGREES {
-        every_refusal_of_every_call_at(degree, 3);
-        every_refusal_of_every_call_at(degree, 0);
+    for (degree, alphabet) in SETTINGS {
+        every_refusal_of_every_call_at(degree, alphabet, 3);
+        every_refusal_of_every_call_at(degree, alphabet, 0);
     }
 }
 
-fn every_refusal_of_every_call_at(degree: u32, m: usize) {
-    let (_, lent) = sitting_of(degree, m);
+fn every_refusal_of_every_call_at(degree: u32, alphabet: u32, m: usize) {
+    let (_, lent) = sitting_of(degree, alphabet, m, 4);
     for call in CALLS {
         for number in questions(call, degree, m) {
             let mut spoiled = lent.clone();
@@ -246,14 +267,14 @@ fn every_refusal_of_every_call_at(degree: u32, m: usize) {
 /// "in this order": where two questions get a no, the call ends with the earlier.
 #[test]
 fn the_earlier_question_ends_the_call() {
-    for degree in DEGREES {
-        the_earlier_question_ends_the_call_at(degree, 3);
-        the_earlier_question_ends_the_call_at(degree, 0);
+    for (degree, alphabet) in SETTINGS {
+        the_earlier_question_ends_the_call_at(degree, alphabet, 3);
+        the_earlier_question_ends_the_call_at(degree, alphabet, 0);
     }
 }
 
-fn the_earlier_question_ends_the_call_at(degree: u32, m: usize) {
-    let (_, lent) = sitting_of(degree, m);
+fn the_earlier_question_ends_the_call_at(degree: u32, alphabet: u32, m: usize) {
+    let (_, lent) = sitting_of(degree, alphabet, m, 4);
     for call in CALLS {
         let numbers = questions(call, degree, m);
         for (index, earlier) in numbers.iter().enumerate() {
@@ -273,13 +294,13 @@ fn the_earlier_question_ends_the_call_at(degree: u32, m: usize) {
 /// the calls that take both, and each alone is enough for a no.
 #[test]
 fn question_5_is_one_question() {
-    for degree in DEGREES {
-        question_5_is_one_question_at(degree);
+    for (degree, alphabet) in SETTINGS {
+        question_5_is_one_question_at(degree, alphabet);
     }
 }
 
-fn question_5_is_one_question_at(degree: u32) {
-    let (_, lent) = sitting(degree);
+fn question_5_is_one_question_at(degree: u32, alphabet: u32) {
+    let (_, lent) = sitting(degree, alphabet);
     let number_of = |call: &str, spoil: &dyn Fn(&mut Lent)| {
         let mut spoiled = lent.clone();
         spoil(&mut spoiled);
@@ -301,7 +322,7 @@ fn question_5_is_one_question_at(degree: u32) {
         // Wrong χ before the spare bits of H′.
         let both = |lent: &mut Lent| {
             change(&mut lent.chi);
-            lent.h[row(lent.degree) - 1] |= 0x80;
+            lent.h[row(lent.degree, lent.alphabet) - 1] |= 0x80;
         };
         assert_eq!(number_of("prove", &both), 5);
         assert_eq!(number_of("verify", &both), 5);
@@ -311,20 +332,22 @@ fn question_5_is_one_question_at(degree: u32) {
 /// Every spare bit of every string, each alone.
 #[test]
 fn every_spare_bit() {
-    for degree in DEGREES {
-        every_spare_bit_at(degree);
+    for (degree, alphabet) in SETTINGS {
+        every_spare_bit_at(degree, alphabet);
     }
 }
 
-fn every_spare_bit_at(degree: u32) {
-    let (case, lent) = sitting(degree);
+fn every_spare_bit_at(degree: u32, alphabet: u32) {
+    let (case, lent) = sitting_of(degree, alphabet, 3, if alphabet == 4 { 5 } else { 4 });
     let shape = case.shape;
-    // Each: the bytes of one string, the bits in it.
-    let each_spare = |length: usize, bits: usize| -> Vec<(usize, u8)> {
-        let one = bytes_for(bits);
+    let bits = if alphabet == 4 { 2 } else { 1 };
+    // Each: the bytes of one string, the entries in it.
+    let each_spare = |length: usize, entries: usize| -> Vec<(usize, u8)> {
+        let one = bytes_for(&shape.symbols, entries);
+        assert!(entries * bits < 8 * one);
         let mut found = Vec::new();
         for start in (0..length).step_by(one) {
-            for c in bits..8 * one {
+            for c in entries * bits..8 * one {
                 found.push((start + c / 8, 1 << (c % 8)));
             }
         }
@@ -332,15 +355,18 @@ fn every_spare_bit_at(degree: u32) {
     };
     let lengths = shape.key_sections();
     let [a, b, y] = [12, 16 + lengths[0], 20 + lengths[0] + lengths[1]];
-    for (start, length, bits) in [
+    for (start, length, entries) in [
         (a, lengths[0], shape.n),
         (b, lengths[1], shape.n),
         (y, lengths[2], shape.m),
     ] {
-        for (at, with) in each_spare(length, bits) {
+        for (at, with) in each_spare(length, entries) {
             let mut key = lent.key.clone();
             key[start + at] |= with;
-            assert_eq!(word(test(&key, degree, &lent.witness)), 4 * 65_536);
+            assert_eq!(
+                word(test(&key, degree, alphabet, &lent.witness)),
+                4 * 65_536
+            );
         }
     }
     for (at, with) in each_spare(shape.h_length(), shape.k()) {
@@ -363,23 +389,26 @@ fn every_spare_bit_at(degree: u32) {
     for (at, with) in each_spare(shape.witness_length(), shape.n) {
         let mut witness = lent.witness.clone();
         witness[at] |= with;
-        assert_eq!(word(test(&lent.key, degree, &witness)), 9 * 65_536);
+        assert_eq!(
+            word(test(&lent.key, degree, alphabet, &witness)),
+            9 * 65_536
+        );
     }
     let lengths = shape.proof_sections();
     let [c, d, u] = [4, 8 + lengths[0], 12 + lengths[0] + lengths[1]];
-    for (start, length, bits) in [
+    for (start, length, entries) in [
         (c, lengths[0], shape.l()),
         (d, lengths[1], shape.n),
         (u, lengths[2], shape.t),
     ] {
-        for (at, with) in each_spare(length, bits) {
+        for (at, with) in each_spare(length, entries) {
             let mut spoiled = lent.clone();
             spoiled.proof[start + at] |= with;
             assert_eq!(word(put("verify", &spoiled, &lent.proof)), 13 * 65_536);
         }
     }
-    for witness in [&[][..], &[0, 0][..]] {
-        assert_eq!(word(test(&lent.key, degree, witness)), 9 * 65_536);
+    for witness in [&[][..], &[0; 3][..], &[0, 0][shape.witness_length() - 1..]] {
+        assert_eq!(word(test(&lent.key, degree, alphabet, witness)), 9 * 65_536);
     }
 }
 
@@ -387,20 +416,22 @@ fn every_spare_bit_at(degree: u32) {
 /// call that takes a witness": every set of equations that fail.
 #[test]
 fn the_lowest_failing_equation() {
-    for degree in DEGREES {
-        the_lowest_failing_equation_at(degree);
+    for (degree, alphabet) in SETTINGS {
+        the_lowest_failing_equation_at(degree, alphabet);
     }
 }
 
-fn the_lowest_failing_equation_at(degree: u32) {
-    let (_, lent) = sitting(degree);
+fn the_lowest_failing_equation_at(degree: u32, alphabet: u32) {
+    let (_, lent) = sitting(degree, alphabet);
     let last = lent.key.len() - 1;
-    for errors in 1..8u8 {
+    // Each equation's error, one or two bits, lowest first.
+    let bits = if alphabet == 4 { 2 } else { 1 };
+    for errors in 1..1u8 << (3 * bits) {
         let mut spoiled = lent.clone();
         spoiled.key[last] ^= errors;
         for call in ["test", "commit", "batch", "prove"] {
             let answer = put(call, &spoiled, &lent.proof);
-            let place = errors.trailing_zeros();
+            let place = errors.trailing_zeros() / bits;
             assert_eq!(answer, Answer::Refused { number: 11, place }, "{call}");
         }
     }
@@ -410,17 +441,27 @@ fn the_lowest_failing_equation_at(degree: u32) {
 /// and with the last.
 #[test]
 fn the_lowest_failing_equation_of_many() {
-    let case = case(32, 3, 21, 1, 2, 8);
-    let y = case.key.len() - 3;
-    for first in 0..21 {
+    // Entries of a byte of y, bytes of y, and what is added to an entry.
+    lowest_of_many(2, 8, 3, &[1]);
+    lowest_of_many(4, 4, 6, &[1, 2, 3]);
+}
+
+fn lowest_of_many(alphabet: u32, in_a_byte: usize, bytes: usize, errors: &[u8]) {
+    let case = case(32, 3, 21, 1, 2, 8, alphabet);
+    let y = case.key.len() - bytes;
+    assert_eq!(case.key[y - 4..y], [bytes as u8, 0, 0, 0]);
+    for (first, error) in (0..21).flat_map(|first| errors.iter().map(move |e| (first, e))) {
         for others in [first..first, first + 1..21, first.max(20)..21] {
             let mut key = case.key.clone();
-            key[y + first / 8] ^= 1 << (first % 8);
+            let mut add = |i: usize, error: u8| {
+                key[y + i / in_a_byte] ^= error << (8 / in_a_byte * (i % in_a_byte));
+            };
+            add(first, *error);
             for other in others.filter(|other| *other != first) {
-                key[y + other / 8] ^= 1 << (other % 8);
+                add(other, 1);
             }
             assert_eq!(
-                test(&key, 8, &case.witness),
+                test(&key, 8, alphabet, &case.witness),
                 Answer::Refused {
                     number: 11,
                     place: first as u32
@@ -434,13 +475,13 @@ fn the_lowest_failing_equation_of_many() {
 /// repetitions before 15 of any.
 #[test]
 fn first_repetition_and_order_of_14_and_15() {
-    for degree in DEGREES {
-        first_repetition_and_order_of_14_and_15_at(degree);
+    for (degree, alphabet) in SETTINGS {
+        first_repetition_and_order_of_14_and_15_at(degree, alphabet);
     }
 }
 
-fn first_repetition_and_order_of_14_and_15_at(degree: u32) {
-    let (_, lent) = sitting(degree);
+fn first_repetition_and_order_of_14_and_15_at(degree: u32, alphabet: u32) {
+    let (_, lent) = sitting(degree, alphabet);
     let v_tilde = |e: usize| lent.out[0] + 4 + 1 + 4 + e * 4;
     let qs0 = |e: usize| lent.out[0] + lent.out[1] + 4 + e;
     for consistency in 0..8usize {
@@ -466,7 +507,7 @@ fn first_repetition_and_order_of_14_and_15_at(degree: u32) {
 /// with nothing written.
 #[test]
 fn every_other_degree() {
-    let (_, lent) = sitting(4);
+    let (_, lent) = sitting(4, 2);
     let low = (0..40).filter(|degree| ![8, 4].contains(degree));
     let high = [
         256 + 4,
@@ -487,12 +528,96 @@ fn every_other_degree() {
     }
 }
 
+/// "24, an alphabet neither 2 nor 4, or 4 with degree 4, after 16": for any number, before the key is looked at, and
+/// with nothing written. Another degree beside it is 16.
+#[test]
+fn every_other_alphabet() {
+    for (degree, alphabet) in SETTINGS {
+        let (_, lent) = sitting(degree, alphabet);
+        let taken: &[u32] = if degree == 4 { &[2] } else { &[2, 4] };
+        let low = (0..40).filter(|number| !taken.contains(number));
+        let high = [
+            256 + 2,
+            256 + 4,
+            65_536 + 4,
+            1 << 31,
+            (1 << 31) + 2,
+            u32::MAX - 3,
+            u32::MAX,
+        ];
+        for other in low.chain(high) {
+            for call in CALLS {
+                let mut spoiled = lent.clone();
+                spoiled.alphabet = other;
+                assert_eq!(word(put(call, &spoiled, &lent.proof)), 24 * 65_536);
+                spoiled.key.clear();
+                assert_eq!(word(put(call, &spoiled, &lent.proof)), 24 * 65_536);
+                for no_degree in [0, 2, 5, 16, 256 + 8] {
+                    spoiled.degree = no_degree;
+                    assert_eq!(word(put(call, &spoiled, &lent.proof)), 16 * 65_536);
+                }
+            }
+        }
+    }
+}
+
+/// What is lent at alphabet 4 with the degree changed to 4 is 24; at alphabet 2 it is not.
+#[test]
+fn four_symbols_with_degree_4() {
+    let (_, mut lent) = sitting(8, 4);
+    let proof = lent.proof.clone();
+    lent.degree = 4;
+    for call in CALLS {
+        assert_eq!(word(put(call, &lent, &proof)), 24 * 65_536);
+    }
+}
+
+/// At the other alphabet a key with n = 5 has another length: 3.
+#[test]
+fn lent_at_the_other_alphabet() {
+    for (made, named) in [(2, 4), (4, 2)] {
+        let (_, mut lent) = sitting(8, made);
+        let proof = lent.proof.clone();
+        lent.alphabet = named;
+        for call in CALLS {
+            assert_eq!(word(put(call, &lent, &proof)), 3 * 65_536);
+        }
+    }
+}
+
+/// Up to four variables and equations a row is a byte at both alphabets, and so nothing tells bits from symbols but
+/// what is spare.
+#[test]
+fn short_keys_at_the_other_alphabet() {
+    // As bits x0·x1 + x0 = 0, as symbols 2·x0² + x0 = 0.
+    let shape = Shape::new(2, 1, 1, 1, 8, 2);
+    let key = key_bytes(&shape, &[0x02, 0x00], &[0x01], &[0x00]);
+    let solves =
+        |alphabet: u32, witness: &u8| test(&key, 8, alphabet, &[*witness]) == Answer::Accepted;
+    let solutions =
+        |alphabet: u32| -> Vec<u8> { (0..=255).filter(|x| solves(alphabet, x)).collect() };
+    assert_eq!(solutions(2), [0b00, 0b10, 0b11]);
+    // x0 = 0 or 1/2 = 3, and any x1.
+    assert_eq!(solutions(4), [0, 3, 4, 7, 8, 11, 12, 15]);
+    // The first byte of A, b and y, and the least bits that are spare at 2 and at 4.
+    for (at, of_2, of_4) in [(12, 0x04, 0x10), (18, 0x04, 0x10), (23, 0x02, 0x04)] {
+        let number = |alphabet: u32, bit: u8| {
+            let mut changed = key.clone();
+            changed[at] |= bit;
+            word(test(&changed, 8, alphabet, &[0x00])) / 65_536
+        };
+        assert_eq!([number(2, of_2), number(2, of_4)], [4, 4]);
+        assert_ne!(number(4, of_2), 4);
+        assert_eq!(number(4, of_4), 4);
+    }
+}
+
 /// A key is the same at both degrees. What else is lent at the other one has wrong lengths: H′ first, where
 /// the call takes it, else the leaves.
 #[test]
 fn lent_at_the_other_degree() {
     for (made, named) in [(8, 4), (4, 8)] {
-        let (_, mut lent) = sitting(made);
+        let (_, mut lent) = sitting(made, 2);
         let proof = lent.proof.clone();
         lent.degree = named;
         assert_eq!(put("test", &lent, &proof), Answer::Accepted);
@@ -509,7 +634,7 @@ fn lent_at_the_other_degree() {
 /// past the fourth. 15 is taken.
 #[test]
 fn every_byte_of_question_17() {
-    let (case, lent) = sitting(4);
+    let (case, lent) = sitting(4, 2);
     for bit in 4..8 {
         for at in 0..case.shape.chi_length() {
             let mut spoiled = lent.clone();
@@ -534,7 +659,7 @@ fn every_byte_of_question_17() {
 /// every bit past the fourth; bytes of C, d and ũ are not asked.
 #[test]
 fn every_byte_of_question_18() {
-    let (case, lent) = sitting(4);
+    let (case, lent) = sitting(4, 2);
     let mut start = 0;
     for (section, length) in case.shape.proof_sections().iter().enumerate() {
         for at in start + 4..start + 4 + length {
@@ -553,7 +678,7 @@ fn every_byte_of_question_18() {
 /// At degree 8 neither is put: bytes above 15 are elements like others.
 #[test]
 fn no_17_and_18_at_degree_8() {
-    let (case, lent) = sitting(8);
+    let (case, lent) = sitting(8, 2);
     assert!(lent.chi.iter().any(|byte| *byte > 15));
     assert!(lent.delta.iter().any(|byte| *byte > 15));
     assert!(lent.proof[lent.out[0]..].iter().any(|byte| *byte > 15));

@@ -1,5 +1,6 @@
 //! The toy sitting of 01, every entry.
 
+use reference::alphabet::TWO;
 use reference::check::line;
 use reference::factors::{batched_error, candidate, passing};
 use reference::field::GF256;
@@ -20,7 +21,7 @@ fn key(y: u8) -> Vec<u8> {
 }
 
 fn shape() -> Shape {
-    header(GF256, &key(1))
+    header(GF256, TWO, &key(1))
 }
 
 /// "Leaf 2 is 05 00, leaf 3 is 02 04, others 0."
@@ -50,7 +51,7 @@ fn proof(u_tilde: u8, qs1: u8) -> Vec<u8> {
 
 fn verify_at(key: &[u8], delta: u8, proof: &[u8]) -> Answer {
     let opened = open_leaves(&shape(), &leaves(), &[delta]);
-    verify(key, 8, &[delta], &H, &CHI, &opened, proof)
+    verify(key, 8, 2, &[delta], &H, &CHI, &opened, proof)
 }
 
 fn refused(number: u32, place: u32) -> Answer {
@@ -77,7 +78,7 @@ fn the_equation_is_x0_x1_plus_x0() {
 
 #[test]
 fn sums_of_leaves() {
-    assert_eq!(pack(&u(&shape(), &leaves(), 0)), [0x07, 0x04]);
+    assert_eq!(pack(&TWO, &u(&shape(), &leaves(), 0)), [0x07, 0x04]);
     let mut expected = vec![0; 11];
     expected[0] = 0x02;
     expected[1] = 0x03;
@@ -89,9 +90,9 @@ fn sums_of_leaves() {
 #[test]
 fn the_proof() {
     let mut out = vec![0xEE; 29];
-    assert_eq!(test(&key(1), 8, &X), Answer::Accepted);
+    assert_eq!(test(&key(1), 8, 2, &X), Answer::Accepted);
     assert_eq!(
-        prove(&key(1), 8, &leaves(), &X, &H, &CHI, &mut out),
+        prove(&key(1), 8, 2, &leaves(), &X, &H, &CHI, &mut out),
         Answer::Accepted
     );
     assert_eq!(out, proof(0x01, 0x04));
@@ -113,10 +114,10 @@ fn the_verifier() {
 
 #[test]
 fn y_is_0() {
-    assert_eq!(test(&key(0), 8, &X), refused(11, 0));
+    assert_eq!(test(&key(0), 8, 2, &X), refused(11, 0));
     let mut out = vec![0xEE; 29];
     assert_eq!(
-        prove(&key(0), 8, &leaves(), &X, &H, &CHI, &mut out),
+        prove(&key(0), 8, 2, &leaves(), &X, &H, &CHI, &mut out),
         refused(11, 0)
     );
     assert_eq!(out, vec![0xEE; 29]);
@@ -136,7 +137,7 @@ fn y_is_0() {
     let read = verifier::sections(&shape(), &forged).unwrap();
     assert_eq!(passing(&key, 0, &H, &CHI, &leaves(), &read), [0x00u8, 0x52]);
     let x = candidate(&shape(), 0, &leaves(), &read);
-    assert_eq!(x, unpack(&X, 2));
+    assert_eq!(x, unpack(&TWO, &X, 2));
     assert_eq!(batched_error(&key, &x, &CHI), 0x05);
 }
 

@@ -4,6 +4,7 @@
 //! A*₀ = 3 + 2·9 + 8·3 = 3 + 1 + B = 9 and A*₁ = 1 + 2 + 8 = B. With χ = 5: QS0 = 5·8 + 9 = E + 9 = 7 and
 //! QS1 = 5·A + B = 4 + B = F.
 
+use reference::alphabet::TWO;
 use reference::factors::{batched_error, candidate, passing};
 use reference::field::GF16;
 use reference::leaves::{u, v};
@@ -53,7 +54,7 @@ fn opened(delta: u8) -> Vec<u8> {
 }
 
 fn verify_at(key: &[u8], delta: u8, proof: &[u8]) -> Answer {
-    verify(key, 4, &[delta], &H, &CHI, &opened(delta), proof)
+    verify(key, 4, 2, &[delta], &H, &CHI, &opened(delta), proof)
 }
 
 /// The Δ at which the verifier's call accepts.
@@ -84,17 +85,17 @@ fn products() {
 fn sums_of_leaves_and_masks() {
     let shape = lent_at_degree_4().shape;
     let (u_0, v_0) = (u(&shape, &LEAVES, 0), v(&shape, &LEAVES, 0));
-    assert_eq!(pack(&u_0), [0x6F]);
+    assert_eq!(pack(&TWO, &u_0), [0x6F]);
     assert_eq!(v_0, [0x03, 0x09, 0x03, 0x09, 0x00, 0x03, 0x09]);
-    assert_eq!(GF16.mask(2, &u_0), 0x0B);
-    assert_eq!(GF16.mask(2, &v_0), 0x09);
+    assert_eq!(GF16.mask(&TWO, 2, &u_0), 0x0B);
+    assert_eq!(GF16.mask(&TWO, 2, &v_0), 0x09);
 }
 
 #[test]
 fn the_proof() {
     let mut out = vec![0xEE; 29];
-    assert_eq!(test(&key(1), 4, &X), Answer::Accepted);
-    let answer = prove(&key(1), 4, &LEAVES, &X, &H, &CHI, &mut out);
+    assert_eq!(test(&key(1), 4, 2, &X), Answer::Accepted);
+    let answer = prove(&key(1), 4, 2, &LEAVES, &X, &H, &CHI, &mut out);
     assert_eq!(answer, Answer::Accepted);
     assert_eq!(out, honest());
 }
@@ -122,7 +123,7 @@ fn the_verifier() {
 /// The key with y = 0, QS1 changed by f: 5·Δ² + f·Δ = 0, so Δ is 0 or f·B.
 #[test]
 fn doctored() {
-    assert_eq!(test(&key(0), 4, &X), refused(11, 0));
+    assert_eq!(test(&key(0), 4, 2, &X), refused(11, 0));
     let shape = lent_at_degree_4().shape;
     let bytes = key(0);
     let read_key = reference::key::sections(shape, &bytes).unwrap();
@@ -143,12 +144,12 @@ fn doctored() {
 #[test]
 fn no_degree_and_no_elements() {
     let put = |degree, delta, chi, proof: &[u8]| {
-        verify(&key(1), degree, &[delta], &H, &[chi], &opened(3), proof)
+        verify(&key(1), degree, 2, &[delta], &H, &[chi], &opened(3), proof)
     };
     let proof_with = |v_tilde, qs0, qs1| proof(0x02, 0x01, v_tilde, qs0, qs1);
     assert_eq!(put(4, 0x03, 0x05, &honest()), Answer::Accepted);
     assert_eq!(put(5, 0x03, 0x05, &honest()), refused(16, 0));
-    assert_eq!(test(&key(1), 5, &X), refused(16, 0));
+    assert_eq!(test(&key(1), 5, 2, &X), refused(16, 0));
     assert_eq!(put(4, 0x03, 0x10, &honest()), refused(17, 0));
     assert_eq!(put(4, 0x10, 0x05, &honest()), refused(17, 0));
     for changed in [

@@ -1,6 +1,7 @@
 //! All sittings of the files of vectors: of the two older files, made by other hands, those with one repetition; and of
-//! the rendering's own two, with a mask for each repetition.
+//! the rendering's own three, with a mask for each repetition, one of four symbols.
 
+use reference::alphabet::{Alphabet, FOUR, TWO};
 use reference::check::line;
 use reference::factors::factors;
 use reference::field::{Field, GF16, GF256};
@@ -14,6 +15,7 @@ const DEGREE_8: &str = include_str!("vectors/sittings-degree8.rsp");
 const DEGREE_4: &str = include_str!("vectors/sittings-degree4.rsp");
 const MASKS_8: &str = include_str!("vectors/masks-degree8.rsp");
 const MASKS_4: &str = include_str!("vectors/masks-degree4.rsp");
+const FOUR_VALUED: &str = include_str!("vectors/four-valued.rsp");
 
 /// "changed = d byte 10 xor 1: reply 983040 factors 1 1"
 #[derive(Debug)]
@@ -148,9 +150,9 @@ fn read(text: &str) -> Vec<Sitting> {
 }
 
 /// What the equations say of a sitting, over the given field.
-fn equations(field: Field, sitting: &Sitting) {
+fn equations(field: Field, symbols: Alphabet, sitting: &Sitting) {
     assert!(has_header(&sitting.key));
-    let shape = header(field, &sitting.key);
+    let shape = header(field, symbols, &sitting.key);
     let numbers: Vec<(&str, usize)> = sitting
         .numbers
         .iter()
@@ -197,8 +199,8 @@ fn equations(field: Field, sitting: &Sitting) {
 
 /// What the rendering's own files have besides: changes of several bytes, rows of C exchanged, the steps' bytes and the
 /// sums of the leaves.
-fn more_equations(field: Field, sitting: &Sitting) {
-    let shape = header(field, &sitting.key);
+fn more_equations(field: Field, symbols: Alphabet, sitting: &Sitting) {
+    let shape = header(field, symbols, &sitting.key);
     let key = sections(shape, &sitting.key).unwrap();
     for several in &sitting.several {
         let mut proof = sitting.proof.clone();
@@ -225,7 +227,10 @@ fn more_equations(field: Field, sitting: &Sitting) {
         assert_eq!(sitting.steps.concat(), sitting.proof);
         assert_eq!([sitting.u.len(), sitting.v.len()], [shape.tau; 2]);
         for e in 0..shape.tau {
-            assert_eq!(pack(&leaves::u(&shape, &sitting.leaves, e)), sitting.u[e]);
+            assert_eq!(
+                pack(&symbols, &leaves::u(&shape, &sitting.leaves, e)),
+                sitting.u[e]
+            );
             assert_eq!(leaves::v(&shape, &sitting.leaves, e), sitting.v[e]);
         }
     }
@@ -236,6 +241,7 @@ fn reply(key: &Key, sitting: &Sitting, proof: &[u8]) -> u32 {
     word(verify(
         &sitting.key,
         key.shape.degree(),
+        key.shape.alphabet(),
         &sitting.delta,
         &sitting.h,
         &sitting.chi,
@@ -267,14 +273,14 @@ fn change(key: &Key, sitting: &Sitting, changed: &Changed) -> Vec<u8> {
 }
 
 /// What the calls say of a sitting at the degree of the field: the whole and the three steps.
-fn calls(field: Field, sitting: &Sitting) {
-    let shape = header(field, &sitting.key);
-    let degree = shape.degree();
+fn calls(field: Field, symbols: Alphabet, sitting: &Sitting) {
+    let shape = header(field, symbols, &sitting.key);
+    let (degree, alphabet) = (shape.degree(), shape.alphabet());
     let (key, leaves, witness) = (&sitting.key, &sitting.leaves, &sitting.witness);
     let (h, chi) = (&sitting.h, &sitting.chi);
-    assert_eq!(test(key, degree, witness), Answer::Accepted);
+    assert_eq!(test(key, degree, alphabet, witness), Answer::Accepted);
     let mut out = vec![0xEE; shape.proof_length()];
-    let answer = prove(key, degree, leaves, witness, h, chi, &mut out);
+    let answer = prove(key, degree, alphabet, leaves, witness, h, chi, &mut out);
     assert_eq!(answer, Answer::Accepted);
     assert_eq!(out, sitting.proof);
 
@@ -282,9 +288,9 @@ fn calls(field: Field, sitting: &Sitting) {
     let mut second = vec![0xEE; shape.hash_length()];
     let mut third = vec![0xEE; shape.batch_length()];
     let answers = [
-        commit(key, degree, leaves, witness, &mut first),
-        hash(key, degree, leaves, h, &mut second),
-        batch(key, degree, leaves, witness, chi, &mut third),
+        commit(key, degree, alphabet, leaves, witness, &mut first),
+        hash(key, degree, alphabet, leaves, h, &mut second),
+        batch(key, degree, alphabet, leaves, witness, chi, &mut third),
     ];
     assert_eq!(answers, [Answer::Accepted; 3]);
     assert_eq!([first, second, third].concat(), sitting.proof);
@@ -293,7 +299,7 @@ fn calls(field: Field, sitting: &Sitting) {
 /// The check program's line for the proof and each change; "the check program stays at 8" (02, request 3).
 fn lines(sitting: &Sitting) {
     checked(sitting, &sitting.proof, sitting.reply);
-    let key = sections(header(GF256, &sitting.key), &sitting.key).unwrap();
+    let key = sections(header(GF256, TWO, &sitting.key), &sitting.key).unwrap();
     for changed in &sitting.changed {
         checked(sitting, &change(&key, sitting, changed), changed.reply);
     }
@@ -333,8 +339,8 @@ fn degree_8() {
     let sittings = read(DEGREE_8);
     assert_eq!(counted(&sittings), [1, 5, 0]);
     for sitting in &sittings {
-        equations(GF256, sitting);
-        calls(GF256, sitting);
+        equations(GF256, TWO, sitting);
+        calls(GF256, TWO, sitting);
         lines(sitting);
     }
 }
@@ -344,8 +350,8 @@ fn degree_4() {
     let sittings = read(DEGREE_4);
     assert_eq!(counted(&sittings), [1, 8, 0]);
     for sitting in &sittings {
-        equations(GF16, sitting);
-        calls(GF16, sitting);
+        equations(GF16, TWO, sitting);
+        calls(GF16, TWO, sitting);
     }
 }
 
@@ -355,9 +361,9 @@ fn masks_of_degree_8() {
     assert_eq!(counted(&sittings), [2, 24, 1]);
     for sitting in &sittings {
         assert!(!sitting.steps.is_empty());
-        equations(GF256, sitting);
-        more_equations(GF256, sitting);
-        calls(GF256, sitting);
+        equations(GF256, TWO, sitting);
+        more_equations(GF256, TWO, sitting);
+        calls(GF256, TWO, sitting);
         lines(sitting);
     }
     assert_eq!(MASKS_8, reference::sittings::degree_8());
@@ -368,9 +374,33 @@ fn masks_of_degree_4() {
     let sittings = read(MASKS_4);
     assert_eq!(counted(&sittings), [2, 24, 5]);
     for sitting in &sittings {
-        equations(GF16, sitting);
-        calls(GF16, sitting);
-        more_equations(GF16, sitting);
+        equations(GF16, TWO, sitting);
+        calls(GF16, TWO, sitting);
+        more_equations(GF16, TWO, sitting);
     }
     assert_eq!(MASKS_4, reference::sittings::degree_4());
+}
+
+#[test]
+fn four_valued() {
+    let sittings = read(FOUR_VALUED);
+    assert_eq!(counted(&sittings), [3, 42, 16]);
+    for sitting in &sittings {
+        assert!(!sitting.steps.is_empty());
+        equations(GF256, FOUR, sitting);
+        more_equations(GF256, FOUR, sitting);
+        calls(GF256, FOUR, sitting);
+    }
+    // 13 for the last bits of C, d and ũ, where they are spare.
+    let spare: Vec<Vec<bool>> = sittings
+        .iter()
+        .map(|sitting| {
+            sitting.several[2..5]
+                .iter()
+                .map(|s| s.reply == 13 * 65_536)
+                .collect()
+        })
+        .collect();
+    assert_eq!(spare, [[true, true, true], [true, true, true], [false; 3]]);
+    assert_eq!(FOUR_VALUED, reference::sittings::four_valued());
 }

@@ -4,6 +4,9 @@ use reference::cases::{case, Random};
 use reference::key::Shape;
 use reference::{batch, commit, hash, prove, test, verify, word, Answer};
 
+/// The library's one alphabet until it serves request 11.
+const ALPHABET: u32 = 2;
+
 /// What the calls take, by name.
 pub const KEY: usize = 0;
 pub const LEAVES: usize = 1;
@@ -40,42 +43,57 @@ pub const CALLS: [Call; 6] = [
         takes: &[KEY, WITNESS],
         writes: (0, 0),
         answers: &[0, 1, 2, 3, 4, 9, 11, 16],
-        rendering: |s, d, _| test(&s[KEY], d, &s[WITNESS]),
+        rendering: |s, d, _| test(&s[KEY], d, ALPHABET, &s[WITNESS]),
     },
     Call {
         name: "commit",
         takes: &[KEY, LEAVES, WITNESS],
         writes: (0, 2),
         answers: &[0, 1, 2, 3, 4, 7, 8, 9, 10, 11, 16],
-        rendering: |s, d, out| commit(&s[KEY], d, &s[LEAVES], &s[WITNESS], out),
+        rendering: |s, d, out| commit(&s[KEY], d, ALPHABET, &s[LEAVES], &s[WITNESS], out),
     },
     Call {
         name: "hash",
         takes: &[KEY, LEAVES, H],
         writes: (2, 4),
         answers: &[0, 1, 2, 3, 4, 5, 6, 7, 8, 10, 16],
-        rendering: |s, d, out| hash(&s[KEY], d, &s[LEAVES], &s[H], out),
+        rendering: |s, d, out| hash(&s[KEY], d, ALPHABET, &s[LEAVES], &s[H], out),
     },
     Call {
         name: "batch",
         takes: &[KEY, LEAVES, WITNESS, CHI],
         writes: (4, 6),
         answers: &[0, 1, 2, 3, 4, 5, 7, 8, 9, 10, 11, 16, 17],
-        rendering: |s, d, out| batch(&s[KEY], d, &s[LEAVES], &s[WITNESS], &s[CHI], out),
+        rendering: |s, d, out| batch(&s[KEY], d, ALPHABET, &s[LEAVES], &s[WITNESS], &s[CHI], out),
     },
     Call {
         name: "prove",
         takes: &[KEY, LEAVES, WITNESS, H, CHI],
         writes: (0, 6),
         answers: &[0, 1, 2, 3, 4, 5, 6, 7, 8, 9, 10, 11, 16, 17],
-        rendering: |s, d, out| prove(&s[KEY], d, &s[LEAVES], &s[WITNESS], &s[H], &s[CHI], out),
+        rendering: |s, d, out| {
+            prove(
+                &s[KEY],
+                d,
+                ALPHABET,
+                &s[LEAVES],
+                &s[WITNESS],
+                &s[H],
+                &s[CHI],
+                out,
+            )
+        },
     },
     Call {
         name: "verify",
         takes: &[KEY, DELTA, H, CHI, OPENED, PROOF],
         writes: (0, 0),
         answers: &[0, 1, 2, 3, 4, 5, 6, 7, 8, 12, 13, 14, 15, 16, 17, 18],
-        rendering: |s, d, _| verify(&s[KEY], d, &s[DELTA], &s[H], &s[CHI], &s[OPENED], &s[PROOF]),
+        rendering: |s, d, _| {
+            verify(
+                &s[KEY], d, ALPHABET, &s[DELTA], &s[H], &s[CHI], &s[OPENED], &s[PROOF],
+            )
+        },
     },
 ];
 
@@ -86,7 +104,7 @@ impl Call {
 
     /// The length to be written.
     pub fn length(&self, (n, m, tau, t, degree): Sizes) -> usize {
-        let shape = Shape::new(n, m, tau, t, degree);
+        let shape = Shape::new(n, m, tau, t, degree, ALPHABET);
         let sections = &shape.proof_sections()[self.writes.0..self.writes.1];
         sections.iter().map(|section| 4 + section).sum()
     }
@@ -98,7 +116,7 @@ pub type Sizes = (usize, usize, usize, usize, u32);
 /// Honest inputs: the rendering's proof, the leaves opened at a random Δ, and the output that this call writes.
 pub fn honest(random: &mut Random, sizes: Sizes, call: &Call) -> Inputs {
     let (n, m, tau, t, degree) = sizes;
-    let made = case(random.number(), n, m, tau, t, degree);
+    let made = case(random.number(), n, m, tau, t, degree, ALPHABET);
     let mut inputs = Inputs {
         degree,
         output: call.length(sizes),
@@ -121,6 +139,7 @@ pub fn honest(random: &mut Random, sizes: Sizes, call: &Call) -> Inputs {
         let answer = prove(
             &s[KEY],
             degree,
+            ALPHABET,
             &s[LEAVES],
             &s[WITNESS],
             &s[H],

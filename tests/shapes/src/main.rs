@@ -1,6 +1,6 @@
-//! Prints the fuzzer's shapes, one to a line: n, m, τ, t, degree; those at degree 8, then those at degree 4. It has a
-//! case for each, in this order. `shapes challenges DEGREE` prints the challenges at which the leaf that is left out
-//! stands otherwise among its four; without a degree, those at 8.
+//! Prints the fuzzer's shapes, one to a line: n, m, τ, t, degree, alphabet; those at degree 8, then those at degree
+//! 4, then those of four symbols. It has a case for each, in this order. `shapes challenges DEGREE` prints the
+//! challenges at which the leaf that is left out stands otherwise among its four; without a degree, those at 8.
 
 fn main() {
     let words: Vec<String> = std::env::args().skip(1).collect();
@@ -15,7 +15,9 @@ fn main() {
         }
         return;
     }
-    for (n, m, tau, t, degree) in shapes::DEGREES.into_iter().flat_map(shapes::light) {
-        println!("{n} {m} {tau} {t} {degree}");
+    for (degree, alphabet) in shapes::SETTINGS {
+        for (n, m, tau, t, degree, alphabet) in shapes::light(degree, alphabet) {
+            println!("{n} {m} {tau} {t} {degree} {alphabet}");
+        }
     }
 }

@@ -1,6 +1,6 @@
 //! The six calls: what each takes and writes, which numbers it can answer, and the rendering's answer.
 
-use crate::lent::Lent;
+use crate::lent::{Lent, ALPHABET};
 use reference::{word, Answer};
 use std::ops::Range;
 
@@ -101,13 +101,16 @@ impl Call {
         let degree = lent.degree;
         let mut out = vec![0; self.out_len(lent)];
         let answer = match self {
-            Call::Test => reference::test(key, degree, witness),
-            Call::Commit => reference::commit(key, degree, leaves, witness, &mut out),
-            Call::Hash => reference::hash(key, degree, leaves, hash_matrix, &mut out),
-            Call::Batch => reference::batch(key, degree, leaves, witness, batching, &mut out),
+            Call::Test => reference::test(key, degree, ALPHABET, witness),
+            Call::Commit => reference::commit(key, degree, ALPHABET, leaves, witness, &mut out),
+            Call::Hash => reference::hash(key, degree, ALPHABET, leaves, hash_matrix, &mut out),
+            Call::Batch => {
+                reference::batch(key, degree, ALPHABET, leaves, witness, batching, &mut out)
+            }
             Call::Prove => reference::prove(
                 key,
                 degree,
+                ALPHABET,
                 leaves,
                 witness,
                 hash_matrix,
@@ -117,6 +120,7 @@ impl Call {
             Call::Verify => reference::verify(
                 key,
                 degree,
+                ALPHABET,
                 &lent.delta,
                 hash_matrix,
                 batching,

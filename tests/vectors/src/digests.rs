@@ -2,9 +2,10 @@
 //! the file has the SHA-256 of each string.
 
 use crate::calls::Call;
-use crate::lent::{with_proof, Lent};
+use crate::lent::{with_proof, Lent, ALPHABET};
 use crate::rsp::File;
 use crate::sha256::sha256;
+use reference::alphabet::TWO;
 use reference::cases::{key_bytes, Case};
 use reference::key::{Key, Shape};
 use reference::strings::{bytes_for, unpack};
@@ -24,7 +25,7 @@ pub fn file() -> String {
         "Written by tests/vectors; what is hashed was computed by the Rust rendering, tests/reference.",
     ]);
     for (seed, ([n, m, tau, t], degree)) in SHAPES.into_iter().enumerate() {
-        let shape = Shape::new(n, m, tau, t, degree);
+        let shape = Shape::new(n, m, tau, t, degree, ALPHABET);
         add(
             &mut file,
             seed as u64,
@@ -51,10 +52,10 @@ impl Expander {
         let mut strings = Vec::new();
         for _ in 0..count {
             let mut string = Vec::new();
-            while string.len() < bytes_for(bits) {
+            while string.len() < bytes_for(&TWO, bits) {
                 string.extend(self.number().to_le_bytes());
             }
-            string.truncate(bytes_for(bits));
+            string.truncate(bytes_for(&TWO, bits));
             if bits % 8 > 0 {
                 *string.last_mut().unwrap() &= (1 << (bits % 8)) - 1;
             }
@@ -72,14 +73,14 @@ fn expanded(seed: u64, shape: Shape) -> Case {
     let a = from.strings(m * n, n);
     let b = from.strings(m, n);
     // With y = 0 an equation's error is its left side.
-    let zero = vec![0; bytes_for(m)];
+    let zero = vec![0; bytes_for(&TWO, m)];
     let key = Key {
         shape,
         a: &a,
         b: &b,
         y: &zero,
     };
-    let x = unpack(&witness, n);
+    let x = unpack(&TWO, &witness, n);
     let mut y = zero.clone();
     for i in 0..m {
         y[i / 8] |= key.error(i, &x) << (i % 8);

@@ -5,6 +5,9 @@ use reference::key::Shape;
 use reference::toys::lent_at_degree_4;
 use reference::{open_leaves, prove, Answer};
 
+/// The library's one alphabet until it serves request 11.
+pub const ALPHABET: u32 = 2;
+
 #[derive(Clone, Debug)]
 pub struct Lent {
     pub shape: Shape,
@@ -24,12 +27,12 @@ pub struct Lent {
 
 /// An honest prover's and verifier's strings, at random: the rendering's own case of this seed, and its proof.
 pub fn honest(seed: u64, [n, m, tau, t]: [usize; 4], degree: u32) -> Lent {
-    with_proof(case(seed, n, m, tau, t, degree))
+    with_proof(case(seed, n, m, tau, t, degree, ALPHABET))
 }
 
 /// 01's toy, at Δ = 02.
 pub fn toy() -> Lent {
-    let shape = Shape::new(2, 1, 1, 1, 8);
+    let shape = Shape::new(2, 1, 1, 1, 8, ALPHABET);
     let mut leaves = vec![0; 512];
     leaves[4..8].copy_from_slice(&[0x05, 0x00, 0x02, 0x04]);
     with_proof(Case {
@@ -54,6 +57,7 @@ pub fn with_proof(case: Case) -> Lent {
     let answer = prove(
         &case.key,
         case.degree(),
+        case.alphabet(),
         &case.leaves,
         &case.witness,
         &case.h,

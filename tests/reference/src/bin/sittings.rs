@@ -1,6 +1,6 @@
 //! Writes the computed examples with a mask for each repetition: `sittings DIRECTORY`.
 
-use reference::sittings::{degree_4, degree_8};
+use reference::sittings::{degree_4, degree_8, four_valued};
 use std::path::Path;
 
 fn main() -> std::io::Result<()> {
@@ -11,5 +11,6 @@ fn main() -> std::io::Result<()> {
     };
     let directory = Path::new(directory);
     std::fs::write(directory.join("masks-degree4.rsp"), degree_4())?;
-    std::fs::write(directory.join("masks-degree8.rsp"), degree_8())
+    std::fs::write(directory.join("masks-degree8.rsp"), degree_8())?;
+    std::fs::write(directory.join("four-valued.rsp"), four_valued())
 }
