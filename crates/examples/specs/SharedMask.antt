@@ -1,6 +1,6 @@
--- Hiding needs a mask for each repetition: it "rests on" request 4. With one mask for all repetitions, as 01 had it, the
--- choices of hidden leaves that give a view with another solution are counted here, and there are none. The field is
--- GF(4), so that all choices can be gone through; n = 2, m = 1, τ = 2, t = 1.
+-- Hiding needs a mask for each repetition: it "rests on" request 4. With one mask for all repetitions, as 01 had it,
+-- the choices of hidden leaves that give a view with another solution are counted here, and there are none. The field
+-- is GF(4), so that all choices can be gone through; n = 2, m = 1, τ = 2, t = 1.
 -- proofs/SharedMask computes each statement.
 --   gf4 == two bits, modulo X^2 + X + 1;  tiny == bits over it
 --   single s == the sizes with one repetition: its lengths are those of one mask

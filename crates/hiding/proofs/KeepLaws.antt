@@ -1,5 +1,5 @@
--- A proof with another solution and shifted sums has the same sections exactly if every repetition is shifted alike, by a
--- shift that fits.
+-- A proof with another solution and shifted sums has the same sections exactly if every repetition is shifted alike,
+-- by a shift that fits.
 --   first == the shift of the witness;  moved e == v_e as it must become, on the witness's coordinates
 --   mask e == the mask that the shift must have in e
 -- Assumes nothing.

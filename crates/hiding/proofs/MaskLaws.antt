@@ -1,5 +1,5 @@
--- Over a field of bits the powers of α below the degree are a basis, and its own dual, as is computed: the law of masks,
--- for bits.
+-- Over a field of bits the powers of α below the degree are a basis, and its own dual, as is computed: the law of
+-- masks, for bits.
 -- Assumes nothing.
 use mathlib.Core.Path.{_≡_, refl, sym, ap, _∙_}
 use mathlib.Core.Bool.{Bool, true, false, cond}

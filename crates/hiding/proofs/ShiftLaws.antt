@@ -1,5 +1,5 @@
--- The shifts of u that a view allows: fixed on the witness's coordinates, with a given mask in each repetition, and with
--- hash 0. There is exactly one.
+-- The shifts of u that a view allows: fixed on the witness's coordinates, with a given mask in each repetition, and
+-- with hash 0. There is exactly one.
 --   Fits first mask g == g is such a shift;  shiftOf first mask == the one
 -- Assumes nothing.
 use mathlib.Core.Path.{_≡_, sym, ap, ap₂, _∙_}
