@@ -42,7 +42,8 @@ quick_folder() {
 }
 
 # rt proves each crate from nothing, tries the must-fail edits, and runs each program. It waits for all of a batch
-# before it begins the next: with four to a batch, which is its most on larger machines, two cores have less to wait for.
+# before it begins the next: with four to a batch, which is its most on larger machines, two cores have less to wait
+# for.
 crates=$(grep -c : crates.txt)
 echo "Every proof and every test, from nothing: about 32 minutes on two cores. First $crates crates, then" \
     "$(find crates -name '*.edit' | wc -l) edits that must be refused, with the other tests beside them."
