@@ -1,4 +1,5 @@
 // Arithmetic in the field of 256 elements, whose elements are the bytes; and in the field of a degree.
+#![tactic(auto)]
 mod gf16;
 
 ghost use Rattle.std.specs.Prelude.{◌≡◌, ◌*◌, ◌<◌};

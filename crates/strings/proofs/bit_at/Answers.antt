@@ -1,0 +1,10 @@
+-- `strings::bit_at` meets its contract, which is how a coordinate is defined.
+-- Assumes nothing.
+use mathlib.Core.Path.{refl}
+use Rattle.protocol.specs.Strings.{bit}
+use borrow.Author.Rules.{rules}
+use Rattle.strings.proofs.bit_at.Goals as goal
+
+pub returns : goal.returns
+unfolding bit
+returns c = refl

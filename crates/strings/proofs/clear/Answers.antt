@@ -1,0 +1,31 @@
+-- `strings::clear` meets its contract. Each element is changed once (`Elementwise`).
+-- Assumes nothing.
+use borrow.Author.Rules.{rules}
+use Prim.Native.Nat.{ℕ, ◌≤◌, ◌<◌, ◌-◌}
+use mathlib.Core.Path.{◌≡◌, refl, ap, ◌∙◌}
+use lib.ListN.{length, length-set}
+use lib.Bits.{bit_xor}
+use native.Mathlib.Numerals.{add-one}
+use native.Mathlib.Omega.{arith}
+use Rattle.strings.specs.Sums.{byte_at}
+use Rattle.strings.proofs.Elementwise.{changed, changed_more, changed-all}
+use Rattle.strings.proofs.clear.Goals as goal
+
+pub loop-i-init : goal.loop-i-init
+unfolding changed
+loop-i-init c = (search rules, refl, refl)
+
+pub loop-i-preserved : goal.loop-i-preserved
+loop-i-preserved c =
+    let a = c.args in
+    let l = c.loop-i in (
+      omega arith,
+      changed_more (λ (k x : ℕ). 0) a.dst.now l.dst l.i _ l.invariant.1 (refl),
+      simp length-set l.invariant.2,
+    )
+
+pub returns : goal.returns
+returns c =
+    let a = c.args in
+    let l = c.loop-i in
+    changed-all (λ (k x : ℕ). 0) a.dst.now l.dst l.i l.invariant.1 (omega arith) l.invariant.0

@@ -1,0 +1,17 @@
+-- `strings::copies::copy_into` meets its contract. Each element is changed once (`Elementwise`), to that of the source.
+-- Assumes nothing.
+use borrow.Author.Rules.{rules}
+use Prim.Native.Nat.{ℕ, ◌≤◌, ◌<◌, ◌-◌}
+use mathlib.Core.Path.{◌≡◌, refl, sym, ap, ◌∙◌}
+use lib.ListN.{length, length-set}
+use lib.Seq.{ext_get_or}
+use native.Mathlib.Omega.{arith}
+use Rattle.strings.specs.Sums.{byte_at}
+use Rattle.strings.proofs.Elementwise.{changed, changed_more, changed-all}
+use Rattle.strings.proofs.copies.copy_into.Given as goal
+
+abbrev pub invariant-loop-i : goal.invariant-loop-i
+invariant-loop-i l = let dst = l.dst in let i = l.i in (i ≤ length l.initial.dst) × (dst ≡ changed (λ (k x : ℕ). byte_at l.src k) l.initial.dst i) × (length dst ≡ length l.initial.dst)
+
+abbrev pub decreases-loop-i : goal.decreases-loop-i
+decreases-loop-i l = length l.initial.dst - l.i
