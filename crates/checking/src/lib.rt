@@ -10,7 +10,7 @@ pub use input::read_and_verify;
 pub use line::{LINE, write_line};
 
 // What the program prints: an answer of the verifier, or that the input could not be read.
-#[derive(Drop)]
+#[derive(Clone, Copy)]
 pub enum Checked {
     Answered(Verdict),
     Unread,

@@ -6,7 +6,7 @@ ghost use Rattle.strings.specs.Sums.{byte_at};
 ghost use Rattle.equations.specs.Equations.{error_bit, key_error, EquationsFit, FirstIn};
 
 // The first equation that fails, or that none does.
-#[derive(Drop)]
+#[derive(Clone, Copy)]
 pub enum Found {
     At(usize),
     Nothing,

@@ -19,7 +19,7 @@ fn double(x: u8) -> u8
 }
 
 // GF(16). The functions state what the constants are, so that neither can change alone.
-#[derive(Drop)]
+#[derive(Clone, Copy)]
 pub struct Gf16;
 
 impl Gf16 {

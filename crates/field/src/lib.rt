@@ -31,7 +31,7 @@ fn double(x: u8) -> u8
 }
 
 // GF(256) as FIPS 197 has it. The functions state what the constants are, so that neither can change alone.
-#[derive(Drop)]
+#[derive(Clone, Copy)]
 pub struct Gf256;
 
 impl Gf256 {

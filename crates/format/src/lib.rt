@@ -1,4 +1,5 @@
 // The answers of the calls, in the forms that 01 names.
+#![tactic(auto)]
 pub mod numbers;
 pub mod sizes;
 pub mod verdicts;
@@ -11,7 +12,7 @@ ghost use Rattle.format.specs.Verdict.{number_for, answer_of, and_then};
 pub use sizes::Sizes;
 
 // Why a call refuses: one case for each question of 01, and for 16 to 18 of request 3.
-#[derive(Drop)]
+#[derive(Clone, Copy)]
 pub enum Reason {
     ShortHeader,
     SizeOutOfRange,
@@ -34,14 +35,14 @@ pub enum Reason {
 }
 
 // A number and a place held together.
-#[derive(Drop)]
+#[derive(Clone, Copy)]
 pub struct Refusal {
     pub number: Reason,
     pub place: u16,
 }
 
 // What a call answers.
-#[derive(Drop)]
+#[derive(Clone, Copy)]
 pub enum Verdict {
     Accepted,
     Refused(Refusal),

@@ -14,7 +14,7 @@ use field::{Gf16, Gf256};
 use strings::BITS;
 
 // n variables, m equations, τ repetitions, t hash rows; the degree of the field, and the symbols of the alphabet.
-#[derive(Drop)]
+#[derive(Clone, Copy)]
 pub struct Sizes {
     pub n: usize,
     pub m: usize,

@@ -69,7 +69,7 @@ fn rows_at(table: &[u8], width: usize, first: usize, count: usize) -> &[u8]
 
 // A block of a key's equations: `count` of its m, from `from` on, in n variables, for tau repetitions. The polar form
 // is asked for or not. The degree of the field.
-#[derive(Drop)]
+#[derive(Clone, Copy)]
 pub struct Block {
     pub n: usize,
     pub m: usize,
@@ -127,7 +127,7 @@ fn batch_block(
 
 // How many equations there are, of how many variables, for how many repetitions; whether the polar form is asked for;
 // and the degree of the field.
-#[derive(Drop)]
+#[derive(Clone, Copy)]
 pub struct Forms {
     pub n: usize,
     pub m: usize,

@@ -111,7 +111,7 @@ fn add_each(lines: &mut [u8], sums: &[u8], m: usize, panel: usize)
 
 // A part of a panel, the sixteen columns of that number, of m matrices: `rows` sixteens of rows, the first of which is
 // the sixteen `top`.
-#[derive(Drop)]
+#[derive(Clone, Copy)]
 pub struct Part {
     pub m: usize,
     pub panel: usize,

@@ -10,7 +10,7 @@ pub const CELLS: usize = CELL_SIXTEENS * MOST_BLOCK * CHUNK;
 
 // How equations are batched: m of them, of n variables, with rows of `width` bytes, for tau repetitions. So many
 // groups of five are looked up. Whether the polar form is asked for. The degree of the field.
-#[derive(Drop)]
+#[derive(Clone, Copy)]
 pub struct Batch {
     pub n: usize,
     pub width: usize,

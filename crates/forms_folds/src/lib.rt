@@ -35,7 +35,7 @@ pub const CELL_SIXTEENS: usize = 26;
 // A piece of four panels: of the panels first, .., end - 1, the first `count` sixteens of rows. All are counted in the
 // trailing matrix, which is what is left of a matrix without its first `top` sixteens of rows and columns. A piece
 // further down is thus the first piece of a smaller matrix.
-#[derive(Drop)]
+#[derive(Clone, Copy)]
 pub struct Piece {
     pub top: usize,
     pub first: usize,

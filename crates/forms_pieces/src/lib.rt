@@ -43,7 +43,7 @@ fn widen(bits: &mut [u8], xs: &[u8])
 }
 
 // Where a walk over the pieces stands: at panel p of the set from `first` on, in its piece from the sixteen `top` on.
-#[derive(Drop)]
+#[derive(Clone, Copy)]
 pub struct Place {
     pub first: usize,
     pub top: usize,

@@ -19,7 +19,7 @@ const BLOCK: usize = 21;
 
 // Of each of the t rows of H', which have `width` bytes, the `len` bytes from `from` on. k is the first coordinate of
 // the identity, and tau the number of repetitions.
-#[derive(Drop)]
+#[derive(Clone, Copy)]
 struct Block {
     width: usize,
     from: usize,

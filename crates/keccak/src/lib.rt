@@ -4,6 +4,7 @@
 // The round stands twice, in even.rt and odd.rt. A function that is called in one place is compiled into its caller,
 // and two rounds a turn go from lanes to lanes and back with no copy: 710 cycles a permutation, with one a turn 768.
 // The parts of a round, in planes.rt, are small enough to be compiled into both.
+#![tactic(auto)]
 pub mod even;
 pub mod odd;
 pub mod planes;

@@ -18,7 +18,7 @@ use strings::MASK_BYTE;
 pub const LANES: usize = MOST_REPETITIONS;
 
 // n variables, m equations, tau repetitions; the degree of the field.
-#[derive(Drop)]
+#[derive(Clone, Copy)]
 pub struct Dimensions {
     pub n: usize,
     pub m: usize,

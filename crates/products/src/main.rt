@@ -1,5 +1,6 @@
 // Prints three products in GF(256), beside what is expected: the two worked in FIPS 197, section 4.2, and a pair of
 // inverses.
+#![tactic(auto)]
 ghost use Rattle.std.specs.Prelude.{◌<◌};
 
 use field::Gf256;

@@ -15,7 +15,7 @@ use format::numbers::number4;
 use format::{Reason, Verdict, refuse};
 
 // Where a section's bytes start and end, or that it is not there whole.
-#[derive(Drop)]
+#[derive(Clone, Copy)]
 pub enum Span {
     At { start: usize, end: usize },
     Missing,

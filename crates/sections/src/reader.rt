@@ -7,7 +7,7 @@ use super::{Span, find, section};
 use format::{Reason, Verdict, refuse};
 
 // The lent proof and how far it has been read.
-#[derive(Drop)]
+#[derive(Clone, Copy)]
 pub struct Reader<'a> {
     pub proof: &'a [u8],
     pub at: usize,
@@ -15,7 +15,7 @@ pub struct Reader<'a> {
 
 // What the reader gives back: the section, as part of the lent proof, the reader after it, and the answer.
 // Whether the section was there is told by the answer, never by an empty section: C is empty where τ = 1.
-#[derive(Drop)]
+#[derive(Clone, Copy)]
 pub struct Taken<'a> {
     pub section: &'a [u8],
     pub reader: Reader<'a>,
@@ -24,7 +24,7 @@ pub struct Taken<'a> {
 
 // One step of the reader, on the slice and the number: the answer, where the section starts and ends, and how far
 // has been read then.
-#[derive(Drop)]
+#[derive(Clone, Copy)]
 pub struct Step {
     pub answer: Verdict,
     pub start: usize,
@@ -77,7 +77,7 @@ pub fn section_from<'a>(proof: &'a [u8], at: usize) -> &'a [u8]
 }
 
 // What the reader tells of the section that it gives back: its answer, the section's length, and where it stands then.
-#[derive(Drop)]
+#[derive(Clone, Copy)]
 pub struct ReadOn {
     pub answer: Verdict,
     pub length: usize,
@@ -97,13 +97,13 @@ pub fn read_on<'a>(proof: &'a [u8], at: usize) -> ReadOn
 }
 
 // Where the reader stood before each of a proof's six sections.
-#[derive(Drop)]
+#[derive(Clone, Copy)]
 pub struct Places {
     pub at: [usize; 6],
 }
 
 // The answer of a reader that has gone over the six sections, and where it stood.
-#[derive(Drop)]
+#[derive(Clone, Copy)]
 pub struct Walk {
     pub answer: Verdict,
     pub places: Places,

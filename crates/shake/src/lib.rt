@@ -24,7 +24,7 @@ const SUFFIX: u64 = 0x1F;
 const LAST_BIT: u64 = 0x80;
 
 // The lanes, and how many bytes of the present block have been absorbed, or given: the place of the next byte.
-#[derive(Drop)]
+#[derive(Clone, Copy)]
 pub struct Shake {
     pub lanes: [u64; 25],
     pub absorbed: usize,

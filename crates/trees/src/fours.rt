@@ -8,7 +8,7 @@ use super::sixteens::{HELD, add_held, add_sixteen, held_row, put_sixteen};
 use strings::{SIXTEEN, row_at};
 
 // The leaves from `from` on and below `to`, sixteen bytes of each from `at` on. Leaf j stands at place j - skip.
-#[derive(Drop)]
+#[derive(Clone, Copy)]
 struct Run {
     at: usize,
     skip: usize,

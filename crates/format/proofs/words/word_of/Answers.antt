@@ -1,0 +1,15 @@
+-- `format::words::word_of` meets its contract, case by case.
+-- Assumes nothing.
+use mathlib.Core.Path.{sym, ap}
+use borrow.Author.Rules.{rules}
+use Rattle.protocol.specs.Answers.{word}
+use Rattle.format.specs.Verdict.{answer_of}
+use Rattle.format.proofs.words.word_of.Goals as goal
+
+pub returns-in-Accepted : goal.returns-in-Accepted
+unfolding word
+returns-in-Accepted c = rw c.in-Accepted.is
+
+pub returns-in-Refused : goal.returns-in-Refused
+unfolding word
+returns-in-Refused c = rw (c.in-Refused.is, c.number.ensures.0)

@@ -1,0 +1,28 @@
+-- `keccak::odd::round` meets its contract: its parts, then `ChiLaws` and `LinearLaws`.
+-- Assumes nothing.
+use mathlib.Core.Path.{ap, ◌∙◌}
+use Rattle.sponge.specs.Keccak.{θ, ρ, π}
+use Rattle.keccak.specs.Planes.{moved, joined, held_round}
+use Rattle.keccak.proofs.ChiLaws.{joined_is, chi_flips}
+use Rattle.keccak.proofs.LinearLaws.{linear_lt, round_held}
+use borrow.Author.Rules.{rules}
+use Rattle.keccak.proofs.odd.round.Reads as reads
+use Rattle.keccak.proofs.odd.round.Lts as lts
+use Rattle.keccak.proofs.known.Reads as known-reads
+use Rattle.keccak.proofs.planes.effects.Reads as effects-reads
+use Rattle.keccak.proofs.planes.plane0.Reads as plane0-reads
+use Rattle.keccak.proofs.planes.plane1.Reads as plane1-reads
+use Rattle.keccak.proofs.planes.plane2.Reads as plane2-reads
+use Rattle.keccak.proofs.planes.plane3.Reads as plane3-reads
+use Rattle.keccak.proofs.planes.plane4.Reads as plane4-reads
+use Rattle.keccak.proofs.odd.round.Goals as goal
+
+pub returns : goal.returns
+unfolding joined θ moved
+returns c =
+    let a = c.args.a in
+    let k = c.args.k in
+    let known = c.known.ensures in
+    joined_is k _ _ _ _ _ _ c.plane0-p.ensures c.plane1-q.ensures c.plane2-r.ensures c.plane3-s.ensures c.plane4-t.ensures
+    ∙ ap (λ d. held_round k (moved a d)) c.effects-d.ensures
+    ∙ chi_flips (π (ρ (θ a))) k (linear_lt a known) ∙ round_held a k known

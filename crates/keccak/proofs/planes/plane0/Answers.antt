@@ -1,0 +1,14 @@
+-- `keccak::planes::plane0` meets its contract, by computing. Assumes nothing.
+use mathlib.Core.Path.{refl}
+use Rattle.sponge.specs.Lanes.{rotated, lane, state_of}
+use Rattle.sponge.specs.Tables.{offset, offsets}
+use Rattle.sponge.specs.Keccak.{with_effects, ρ, π}
+use Rattle.keccak.specs.Planes.{moved, plane₀}
+use borrow.Author.Rules.{rules}
+use Rattle.keccak.proofs.planes.plane0.Reads as reads
+use Rattle.keccak.proofs.planes.plane0.Lts as lts
+use Rattle.keccak.proofs.planes.plane0.Goals as goal
+
+pub returns : goal.returns
+unfolding plane₀ moved π ρ with_effects rotated lane state_of offset offsets
+returns c = refl

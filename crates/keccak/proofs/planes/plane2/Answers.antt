@@ -1,0 +1,14 @@
+-- `keccak::planes::plane2` meets its contract, by computing. Assumes nothing.
+use mathlib.Core.Path.{refl}
+use Rattle.sponge.specs.Lanes.{rotated, lane, state_of}
+use Rattle.sponge.specs.Tables.{offset, offsets}
+use Rattle.sponge.specs.Keccak.{with_effects, ρ, π}
+use Rattle.keccak.specs.Planes.{moved, plane₂}
+use borrow.Author.Rules.{rules}
+use Rattle.keccak.proofs.planes.plane2.Reads as reads
+use Rattle.keccak.proofs.planes.plane2.Lts as lts
+use Rattle.keccak.proofs.planes.plane2.Goals as goal
+
+pub returns : goal.returns
+unfolding plane₂ moved π ρ with_effects rotated lane state_of offset offsets
+returns c = refl
