@@ -1,0 +1,30 @@
+-- `chunks::cells::copy_chunk` meets its contract. Each element is changed once (`Elementwise`).
+-- Assumes nothing.
+use borrow.Author.Rules.{rules}
+use Prim.Native.Nat.{◌≤◌, ◌-◌}
+use mathlib.Core.Path.{◌≡◌, refl}
+use lib.ListN.{length, length-set}
+use native.Mathlib.Omega.{arith}
+use Rattle.strings.specs.Sums.{byte_at}
+use Rattle.strings.proofs.Elementwise.{changed, changed_more, changed-all}
+use Rattle.chunks.specs.Chunks.{chunk}
+use Rattle.chunks.proofs.cells.copy_chunk.Goals as goal
+
+pub loop-e-init : goal.loop-e-init
+unfolding changed
+loop-e-init c = (search rules, refl, c.requires)
+
+pub loop-e-preserved : goal.loop-e-preserved
+loop-e-preserved c =
+    let a = c.args in
+    let l = c.loop-e in (
+      omega arith,
+      changed_more (λ k x. byte_at a.src.now k) a.out.now l.out l.e _ l.invariant.1 refl,
+      simp length-set l.invariant.2,
+    )
+
+pub returns : goal.returns
+returns c i h =
+    let a = c.args in
+    let l = c.loop-e in
+    changed-all (λ k x. byte_at a.src.now k) a.out.now l.out l.e l.invariant.1 (omega arith) (omega arith) i (omega arith)

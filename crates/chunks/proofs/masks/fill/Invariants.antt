@@ -1,0 +1,15 @@
+-- `chunks::masks::fill` meets its contract. Each element is changed once (`Elementwise`).
+-- Assumes nothing.
+use borrow.Author.Rules.{rules}
+use Prim.Native.Nat.{ℕ, ◌≤◌, ◌-◌}
+use mathlib.Core.Path.{◌≡◌, refl}
+use lib.ListN.{length, length-set}
+use native.Mathlib.Omega.{arith}
+use Rattle.strings.proofs.Elementwise.{changed, changed_more, changed-all}
+use Rattle.chunks.proofs.masks.fill.Given as goal
+
+abbrev pub invariant-loop-f : goal.invariant-loop-f
+invariant-loop-f l = let dst = l.dst in let f = l.f in (f ≤ length l.initial.dst) × (dst ≡ changed (λ (k y : ℕ). l.x) l.initial.dst f) × (length dst ≡ length l.initial.dst)
+
+abbrev pub decreases-loop-f : goal.decreases-loop-f
+decreases-loop-f l = length l.initial.dst - l.f

@@ -1,0 +1,25 @@
+-- `lanes::accumulate_bytes` meets its contract. Each element is changed once (`Elementwise`), by the product that
+-- `multiply` ensures.
+-- Assumes nothing.
+use borrow.Author.Rules.{rules}
+use Prim.Native.Nat.{ℕ, ◌≤◌, ◌<◌, ◌-◌}
+use mathlib.Core.List.{List}
+use mathlib.Core.Path.{◌≡◌, refl, ap, ◌∙◌}
+use lib.ListN.{length, length-set}
+use lib.Bits.{bit_xor}
+use native.Mathlib.Omega.{arith}
+use Rattle.algebra.specs.Coded.{mul_byte}
+use Rattle.galois.specs.Gf256.{gf256}
+use Rattle.strings.specs.Sums.{byte_at}
+use Rattle.strings.proofs.Elementwise.{changed, changed_more, changed-all}
+use Rattle.lanes.specs.Lanes.{lanes}
+use Rattle.lanes.proofs.accumulate_bytes.Given as goal
+
+abbrev pub change : List ℕ → List ℕ → ℕ → ℕ → ℕ
+change f t k x = bit_xor x (mul_byte gf256 (byte_at f k) (byte_at t k))
+
+abbrev pub invariant-loop-e : goal.invariant-loop-e
+invariant-loop-e l = (l.e ≤ lanes) × (l.acc ≡ changed (change l.f l.t) l.initial.acc l.e) × (length l.acc ≡ lanes)
+
+abbrev pub decreases-loop-e : goal.decreases-loop-e
+decreases-loop-e l = lanes - l.e

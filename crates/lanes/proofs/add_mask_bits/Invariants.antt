@@ -1,0 +1,23 @@
+-- `lanes::add_mask_bits` meets its contract. Each element is changed once (`Elementwise`).
+-- Assumes nothing.
+use borrow.Author.Rules.{rules}
+use Prim.Native.Nat.{ℕ, ◌+◌, ◌*◌, ◌-◌, ◌≤◌}
+use mathlib.Core.List.{List}
+use mathlib.Core.Path.{◌≡◌, refl, ap, ◌∙◌}
+use lib.ListN.{length, length-set}
+use lib.Bits.{bit_xor}
+use native.Mathlib.Omega.{arith}
+use Rattle.strings.specs.Sums.{byte_at}
+use Rattle.strings.proofs.Elementwise.{changed, changed_more, changed-at}
+use Rattle.format.specs.declared.sizes.Sizes.{Sizes}
+use Rattle.lanes.specs.Lanes.{lanes, mask_bits, first_mask}
+use Rattle.lanes.proofs.add_mask_bits.Given as goal
+
+abbrev pub change : List ℕ → Sizes → ℕ → ℕ → ℕ
+change u s k x = bit_xor x (mask_bits s.degree u (first_mask s k))
+
+abbrev pub invariant-loop-e : goal.invariant-loop-e
+invariant-loop-e l = (l.e ≤ l.tau) × (l.acc ≡ changed (change l.u l.s) l.initial.acc l.e) × (length l.acc ≡ length l.initial.acc)
+
+abbrev pub decreases-loop-e : goal.decreases-loop-e
+decreases-loop-e l = l.tau - l.e

@@ -1,0 +1,20 @@
+-- `lanes::mask_byte` meets its contract. The invariant: the coordinates passed are added, each times its power.
+-- Assumes nothing.
+use borrow.Author.Rules.{rules}
+use Prim.Native.Nat.{ℕ, ◌+◌, ◌*◌, ◌-◌, ◌/◌, ◌≤◌, ◌<◌}
+use mathlib.Core.Path.{◌≡◌, refl, sym, ap, ap₂, ◌∙◌}
+use native.Mathlib.Omega.{arith}
+use lib.Bits.{bit_xor}
+use Rattle.algebra.specs.Coded.{mul_byte}
+use Rattle.galois.specs.Degrees.{field_of, degree_of, mask_element_of}
+use Rattle.galois.proofs.DegreeLaws.{degree-most}
+use Rattle.protocol.specs.Strings.{bit}
+use Rattle.strings.specs.Sums.{xor_sum}
+use Rattle.strings.proofs.SumLaws.{sum_more}
+use Rattle.lanes.proofs.mask_byte.Given as goal
+
+abbrev pub invariant-loop-i : goal.invariant-loop-i
+invariant-loop-i l = (l.i ≤ l.count) × (l.sum ≡ xor_sum l.i (λ k. mul_byte (field_of l.degree) (mask_element_of l.degree k) (bit l.u (l.at + k))))
+
+abbrev pub decreases-loop-i : goal.decreases-loop-i
+decreases-loop-i l = l.count - l.i

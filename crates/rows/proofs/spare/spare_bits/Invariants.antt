@@ -1,0 +1,18 @@
+-- `sections::spare::spare_bits` meets its contract. The loop's invariant: what was found is 0 exactly where the rows
+-- passed have spare bits 0 (`SpareLaws`).
+-- Assumes nothing.
+use mathlib.Core.Path.{◌≡◌}
+use Prim.Native.Nat.{◌+◌, ◌*◌, ◌-◌, ◌≤◌}
+use native.Mathlib.Omega.{arith}
+use borrow.Author.Rules.{rules}
+use lib.ListN.{length}
+use lib.Dec.{eqb}
+use Rattle.rows.specs.Spare.{bits_spare}
+use Rattle.rows.proofs.SpareLaws.{no_rows, row_fits, rows_more}
+use Rattle.rows.proofs.spare.spare_bits.Given as goal
+
+abbrev pub invariant-loop-i : goal.invariant-loop-i
+invariant-loop-i l = (l.i ≤ l.rows) × (eqb l.found 0 ≡ bits_spare l.bits l.i l.s)
+
+abbrev pub decreases-loop-i : goal.decreases-loop-i
+decreases-loop-i l = l.rows - l.i

@@ -1,0 +1,21 @@
+-- `shake::input::mix_words` meets its contract. What is left to add, added to the lanes, gives the result.
+-- Assumes nothing.
+use borrow.Author.Rules.{rules}
+use Prim.Native.Nat.{ℕ, ◌+◌, ◌*◌, ◌%◌, ◌-◌, ◌≤◌, ◌<◌}
+use mathlib.Core.Path.{◌≡◌, refl, ap, ◌∙◌}
+use native.Mathlib.Nat.{add-zero}
+use native.Mathlib.Omega.{arith}
+use lib.ListN.{length, get_or, drop, length-set}
+use Rattle.sponge.specs.Lanes.{lane_count}
+use Rattle.sponge.specs.Sponge.{added_all}
+use Rattle.shake.proofs.MixLaws.{word-step, none_left}
+use Rattle.shake.proofs.input.mix_words.Reads as reads
+use Rattle.shake.proofs.input.mix_words.Lts as lts
+use Rattle.strings.proofs.word_at.Reads as word-at-reads
+use Rattle.shake.proofs.input.mix_words.Given as goal
+
+abbrev pub invariant-loop-i : goal.invariant-loop-i
+invariant-loop-i l = (l.i ≤ length l.part) × (l.i % 8 ≡ 0) × (added_all l.lanes (8 * l.first + l.i) (drop l.i l.part) ≡ added_all l.initial.lanes (8 * l.first) l.part) × (length l.lanes ≡ lane_count)
+
+abbrev pub decreases-loop-i : goal.decreases-loop-i
+decreases-loop-i l = length l.part - l.i

@@ -1,0 +1,31 @@
+-- `shake::output::emit` meets its contract. Three parts are given one after the other.
+-- Assumes nothing.
+use Prim.Native.Nat.{◌+◌, ◌*◌, ◌/◌, ◌-◌}
+use native.Mathlib.Omega.{arith}
+use lib.ListN.{length, length-take}
+use Rattle.sponge.specs.Sponge.{byte_in}
+use Rattle.shake.proofs.MixLaws.{where_words}
+use Rattle.shake.proofs.EmitLaws.{three-given}
+use borrow.Author.Rules.{rules}
+use Rattle.shake.proofs.output.emit.Reads as reads
+use Rattle.shake.proofs.output.emit.Lts as lts
+use Rattle.shake.proofs.output.emit_bytes.Reads as emit-bytes-reads
+use Rattle.shake.proofs.output.emit_words.Reads as emit-words-reads
+use Rattle.strings.proofs.least.Reads as least-reads
+use Rattle.shake.proofs.output.emit.Goals as goal
+
+pub slice_bounds-emit_bytes-end-2 : goal.slice_bounds-emit_bytes-end-2
+slice_bounds-emit_bytes-end-2 c = simp length-take (omega arith)
+
+pub emit_bytes-requires : goal.emit_bytes-requires
+emit_bytes-requires c = (c.requires.0, simp length-take (omega (arith, c.requires.1)))
+
+pub returns : goal.returns
+returns c =
+    let a = c.args in
+    let h = c.least-head.result in
+    let o = a.out.now in
+    let t = h + (length o - h) / 8 * 8 in
+    let lo = c.least-head.ensures in
+    three-given o c.emit_bytes.new.out c.emit_words.new.out c.emit_bytes-2.new.out (byte_in a.lanes.now) a.at h t (omega arith) (omega (arith, lo))
+    c.emit_bytes.ensures c.emit_words.ensures c.emit_bytes-2.ensures (where_words a.at h (length o) lo.0 lo.2)

@@ -1,0 +1,23 @@
+-- `shake::output::emit_bytes` meets its contract. The bytes passed are those of the lanes.
+-- Assumes nothing.
+use mathlib.Core.List.{[], ◌∷◌, ◌++◌}
+use native.Mathlib.Numerals.{add-one}
+use lib.ListN.{set}
+use lib.Seq.{take-suc-set, take_all}
+use Rattle.sponge.specs.Lanes.{listed}
+use Rattle.sponge.specs.Sponge.{byte_in}
+use Rattle.shake.proofs.PieceLaws.{listed_next}
+use borrow.Author.Rules.{rules}
+use Prim.Native.Nat.{◌+◌, ◌-◌, ◌≤◌}
+use mathlib.Core.Path.{◌≡◌, refl, sym, ap, ◌∙◌}
+use native.Mathlib.Omega.{arith}
+use lib.ListN.{length, take, length-set}
+use Rattle.shake.proofs.output.emit_bytes.Reads as reads
+use Rattle.shake.proofs.output.emit_bytes.Lts as lts
+use Rattle.shake.proofs.output.emit_bytes.Given as goal
+
+abbrev pub invariant-loop-i : goal.invariant-loop-i
+invariant-loop-i l = (l.i ≤ length l.initial.out) × (length l.out ≡ length l.initial.out) × (take l.i l.out ≡ listed l.i (byte_in l.lanes) l.at)
+
+abbrev pub decreases-loop-i : goal.decreases-loop-i
+decreases-loop-i l = length l.initial.out - l.i

@@ -1,0 +1,32 @@
+-- `shake::short` meets its contract: a block in, a permutation, a block out. Assumes nothing.
+use Prim.Native.Nat.{◌-◌}
+use mathlib.Core.Path.{ap, ◌∙◌}
+use native.Mathlib.Omega.{arith}
+use lib.ListN.{length}
+use Rattle.sponge.specs.Keccak.{keccak}
+use Rattle.sponge.specs.Lanes.{listed}
+use Rattle.sponge.specs.Sponge.{byte_in, added, rate, suffix, last_bit}
+use Rattle.shake.proofs.StateLaws.{all-length, keccak-length}
+use Rattle.shake.proofs.PieceLaws.{short_is}
+use borrow.Author.Rules.{rules}
+use Rattle.shake.proofs.short.Reads as reads
+use Rattle.shake.proofs.short.Lts as lts
+use Rattle.keccak.proofs.permute.Reads as permute-reads
+use Rattle.shake.proofs.output.emit.Reads as emit-reads
+use Rattle.shake.proofs.input.mix.Reads as mix-reads
+use Rattle.shake.proofs.pad.Reads as pad-reads
+use Rattle.shake.proofs.short.Goals as goal
+
+pub pad-requires : goal.pad-requires
+pad-requires c = (ap length c.mix.ensures ∙ all-length _ _ _, c.requires.0)
+
+pub emit-requires : goal.emit-requires
+emit-requires c = (ap length c.permute.ensures ∙ keccak-length _, omega (arith, c.requires.1))
+
+pub returns : goal.returns
+returns c =
+    let m = c.args.input.now in
+    let n = length c.args.out.now in
+    c.emit.ensures
+    ∙ ap (λ s. listed n (byte_in s) 0) (c.permute.ensures ∙ ap keccak (c.pad.ensures ∙ ap (λ s. added (added s (length m) suffix) (rate - 1) last_bit) c.mix.ensures))
+    ∙ short_is m n c.requires.0 c.requires.1

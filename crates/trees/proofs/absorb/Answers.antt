@@ -1,0 +1,55 @@
+-- `trees::absorb` meets its contract. The invariant: the planes below p are done, the others are as they were.
+-- Assumes nothing.
+use borrow.Author.Rules.{rules}
+use Prim.Native.Nat.{ℕ, ◌+◌, ◌*◌, ◌-◌, ◌≤◌, ◌<◌}
+use mathlib.Core.Path.{◌≡◌, refl, ◌∙◌}
+use mathlib.Core.Logic.{⊎_elim}
+use lib.ListN.{length}
+use lib.Bits.{bit_xor}
+use native.Mathlib.Omega.{arith}
+use Rattle.strings.specs.Sums.{byte_at, bit_of}
+use native.Mathlib.Nat.{mod-lt}
+use lib.Dec.{lit<}
+use Rattle.strings.proofs.Rows.{row-end}
+use Rattle.trees.proofs.PlaneLaws.{Done, Left, done_more, left_less}
+use Rattle.strings.proofs.SumLaws.{bit_added, bit-left}
+use Rattle.trees.proofs.absorb.Goals as goal
+
+pub loop-p-init : goal.loop-p-init
+loop-p-init c = (search rules, refl, λ q b h. absurd (omega arith), λ q b h k. refl)
+
+pub xor_row-requires : goal.xor_row-requires
+xor_row-requires c =
+    let a = c.args in
+    omega (arith, row-end c.loop-p.p a.r (length a.row.now) (search rules))
+
+pub loop-p-preserved : goal.loop-p-preserved
+unfolding bit_of
+loop-p-preserved c =
+    let a = c.args in
+    let l = c.loop-p in
+    let w = length a.row.now in
+    let g : ℕ → ℕ → ℕ → ℕ = λ q b x. bit_xor x (bit_of a.j q * byte_at a.row.now b) in
+    let Row : Type 0 = ((b : ℕ) → b < w → byte_at c.if-j-p-eq1.planes (l.p * w + b) ≡ g l.p b (byte_at l.planes (l.p * w + b))) in
+    let Others : Type 0 = ((q b : ℕ) → (q ≡ l.p → ⊥) → b < w → byte_at c.if-j-p-eq1.planes (q * w + b) ≡ byte_at l.planes (q * w + b)) in
+    let step : (length c.if-j-p-eq1.planes ≡ length l.planes) × Row × Others =
+    ⊎_elim
+    (λ k. rw k.5 (
+      k.2.kept.0,
+      (λ b h. k.2.ensures.0 b h ∙ bit_added (byte_at l.planes (l.p * w + b)) (bit_of a.j l.p) (byte_at a.row.now b) k.0.taken),
+      k.2.ensures.1,
+    ))
+    (λ k. rw k.1 (
+      refl,
+      (λ b h. bit-left (byte_at l.planes (l.p * w + b)) (bit_of a.j l.p) (byte_at a.row.now b) (mod-lt _ (lit< tt)) k.0.left),
+      (λ q b h k. refl),
+    ))
+    c.if-j-p-eq1.branch in (
+      omega arith,
+      step.0 ∙ l.invariant.1,
+      done_more g a.planes.now l.planes c.if-j-p-eq1.planes w l.p step.1 step.2 l.invariant.3 l.invariant.2,
+      left_less g a.planes.now l.planes c.if-j-p-eq1.planes w l.p step.1 step.2 l.invariant.3,
+    )
+
+pub returns : goal.returns
+returns c p b hp hb = c.loop-p.invariant.2 p b (omega arith) hb

@@ -1,0 +1,23 @@
+-- `trees::absorb` meets its contract. The invariant: the planes below p are done, the others are as they were.
+-- Assumes nothing.
+use borrow.Author.Rules.{rules}
+use Prim.Native.Nat.{ℕ, ◌+◌, ◌*◌, ◌-◌, ◌≤◌, ◌<◌}
+use mathlib.Core.Path.{◌≡◌, refl, ◌∙◌}
+use mathlib.Core.Logic.{⊎_elim}
+use lib.ListN.{length}
+use lib.Bits.{bit_xor}
+use native.Mathlib.Omega.{arith}
+use Rattle.strings.specs.Sums.{byte_at, bit_of}
+use native.Mathlib.Nat.{mod-lt}
+use lib.Dec.{lit<}
+use Rattle.strings.proofs.Rows.{row-end}
+use Rattle.trees.proofs.PlaneLaws.{Done, Left, done_more, left_less}
+use Rattle.strings.proofs.SumLaws.{bit_added, bit-left}
+use Rattle.trees.proofs.absorb.Given as goal
+
+abbrev pub invariant-loop-p : goal.invariant-loop-p
+invariant-loop-p l = let planes = l.planes in let p = l.p in (p ≤ l.r) × (length planes ≡ length l.initial.planes) × Done (λ (q b x : ℕ). bit_xor x (bit_of l.j q * byte_at l.row b)) l.initial.planes planes (length l.row) p
+    × Left l.initial.planes planes (length l.row) p
+
+abbrev pub decreases-loop-p : goal.decreases-loop-p
+decreases-loop-p l = l.r - l.p
