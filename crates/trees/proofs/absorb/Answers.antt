@@ -3,7 +3,6 @@
 use borrow.Author.Rules.{rules}
 use Prim.Native.Nat.{ℕ, ◌+◌, ◌*◌, ◌-◌, ◌≤◌, ◌<◌}
 use mathlib.Core.Path.{◌≡◌, refl, ◌∙◌}
-use mathlib.Core.Logic.{⊎_elim}
 use lib.ListN.{length}
 use lib.Bits.{bit_xor}
 use native.Mathlib.Omega.{arith}
@@ -14,6 +13,7 @@ use Rattle.strings.proofs.Rows.{row-end}
 use Rattle.trees.proofs.PlaneLaws.{Done, Left, done_more, left_less}
 use Rattle.strings.proofs.SumLaws.{bit_added, bit-left}
 use Rattle.trees.proofs.absorb.Goals as goal
+use Rattle.trees.proofs.absorb.Goals.{then-j-p-eq1, else-j-p-eq1}
 
 pub loop-p-init : goal.loop-p-init
 loop-p-init c = (search rules, refl, λ q b h. absurd (omega arith), λ q b h k. refl)
@@ -33,18 +33,17 @@ loop-p-preserved c =
     let Row : Type 0 = ((b : ℕ) → b < w → byte_at c.if-j-p-eq1.planes (l.p * w + b) ≡ g l.p b (byte_at l.planes (l.p * w + b))) in
     let Others : Type 0 = ((q b : ℕ) → (q ≡ l.p → ⊥) → b < w → byte_at c.if-j-p-eq1.planes (q * w + b) ≡ byte_at l.planes (q * w + b)) in
     let step : (length c.if-j-p-eq1.planes ≡ length l.planes) × Row × Others =
-    ⊎_elim
-    (λ k. rw k.5 (
-      k.2.kept.0,
-      (λ b h. k.2.ensures.0 b h ∙ bit_added (byte_at l.planes (l.p * w + b)) (bit_of a.j l.p) (byte_at a.row.now b) k.0.taken),
-      k.2.ensures.1,
-    ))
-    (λ k. rw k.1 (
+    elim c.if-j-p-eq1.branch [
+      then-j-p-eq1 k ↦ rw k.planes-is (
+        k.xor_row.auto.table,
+        (λ b h. k.xor_row.ensures.row_added b h ∙ bit_added (byte_at l.planes (l.p * w + b)) (bit_of a.j l.p) (byte_at a.row.now b) k.if-j-p-eq1.true),
+        k.xor_row.ensures.rows_kept,
+      )
+    | else-j-p-eq1 k ↦ rw k.planes-is (
       refl,
-      (λ b h. bit-left (byte_at l.planes (l.p * w + b)) (bit_of a.j l.p) (byte_at a.row.now b) (mod-lt _ (lit< tt)) k.0.left),
-      (λ q b h k. refl),
-    ))
-    c.if-j-p-eq1.branch in (
+      (λ b h. bit-left (byte_at l.planes (l.p * w + b)) (bit_of a.j l.p) (byte_at a.row.now b) (mod-lt _ (lit< tt)) k.if-j-p-eq1.false),
+      (λ q b h o. refl),
+    )] in (
       omega arith,
       step.0 ∙ l.invariant.1,
       done_more g a.planes.now l.planes c.if-j-p-eq1.planes w l.p step.1 step.2 l.invariant.3 l.invariant.2,

@@ -31,7 +31,11 @@ pub overflow_sub-found : goal.overflow_sub-found
 overflow_sub-found c = omega (arith, turn c)
 
 pub bounds-s-i : goal.bounds-s-i
-bounds-s-i c = omega (arith, turn c.before)
+bounds-s-i c =
+    let at : (1 ≤ c.loop-i.i * c.bytes_for-width.result + c.bytes_for-width.result)
+        × (c.loop-i.i * c.bytes_for-width.result + c.bytes_for-width.result ≤ length c.args.s.now) =
+    rw c.bytes_for-width.ensures (row_fits c.args.s.now c.args.bits c.args.rows c.requires.0 c.requires.1 (λ i. (c.type_inv.s i).fits) c.loop-i.i c.loop-i-test.true) in
+    omega (arith, at)
 
 pub loop-i-preserved : goal.loop-i-preserved
 loop-i-preserved c =

@@ -25,4 +25,4 @@ pub returns : goal.returns
 returns c =
     let l = c.loop-i in
     let end : l.i ≡ 16 = omega arith in
-record { by_index = rw end at l.invariant.2.0; by_index_2 = rw end at l.invariant.2.1 }
+    record { by_index = rw end at l.invariant.2.0; by_index_2 = rw end at l.invariant.2.1 }
