@@ -3,4 +3,3 @@ pub mod SpanLaws
 pub mod ReadingLaws
 pub mod Writes
 pub mod ReaderLaws
-pub mod Made

@@ -1,0 +1,18 @@
+-- `forms_choices::fives::fill_words` meets its contract. The invariant: the rows of the repetitions below e are filled.
+-- Assumes nothing.
+use borrow.Author.Rules.{rules}
+use Prim.Native.Nat.{ℕ, ◌+◌, ◌*◌, ◌-◌, ◌≤◌, ◌<◌}
+use mathlib.Core.Path.{◌≡◌, refl, ◌∙◌}
+use native.Mathlib.Omega.{arith}
+use lib.ListN.{length}
+use Rattle.strings.specs.Sums.{byte_at}
+use Rattle.strings.proofs.Rows.{row-end}
+use Rattle.forms_choices.specs.Entries.{Chosen}
+use Rattle.forms_choices.proofs.ChoiceLaws.{chosen-next}
+use Rattle.forms_choices.proofs.fives.fill_words.Given as goal
+
+abbrev pub invariant-loop-e : goal.invariant-loop-e
+invariant-loop-e l = let words = l.words in let e = l.e in (e ≤ l.tau) × (length words ≡ length l.initial.words) × ((q : ℕ) → q < e * 8 → Chosen (λ r i. byte_at l.chi (r * l.stride + l.from + i)) l.m words q)
+
+abbrev pub decreases-loop-e : goal.decreases-loop-e
+decreases-loop-e l = l.tau - l.e

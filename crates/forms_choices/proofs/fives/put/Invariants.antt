@@ -1,0 +1,21 @@
+-- `forms_choices::fives::put` meets its contract. Each word is written once (`Elementwise`).
+-- Assumes nothing.
+use borrow.Author.Rules.{rules}
+use Prim.Native.Nat.{ℕ, ◌+◌, ◌*◌, ◌-◌, ◌≤◌}
+use mathlib.Core.List.{List}
+use mathlib.Core.Path.{◌≡◌, refl, ap₂}
+use native.Mathlib.Omega.{arith}
+use lib.ListN.{length, length-set}
+use Rattle.strings.specs.Sums.{byte_at}
+use Rattle.strings.proofs.Elementwise.{changed, changed_more, changed-all}
+use Rattle.forms_choices.specs.Entries.{fives_word}
+use Rattle.forms_choices.proofs.fives.put.Given as goal
+
+abbrev pub word : List ℕ → ℕ → ℕ → ℕ → ℕ
+word picks at k x = fives_word picks (at + k * 10)
+
+abbrev pub invariant-loop-k : goal.invariant-loop-k
+invariant-loop-k l = (l.k ≤ 4) × (l.row ≡ changed (word l.picks l.at) l.initial.row l.k) × (length l.row ≡ length l.initial.row)
+
+abbrev pub decreases-loop-k : goal.decreases-loop-k
+decreases-loop-k l = 4 - l.k

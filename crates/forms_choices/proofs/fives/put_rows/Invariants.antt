@@ -1,0 +1,21 @@
+-- `forms_choices::fives::put_rows` meets its contract. The invariant: the rows of the bits below p are filled, and
+-- those of earlier repetitions are as they were.
+-- Assumes nothing.
+use borrow.Author.Rules.{rules}
+use Prim.Native.Nat.{ℕ, ◌+◌, ◌*◌, ◌-◌, ◌≤◌, ◌<◌}
+use mathlib.Core.Logic.{⊎_elim}
+use mathlib.Core.Path.{◌≡◌, refl, ◌∙◌}
+use native.Mathlib.Nat.{eq-or-lt_of_le, le_of_suc-le-suc}
+use native.Mathlib.Numerals.{add-one}
+use native.Mathlib.Omega.{arith}
+use lib.ListN.{length}
+use Rattle.strings.specs.Sums.{byte_at}
+use Rattle.forms_choices.specs.Entries.{fives_word}
+use Rattle.forms_choices.proofs.fives.put_rows.Given as goal
+
+abbrev pub invariant-loop-p : goal.invariant-loop-p
+invariant-loop-p l = let words = l.words in let p = l.p in (p ≤ 8) × (length words ≡ length l.initial.words) × ((q k : ℕ) → q < p → k < 4 → byte_at words ((l.e * 8 + q) * 4 + k) ≡ fives_word l.picks (q * 32 + k * 10))
+    × ((q k : ℕ) → q < l.e * 8 → k < 4 → byte_at words (q * 4 + k) ≡ byte_at l.initial.words (q * 4 + k))
+
+abbrev pub decreases-loop-p : goal.decreases-loop-p
+decreases-loop-p l = 8 - l.p

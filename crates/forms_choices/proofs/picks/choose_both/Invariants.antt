@@ -1,0 +1,17 @@
+-- `forms_choices::picks::choose_both` meets its contract. The invariant: the fives below g of both sixteens are chosen.
+-- Assumes nothing.
+use borrow.Author.Rules.{rules}
+use Prim.Native.Nat.{ℕ, ◌+◌, ◌*◌, ◌-◌, ◌≤◌, ◌<◌}
+use mathlib.Core.Path.{◌≡◌, refl}
+use native.Mathlib.Omega.{arith}
+use lib.ListN.{length, length-set}
+use Rattle.strings.specs.Sums.{byte_at}
+use Rattle.forms_choices.specs.Entries.{choice, in_rows}
+use Rattle.forms_choices.proofs.PickLaws.{both_more, both-all}
+use Rattle.forms_choices.proofs.picks.choose_both.Given as goal
+
+abbrev pub invariant-loop-g : goal.invariant-loop-g
+invariant-loop-g l = let plane = l.plane in let g = l.g in (g ≤ 16) × (length plane ≡ length l.initial.plane) × ((k : ℕ) → k < g → (byte_at plane k ≡ choice (in_rows l.rows) l.p (0 * 16 + k)) × (byte_at plane (16 + k) ≡ choice (in_rows l.rows) l.p (1 * 16 + k)))
+
+abbrev pub decreases-loop-g : goal.decreases-loop-g
+decreases-loop-g l = 16 - l.g

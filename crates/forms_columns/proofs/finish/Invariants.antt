@@ -1,0 +1,34 @@
+-- `forms_columns::finish` meets its contract. The invariant: the columns of the halves below h are added.
+-- Assumes nothing.
+use borrow.Author.Rules.{rules}
+use Prim.Native.Nat.{ℕ, ◌+◌, ◌*◌, ◌-◌, ◌≤◌, ◌<◌}
+use mathlib.Core.List.{List}
+use mathlib.Core.Bool.{true, false}
+use mathlib.Core.Path.{◌≡◌, refl, sym, ap, ap₂, ◌∙◌}
+use native.Mathlib.Omega.{arith}
+use lib.Arith.{digits_div, digits_mod}
+use lib.Dec.{lit<}
+use lib.ListN.{length}
+use lib.Bits.{xor_zero_r}
+use Rattle.strings.specs.Sums.{byte_at, xor_sum}
+use Rattle.strings.proofs.Rows.{row-byte, row_lt}
+use Rattle.lanes.specs.Lanes.{lanes, lane_at, LanesAdded}
+use Rattle.chunks.specs.Chunks.{chunk}
+use Rattle.forms_columns.specs.Stacks.{byte_product, planes, fold_of, column_of, value_of, coordinate_of}
+use Rattle.forms_columns.proofs.ColumnLaws.{fold_is, eight_more}
+use Rattle.forms_columns.proofs.finish.Given as goal
+
+-- what column s of a panel adds
+abbrev pub quadTerm : ℕ → List ℕ → ℕ → List ℕ → ℕ → ℕ → ℕ
+quadTerm d stacks panel vs e s = byte_product d (coordinate_of vs e (panel * 16 + s)) (column_of d stacks e s)
+
+abbrev pub midTerm : ℕ → List ℕ → ℕ → List ℕ → ℕ → ℕ → ℕ
+midTerm d stacks panel xs e s = byte_at xs (panel * 16 + s) * column_of d stacks e s
+
+abbrev pub invariant-loop-h : goal.invariant-loop-h
+invariant-loop-h l =
+    (l.h ≤ 2) × (length l.quad ≡ lanes) × (length l.mid ≡ lanes) × LanesAdded l.tau (λ e. xor_sum (l.h * 8) (quadTerm l.degree l.stacks l.panel l.vectors e)) l.initial.quad l.quad
+    × (l.polar ≡ true → LanesAdded l.tau (λ e. xor_sum (l.h * 8) (midTerm l.degree l.stacks l.panel l.xs e)) l.initial.mid l.mid) × (l.polar ≡ false → l.mid ≡ l.initial.mid)
+
+abbrev pub decreases-loop-h : goal.decreases-loop-h
+decreases-loop-h l = 2 - l.h

@@ -1,0 +1,24 @@
+-- `sections::reader::step_at` meets its contract: the section that `find` found; or the refusal 12, place 0, nothing,
+-- and no further.
+-- Assumes nothing.
+use mathlib.Core.Path.{ap, ◌∙◌}
+use native.Mathlib.Omega.{arith}
+use borrow.Author.Rules.{rules}
+use Rattle.protocol.specs.Lists.{part}
+use Rattle.sections.proofs.SpanLaws.{found, not_found, found_inside}
+use Rattle.sections.specs.Taking.{answer_on, next_on, bytes_on, answer_at, next_at, bytes_at}
+use Rattle.sections.proofs.reader.step_at.Goals as goal
+
+pub returns-in_default : goal.returns-in_default
+unfolding answer_at next_at bytes_at part
+returns-in_default c =
+    let no = not_found c.in_default.is c.find.ensures.result_value in
+    (c.refuse.ensures ∙ ap answer_on no, ap (next_on _) no, (omega arith, omega arith), ap (bytes_on _) no)
+
+pub returns : goal.returns
+unfolding answer_at next_at bytes_at
+returns c =
+    let g = c.start-1.given in
+    let p = c.find in
+    let yes = found g.1 p.ensures.result_value in
+    (ap answer_on yes, ap (next_on _) yes, found_inside _ g.1 p.ensures.inside, ap (bytes_on _) yes)

@@ -1,0 +1,19 @@
+-- `tables::parts::put_lane` meets its contract. The invariant: the first i coordinates have their lane, the other lanes
+-- and the coordinates before are as they were.
+-- Assumes nothing.
+use borrow.Author.Rules.{rules}
+use Prim.Native.Nat.{◌-◌, ◌≤◌}
+use mathlib.Core.Path.{◌≡◌, refl, sym}
+use lib.ListN.{length, length-set}
+use native.Mathlib.Omega.{arith}
+use Rattle.protocol.specs.Strings.{from_bits}
+use Rattle.theorems.proofs.StringLaws.{bits_of}
+use Rattle.strings.specs.Sums.{byte_at, bit_of}
+use Rattle.tables.proofs.LaneLaws.{Filled, Others, filled_more, others-still}
+use Rattle.tables.proofs.parts.put_lane.Given as goal
+
+abbrev pub invariant-loop-i : goal.invariant-loop-i
+invariant-loop-i l = (l.i ≤ 128) × (length l.table ≡ length l.initial.table) × Filled (λ k. from_bits 8 (bit_of (byte_at l.columns k))) l.table l.e l.c l.i × Others l.initial.table l.table l.e l.c
+
+abbrev pub decreases-loop-i : goal.decreases-loop-i
+decreases-loop-i l = 128 - l.i
