@@ -36,6 +36,9 @@ overflow_mul-result-2 c = let a = c.args in omega (arith, ends c.begin.result c.
 pub overflow_add-result : goal.overflow_add-result
 overflow_add-result c = let a = c.args in omega (arith, ends c.begin.result c.height_of.result a.first a.count a.p a.m c.begin.ensures c.height_of.ensures (omega arith))
 
+pub slice_bounds-result-end : goal.slice_bounds-result-end
+slice_bounds-result-end c = let a = c.args in omega (arith, ends c.begin.result c.height_of.result a.first a.count a.p a.m c.begin.ensures c.height_of.ensures (omega arith))
+
 pub returns : goal.returns
 returns c =
     let a = c.args in

@@ -14,13 +14,6 @@ use Rattle.sections.proofs.SectionLaws.{turn_missing, turn_other, turn_next, tur
 use Rattle.sections.proofs.SpanLaws.{found, not_found, found_inside}
 use Rattle.sections.proofs.sections_form.Goals as goal
 
-ended : (c : goal.After-loop-i) →
-    framed c.args.lengths.now (drop c.args.at c.args.s.now)
-    ≡ eqb c.loop-i.next (length c.args.s.now)
-ended c =
-    let l = c.loop-i in
-    l.invariant.2 ∙ turn_end _ _ l.next l.i (omega arith) l.invariant.1
-
 pub loop-i-init : goal.loop-i-init
 loop-i-init c = (search rules, search rules, refl)
 
@@ -37,24 +30,24 @@ overflow_sub-end c =
 
 pub returns-then-end-start : goal.returns-then-end-start
 returns-then-end-start c =
-    let g = c.start-1.given in
     let l = c.loop-i in
-    let no = turn_other _ _ l.next l.i c.loop-i-test.true _ _ (found g.1 c.find.ensures.result_value) c.if-end-start.true in
+    let no = turn_other _ _ l.next l.i c.loop-i-test.true _ _ (found c.in-At.is c.find.ensures.result_value) c.if-end-start.true in
     says_no _ _ 0 _ (l.invariant.2 ∙ no) c.refuse-then-end-start.ensures
 
 pub loop-i-preserved : goal.loop-i-preserved
 loop-i-preserved c =
-    let g = c.start-1.given in
     let l = c.loop-i in (
       omega arith,
-      (found_inside _ g.1 c.find.ensures.inside).1,
-      l.invariant.2 ∙ turn_next _ _ l.next l.i c.loop-i-test.true _ _ (found g.1 c.find.ensures.result_value) c.if-end-start.false,
+      (found_inside _ c.in-At.is c.find.ensures.inside).1,
+      l.invariant.2 ∙ turn_next _ _ l.next l.i c.loop-i-test.true _ _ (found c.in-At.is c.find.ensures.result_value) c.if-end-start.false,
     )
 
 pub returns-then-next-s : goal.returns-then-next-s
 returns-then-next-s c =
-    says_no _ _ 0 _ (ended c.before.before ∙ eqb-other c.loop-i.next (length c.args.s.now) (search rules)) c.refuse-then-next-s.ensures
+    says_no _ _ 0 _ ((let ended' : framed c.args.lengths.now (drop c.args.at c.args.s.now) ≡ eqb c.loop-i.next (length c.args.s.now) = let l = c.loop-i in
+    l.invariant.2 ∙ turn_end _ _ l.next l.i (omega arith) l.invariant.1 in ended') ∙ eqb-other c.loop-i.next (length c.args.s.now) (search rules)) c.refuse-then-next-s.ensures
 
 pub returns : goal.returns
 returns c =
-    says_yes _ _ 0 _ (ended c.before ∙ eqb_same c.loop-i.next (length c.args.s.now) (omega arith)) says_all
+    says_yes _ _ 0 _ ((let ended' : framed c.args.lengths.now (drop c.args.at c.args.s.now) ≡ eqb c.loop-i.next (length c.args.s.now) = let l = c.loop-i in
+    l.invariant.2 ∙ turn_end _ _ l.next l.i (omega arith) l.invariant.1 in ended') ∙ eqb_same c.loop-i.next (length c.args.s.now) (omega arith)) says_all

@@ -14,7 +14,7 @@ use Rattle.tables.proofs.load_tree.Goals as goal
 pub sum_tree-requires : goal.sum_tree-requires
 sum_tree-requires c =
     let a = c.args in
-    let count : c.Leaves-of.result ≡ 2 ^ a.r = c.Leaves-of.ensures in
+    let count : c.leaves_of.result ≡ 2 ^ a.r = c.leaves_of.ensures in
     rw count (c.requires.1, c.requires.3, full-fits a.tree.now (length a.u.now) (2 ^ a.r) c.requires.4)
 
 pub returns : goal.returns
@@ -22,7 +22,7 @@ returns c =
     let a = c.args in
     let tree = a.tree.now in
     let w = length a.u.now in
-    let count : c.before.before.before.before.before.before.before.before.before.before.Leaves-of.result ≡ 2 ^ a.r = c.before.before.before.before.before.before.before.before.before.before.Leaves-of.ensures in
+    let count : c.leaves_of.result ≡ 2 ^ a.r = c.leaves_of.ensures in
     let planes = c.sum_tree.new.planes in
     let is = rw count at c.sum_tree.ensures.tree_summed in
     let rows : (p b : ℕ) → p < a.r → b < w → byte_at planes (p * w + b) ≡ xor_sum (2 ^ a.r) (λ j. bit_of j p * byte_at tree (j * w + b)) =

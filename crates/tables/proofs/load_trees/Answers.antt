@@ -36,15 +36,15 @@ pub loop-e-preserved : goal.loop-e-preserved
 loop-e-preserved c =
     let a = c.args in
     let l = c.loop-e in
-    let call = c.before.before.before.before.before.Load-row in
-    let long : length call.new.1.1.0 ≡ 8 * a.w = call.auto.1.1.0 ∙ simp length-take (omega arith) in
+    let call = c.load_row in
+    let long : length call.new.planes ≡ 8 * a.w = call.auto.planes ∙ simp length-take (omega arith) in
     let tree : ℕ → List ℕ = block_at a.leaves.now (2 ^ a.r * a.w) in (
       omega arith,
-      call.auto.0 ∙ l.invariant.1,
-      call.auto.1.0 ∙ l.invariant.2,
+      call.auto.table ∙ l.invariant.1,
+      call.auto.sums ∙ l.invariant.2,
       simp (length-append, length-drop) (omega (arith, long)),
-      rows_more (λ e. u_byte (tree e) (2 ^ a.r) a.w) l.sums call.new.1.0 l.e a.w l.invariant.4 call.ensures.0 call.ensures.1.1.0,
-      lanes_more (λ e. v_byte (tree e) (2 ^ a.r) a.w) a.w l.e l.table call.new.0 (omega arith) l.invariant.5 call.ensures.1.0 call.ensures.1.1.1,
+      rows_more (λ e. u_byte (tree e) (2 ^ a.r) a.w) l.sums call.new.sums l.e a.w l.invariant.4 call.ensures.by_index call.ensures.rows_kept,
+      lanes_more (λ e. v_byte (tree e) (2 ^ a.r) a.w) a.w l.e l.table call.new.table (omega arith) l.invariant.5 call.ensures.lane_is call.ensures.lanes_kept,
     )
 
 pub returns : goal.returns

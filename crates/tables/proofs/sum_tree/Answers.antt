@@ -28,7 +28,7 @@ slice_bounds-tree_sums-end-2 c =
 pub tree_sums-requires : goal.tree_sums-requires
 tree_sums-requires c =
     let a = c.args in
-    let count : c.Leaves-of.result ≡ 2 ^ a.r = c.Leaves-of.ensures in
+    let count : c.leaves_of.result ≡ 2 ^ a.r = c.leaves_of.ensures in
     rw count (record {
       u_len = (
         refl,
@@ -47,6 +47,13 @@ slice_bounds-clear-count c =
     let front : length sums.new.planes ≡ a.r * length a.u.now = sums.auto.planes ∙ simp length-take (omega (arith, c.requires.0, mul-le-mul_right (length a.u.now) c.requires.1)) in
     simp length-append (omega (arith, front))
 
+pub slice_bounds-clear-start : goal.slice_bounds-clear-start
+slice_bounds-clear-start c =
+    let a = c.args in
+    let sums = c.tree_sums in
+    let front : length sums.new.planes ≡ a.r * length a.u.now = sums.auto.planes ∙ simp length-take (omega (arith, c.requires.0, mul-le-mul_right (length a.u.now) c.requires.1)) in
+    simp length-append (omega (arith, front))
+
 pub returns : goal.returns
 returns c =
     let a = c.args in
@@ -55,7 +62,7 @@ returns c =
     let low = sums.new.planes in
     let old = a.planes.now in
     let zeros = c.clear.new.dst in
-    let count : c.before.before.before.before.before.before.before.before.before.Leaves-of.result ≡ 2 ^ a.r = c.before.before.before.before.before.before.before.before.before.Leaves-of.ensures in
+    let count : c.leaves_of.result ≡ 2 ^ a.r = c.leaves_of.ensures in
     let front : length low ≡ a.r * w = sums.auto.planes ∙ simp length-take (omega (arith, c.requires.0, mul-le-mul_right w c.requires.1)) in
     let rest : ℕ = length (low ++ drop (a.r * w) old) - a.r * w in
     let same : length zeros ≡ rest = c.clear.auto.dst ∙ simp (length-take, length-drop) (omega arith) in

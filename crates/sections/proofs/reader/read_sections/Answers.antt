@@ -17,13 +17,6 @@ use Rattle.sections.proofs.SectionLaws.{turn_end}
 use Rattle.sections.proofs.ReaderLaws.{within, refused-not, read_refused, read_other, read_next, places_more}
 use Rattle.sections.proofs.reader.read_sections.Goals as goal
 
-ended : (c : goal.After-loop-i) →
-    framed c.args.lengths.now c.args.proof.now
-    ≡ eqb c.loop-i.next (length c.args.proof.now)
-ended c =
-    let l = c.loop-i in
-    l.invariant.2 ∙ turn_end _ _ l.next l.i (omega arith) l.invariant.1
-
 pub loop-i-init : goal.loop-i-init
 unfolding read_to
 loop-i-init c = (search rules, omega arith, refl, refl, refl, λ k h. absurd (omega (arith, h)))
@@ -61,7 +54,8 @@ returns-then-next-proof c =
     let l = c.loop-i in
     let a = c.args in
     let end : l.i ≡ 6 = omega arith in (
-      says_yes _ 12 0 _ (ended c.before ∙ eqb_same l.next (length a.proof.now) (search rules)) says_all,
+      says_yes _ 12 0 _ ((let ended' : framed c.args.lengths.now c.args.proof.now ≡ eqb c.loop-i.next (length c.args.proof.now) = let l = c.loop-i in
+    l.invariant.2 ∙ turn_end _ _ l.next l.i (omega arith) l.invariant.1 in ended') ∙ eqb_same l.next (length a.proof.now) (search rules)) says_all,
       λ _ i h. l.invariant.5 i (omega (arith, h, end)),
     )
 
@@ -69,5 +63,6 @@ pub returns-else-next-proof : goal.returns-else-next-proof
 returns-else-next-proof c =
     let l = c.loop-i in
     let a = c.args in
-    let no = ended c.before.before ∙ eqb-other l.next (length a.proof.now) (search rules) in
+    let no = (let ended' : framed c.args.lengths.now c.args.proof.now ≡ eqb c.loop-i.next (length c.args.proof.now) = let l = c.loop-i in
+    l.invariant.2 ∙ turn_end _ _ l.next l.i (omega arith) l.invariant.1 in ended') ∙ eqb-other l.next (length a.proof.now) (search rules) in
     (says_no _ 12 0 _ no c.refuse-answer.ensures, λ h. absurd (refused-not c.refuse-answer.ensures h))

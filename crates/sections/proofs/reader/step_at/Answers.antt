@@ -18,7 +18,6 @@ returns-in_default c =
 pub returns : goal.returns
 unfolding answer_at next_at bytes_at
 returns c =
-    let g = c.start-1.given in
     let p = c.find in
-    let yes = found g.1 p.ensures.result_value in
-    (ap answer_on yes, ap (next_on _) yes, found_inside _ g.1 p.ensures.inside, ap (bytes_on _) yes)
+    let yes = found c.in-At.is p.ensures.result_value in
+    (ap answer_on yes, ap (next_on _) yes, found_inside _ c.in-At.is p.ensures.inside, ap (bytes_on _) yes)
