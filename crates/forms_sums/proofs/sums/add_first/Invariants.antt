@@ -1,0 +1,22 @@
+-- `forms_choices::sums::add_first` meets its contract. Each element of a chunk is changed once (`Elementwise`).
+-- Assumes nothing.
+use borrow.Author.Rules.{rules}
+use Prim.Native.Nat.{ℕ, ◌≤◌, ◌<◌, ◌-◌}
+use mathlib.Core.List.{List}
+use mathlib.Core.Path.{◌≡◌, refl, ap, ◌∙◌}
+use lib.ListN.{length, length-set}
+use lib.Bits.{bit_xor}
+use native.Mathlib.Omega.{arith}
+use Rattle.strings.specs.Sums.{byte_at}
+use Rattle.strings.proofs.Elementwise.{changed, changed_more, changed-at, changed-past}
+use Rattle.chunks.specs.Chunks.{chunk}
+use Rattle.forms_sums.proofs.sums.add_first.Given as goal
+
+abbrev pub change : List ℕ → ℕ → ℕ → ℕ
+change sums k x = bit_xor x (byte_at sums k)
+
+abbrev pub invariant-loop-f : goal.invariant-loop-f
+invariant-loop-f l = (l.f ≤ chunk) × (l.dst ≡ changed (change l.sums) l.initial.dst l.f) × (length l.dst ≡ length l.initial.dst)
+
+abbrev pub decreases-loop-f : goal.decreases-loop-f
+decreases-loop-f l = chunk - l.f
