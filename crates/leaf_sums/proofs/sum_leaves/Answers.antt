@@ -6,12 +6,12 @@ use borrow.Author.Rules.{rules}
 use Rattle.leaf_sums.proofs.sum_leaves.Goals as goal
 
 pub load_trees-requires : goal.load_trees-requires
-load_trees-requires c = c.before.before.before.fits2.ensures.0 c.if-fits.true
+load_trees-requires c = c.fits.ensures.trees_ready c.if-fits.true
 
 pub returns-then-fits : goal.returns-then-fits
 returns-then-fits c =
     let sums = c.load_trees in
-    inl (refl, c.before.before.before.before.before.before.before.before.fits2.ensures.0 c.if-fits.true, sums.ensures.sums_are, sums.ensures.table_is)
+    inl (refl, c.fits.ensures.trees_ready c.if-fits.true, sums.ensures.sums_are, sums.ensures.table_is)
 
 pub returns-else-fits : goal.returns-else-fits
-returns-else-fits c = inr (refl, c.before.fits2.ensures.1 c.if-fits.false, refl, refl)
+returns-else-fits c = inr (refl, c.fits.ensures.fact c.if-fits.false, refl, refl)

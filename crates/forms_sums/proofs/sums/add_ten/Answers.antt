@@ -23,7 +23,7 @@ pub add_at-requires : goal.add_at-requires
 add_at-requires c =
     let pre = c.requires in
     let l = c.loop-j in
-    (omega (arith, c.entry_IsPlace.ensures.0, c.entry_IsPlace.ensures.1, pre.3, c.loop-j-test.true), l.invariant.1)
+    (omega (arith, c.entry_place.ensures.0, c.entry_place.ensures.1, pre.3, c.loop-j-test.true), l.invariant.1)
 
 pub add_at-requires-in-loop-j : goal.add_at-requires-in-loop-j
 add_at-requires-in-loop-j c =
@@ -41,7 +41,7 @@ loop-j-preserved c =
       omega (arith, c.loop-j-test.true),
       one.ensures.dst_len,
       two.ensures.dst_len,
-      (λ f h. one.ensures.by_index f h ∙ ap (λ (p : ℕ). bit_xor (byte_at l.first f) (byte_at S (p + f))) c.before.before.before.before.entry_IsPlace.ensures.0 ∙ sum_step (byte_at a.first.now f) (byte_at l.first f) l.j (entry S a.k a.w f) (l.invariant.3 f h)),
+      (λ f h. one.ensures.by_index f h ∙ ap (λ (p : ℕ). bit_xor (byte_at l.first f) (byte_at S (p + f))) c.entry_place.ensures.0 ∙ sum_step (byte_at a.first.now f) (byte_at l.first f) l.j (entry S a.k a.w f) (l.invariant.3 f h)),
       (λ f h. two.ensures.by_index f h ∙ ap (λ (p : ℕ). bit_xor (byte_at l.second f) (byte_at S (p + f))) c.entry_place-in-loop-j.ensures.0 ∙ sum_step (byte_at a.second.now f) (byte_at l.second f) l.j (entry S a.k a.x f) (l.invariant.4 f h)),
     )
 

@@ -22,7 +22,7 @@ pub add_at-requires : goal.add_at-requires
 add_at-requires c =
     let pre = c.requires in
     let l = c.loop-j in
-    (omega (arith, c.entry_IsPlace.ensures.0, c.entry_IsPlace.ensures.1, pre.3, c.loop-j-test.true), l.invariant.1)
+    (omega (arith, c.entry_place.ensures.0, c.entry_place.ensures.1, pre.3, c.loop-j-test.true), l.invariant.1)
 
 pub loop-j-preserved : goal.loop-j-preserved
 loop-j-preserved c =
@@ -32,7 +32,7 @@ loop-j-preserved c =
     let S = a.sums.now in (
       omega (arith, c.loop-j-test.true),
       done.ensures.dst_len,
-      (λ f h. done.ensures.by_index f h ∙ ap (λ (p : ℕ). bit_xor (byte_at l.sum f) (byte_at S (p + f))) c.before.entry_IsPlace.ensures.0 ∙ sum_step (byte_at a.sum.now f) (byte_at l.sum f) l.j (entry S a.k a.w f) (l.invariant.2 f h)),
+      (λ f h. done.ensures.by_index f h ∙ ap (λ (p : ℕ). bit_xor (byte_at l.sum f) (byte_at S (p + f))) c.entry_place.ensures.0 ∙ sum_step (byte_at a.sum.now f) (byte_at l.sum f) l.j (entry S a.k a.w f) (l.invariant.2 f h)),
     )
 
 pub returns : goal.returns

@@ -2,7 +2,7 @@
 -- a no, or none did.
 -- Assumes nothing.
 use mathlib.Core.Path.{◌≡◌, sym, ap, ◌∙◌}
-use mathlib.Core.Bool.{true}
+use mathlib.Core.Bool.{true, not}
 use Prim.Native.Nat.{◌*◌}
 use native.Mathlib.Omega.{arith}
 use borrow.Author.Rules.{rules}
@@ -38,13 +38,15 @@ rows_spare-requires c =
     )
 
 pub returns-then-not-rows_spare : goal.returns-then-not-rows_spare
+unfolding leaves_spare leaves_exact
 returns-then-not-rows_spare c =
     go_on c.in-Accepted.is
     (says_yes _ 7 0 _ ((let exact' : leaves_exact (alphabet_for c.args.s) (shape_for c.args.s) c.args.per c.args.leaves.now ≡ true = eqb_same _ _ (c.if-leaves-leaves_bytes.false ∙ c.leaves_bytes.ensures) in exact')) (says_no _ 8 0 _ (no_of ((let spare' : c.rows_spare.result ≡ leaves_spare (alphabet_for c.args.s) (shape_for c.args.s) c.args.per c.args.leaves.now = let a = c.args in
-    rows_are (setting_for a.s) _ _ _ c.rows_spare.ensures ∙ ap (λ k. rows_spare (alphabet_for a.s) k (a.s.tau * a.per) a.leaves.now) c.leaf_bits.ensures in spare')) c.if-not-rows_spare.true) c.refuse-then-not-rows_spare.ensures))
+    rows_are (setting_for a.s) _ _ _ c.rows_spare.ensures ∙ ap (λ k. rows_spare (alphabet_for a.s) k (a.s.tau * a.per) a.leaves.now) c.leaf_bits.ensures in spare')) (ap not c.if-not-rows_spare.true)) c.refuse-then-not-rows_spare.ensures))
 
 pub returns : goal.returns
+unfolding leaves_spare leaves_exact
 returns c =
     go_on c.in-Accepted.is
     (says_yes _ 7 0 _ ((let exact' : leaves_exact (alphabet_for c.args.s) (shape_for c.args.s) c.args.per c.args.leaves.now ≡ true = eqb_same _ _ (c.if-leaves-leaves_bytes.false ∙ c.leaves_bytes.ensures) in exact')) (says_yes _ 8 0 _ (yes_of ((let spare' : c.rows_spare.result ≡ leaves_spare (alphabet_for c.args.s) (shape_for c.args.s) c.args.per c.args.leaves.now = let a = c.args in
-    rows_are (setting_for a.s) _ _ _ c.rows_spare.ensures ∙ ap (λ k. rows_spare (alphabet_for a.s) k (a.s.tau * a.per) a.leaves.now) c.leaf_bits.ensures in spare')) c.if-not-rows_spare.false) says_all))
+    rows_are (setting_for a.s) _ _ _ c.rows_spare.ensures ∙ ap (λ k. rows_spare (alphabet_for a.s) k (a.s.tau * a.per) a.leaves.now) c.leaf_bits.ensures in spare')) (ap not c.if-not-rows_spare.false)) says_all))

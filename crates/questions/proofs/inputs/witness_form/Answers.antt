@@ -1,7 +1,7 @@
 -- `questions::inputs::witness_form` meets its contract. Each return is the answer so far, or the question's.
 -- Assumes nothing.
 use mathlib.Core.Path.{◌≡◌, refl, sym, ap, ◌∙◌}
-use mathlib.Core.Bool.{◌&&◌}
+use mathlib.Core.Bool.{◌&&◌, not}
 use mathlib.Core.List.{List}
 use Prim.Native.Nat.{ℕ}
 use native.Mathlib.Omega.{arith}
@@ -38,10 +38,10 @@ pub returns-then-not-row_spare : goal.returns-then-not-row_spare
 returns-then-not-row_spare c =
     go_on c.in-Accepted.is (says_no _ 9 0 _ ((let exact' : witness_form (alphabet_for c.args.s) (shape_for c.args.s) c.args.witness.now ≡ spare_zero c.args.witness.now c.args.s.n = let a = c.args in
     let e = eqb_same (length a.witness.now) (bytes_for a.s.n) (c.if-witness-witness_bytes.false ∙ c.witness_bytes.ensures) in
-    form_is a.s a.witness.now ∙ ap (λ b. b && spare_zero a.witness.now a.s.n) e in exact') ∙ no_of c.row_spare.ensures c.if-not-row_spare.true) c.refuse-then-not-row_spare.ensures)
+    form_is a.s a.witness.now ∙ ap (λ b. b && spare_zero a.witness.now a.s.n) e in exact') ∙ no_of c.row_spare.ensures (ap not c.if-not-row_spare.true)) c.refuse-then-not-row_spare.ensures)
 
 pub returns : goal.returns
 returns c =
     go_on c.in-Accepted.is (says_yes _ 9 0 _ ((let exact' : witness_form (alphabet_for c.args.s) (shape_for c.args.s) c.args.witness.now ≡ spare_zero c.args.witness.now c.args.s.n = let a = c.args in
     let e = eqb_same (length a.witness.now) (bytes_for a.s.n) (c.if-witness-witness_bytes.false ∙ c.witness_bytes.ensures) in
-    form_is a.s a.witness.now ∙ ap (λ b. b && spare_zero a.witness.now a.s.n) e in exact') ∙ yes_of c.row_spare.ensures c.if-not-row_spare.false) says_all)
+    form_is a.s a.witness.now ∙ ap (λ b. b && spare_zero a.witness.now a.s.n) e in exact') ∙ yes_of c.row_spare.ensures (ap not c.if-not-row_spare.false)) says_all)
