@@ -65,15 +65,15 @@ returns c =
     ∙ ap₂ absorbed h₁ rest ∙ sym (absorbed-append (take head m) (drop head m) fresh) ∙ ap (absorbed fresh) (take-append-drop head m) in
     let h₃ = in_block whole.result.lanes whole.result.absorbed whole.ensures.1.1 ∙ whole.ensures.0 ∙ ap finished h₂ in
     let h : Held = finished (absorbed fresh m) in
-    let r₁ = first.new.1.0 in
-    let r₂ = last.new.1.0 in
+    let r₁ = first.new.out in
+    let r₂ = last.new.out in
     let l = r₁ ++ drop p o in
     let part : length (take p o) ≡ p = length-take-le p o in-o in
-    let n₁ : length r₁ ≡ p = first.auto.1.0 ∙ part in
+    let n₁ : length r₁ ≡ p = first.auto.out ∙ part in
     let back : p + (length o - p) ≡ length o = omega arith in
     let all : length l ≡ length o = length-append r₁ (drop p o) ∙ ap₂ ◌+◌ n₁ (length-drop p o) ∙ back in
     let left : length (take (length l - p) (drop p l)) ≡ length o - p = length-take-le (length l - p) (drop p l) (omega (arith, length-drop p l)) ∙ ap (λ n. n - p) all in
-    let n₂ : length r₂ ≡ length o - p = last.auto.1.0 ∙ left in
+    let n₂ : length r₂ ≡ length o - p = last.auto.out ∙ left in
     let h₄ = in_block first.result.lanes first.result.absorbed first.ensures.2.1 ∙ first.ensures.1 ∙ ap₂ after h₃ part in
     written o r₁ r₂ p in-o n₁ n₂
     ∙ ap₂ ◌++◌ (first.ensures.0 ∙ ap₂ given h₃ part) (last.ensures.0 ∙ ap₂ given h₄ left)

@@ -28,4 +28,4 @@ returns c =
     λ out l. let a = c.args in
     let e = c.requires ((let of-key' : KeyFacts (alphabet_for c.args.s) (shape_for c.args.s) c.args.key.now = key-sized c.args.s c.args.key.now c.requires (sym c.key_form-asked.ensures ∙ ap answer_of c.in-Accepted.is) in of-key')).header in
     then_ask _ (commit_inputs (alphabet_for a.s) (shape_of a.key.now) a.leaves.now a.witness.now (length out)) c.key_form-asked.ensures
-    (go_on c.in-Accepted.is (c.commit_inputs.ensures ∙ ap (λ S. ask (commit_inputs (alphabet_for a.s) S a.leaves.now a.witness.now a.out-len)) e ∙ ap (λ n. ask (commit_inputs (alphabet_for a.s) (shape_of a.key.now) a.leaves.now a.witness.now n)) (sym l)))
+    (go_on c.in-Accepted.is (c.commit_inputs.ensures ∙ ap (λ S. ask (commit_inputs (alphabet_for a.s) S a.leaves.now a.witness.now a.out_len)) e ∙ ap (λ n. ask (commit_inputs (alphabet_for a.s) (shape_of a.key.now) a.leaves.now a.witness.now n)) (sym l)))

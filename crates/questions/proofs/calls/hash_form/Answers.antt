@@ -27,5 +27,5 @@ pub returns : goal.returns
 returns c =
     λ out l. let a = c.args in
     let e = c.requires ((let of-key' : KeyFacts (alphabet_for c.args.s) (shape_for c.args.s) c.args.key.now = key-sized c.args.s c.args.key.now c.requires (sym c.key_form-asked.ensures ∙ ap answer_of c.in-Accepted.is) in of-key')).header in
-    then_ask _ (hash_inputs (alphabet_for a.s) (shape_of a.key.now) a.leaves.now a.hash-matrix.now (length out)) c.key_form-asked.ensures
-    (go_on c.in-Accepted.is (c.hash_inputs.ensures ∙ ap (λ S. ask (hash_inputs (alphabet_for a.s) S a.leaves.now a.hash-matrix.now a.out-len)) e ∙ ap (λ n. ask (hash_inputs (alphabet_for a.s) (shape_of a.key.now) a.leaves.now a.hash-matrix.now n)) (sym l)))
+    then_ask _ (hash_inputs (alphabet_for a.s) (shape_of a.key.now) a.leaves.now a.hash_matrix.now (length out)) c.key_form-asked.ensures
+    (go_on c.in-Accepted.is (c.hash_inputs.ensures ∙ ap (λ S. ask (hash_inputs (alphabet_for a.s) S a.leaves.now a.hash_matrix.now a.out_len)) e ∙ ap (λ n. ask (hash_inputs (alphabet_for a.s) (shape_of a.key.now) a.leaves.now a.hash_matrix.now n)) (sym l)))

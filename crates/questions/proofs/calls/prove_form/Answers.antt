@@ -27,5 +27,5 @@ pub returns : goal.returns
 returns c =
     λ out l. let a = c.args in
     let e = c.requires ((let of-key' : KeyFacts (alphabet_for c.args.s) (shape_for c.args.s) c.args.key.now = key-sized c.args.s c.args.key.now c.requires (sym c.key_form-asked.ensures ∙ ap answer_of c.in-Accepted.is) in of-key')).header in
-    then_ask _ (prove_inputs (alphabet_for a.s) (shape_of a.key.now) a.leaves.now a.witness.now a.hash-matrix.now a.batching.now (length out)) c.key_form-asked.ensures
-    (go_on c.in-Accepted.is (c.prove_inputs.ensures ∙ ap (λ S. ask (prove_inputs (alphabet_for a.s) S a.leaves.now a.witness.now a.hash-matrix.now a.batching.now a.out-len)) e ∙ ap (λ n. ask (prove_inputs (alphabet_for a.s) (shape_of a.key.now) a.leaves.now a.witness.now a.hash-matrix.now a.batching.now n)) (sym l)))
+    then_ask _ (prove_inputs (alphabet_for a.s) (shape_of a.key.now) a.leaves.now a.witness.now a.hash_matrix.now a.batching.now (length out)) c.key_form-asked.ensures
+    (go_on c.in-Accepted.is (c.prove_inputs.ensures ∙ ap (λ S. ask (prove_inputs (alphabet_for a.s) S a.leaves.now a.witness.now a.hash_matrix.now a.batching.now a.out_len)) e ∙ ap (λ n. ask (prove_inputs (alphabet_for a.s) (shape_of a.key.now) a.leaves.now a.witness.now a.hash_matrix.now a.batching.now n)) (sym l)))

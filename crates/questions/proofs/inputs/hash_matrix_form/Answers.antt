@@ -31,9 +31,9 @@ rows_spare-requires c =
 pub returns-then-not-rows_spare : goal.returns-then-not-rows_spare
 unfolding h_spare
 returns-then-not-rows_spare c = says_yes _ 5 0 _ (yes_of refl (ap not c.if-not-exact.false)) (says_no _ 6 0 _ (no_of ((let spare' : c.rows_spare.result ≡ h_spare (alphabet_for c.args.s) (shape_for c.args.s) c.args.hash_matrix.now = let a = c.args in
-    rows_are (setting_for a.s) _ _ _ c.rows_spare.ensures ∙ ap (λ k. rows_spare (alphabet_for a.s) k a.s.t a.hash-matrix.now) c.hashed_bits.ensures in spare')) (ap not c.if-not-rows_spare.true)) c.refuse-then-not-rows_spare.ensures)
+    rows_are (setting_for a.s) _ _ _ c.rows_spare.ensures ∙ ap (λ k. rows_spare (alphabet_for a.s) k a.s.t a.hash_matrix.now) c.hashed_bits.ensures in spare')) (ap not c.if-not-rows_spare.true)) c.refuse-then-not-rows_spare.ensures)
 
 pub returns : goal.returns
 unfolding h_spare
 returns c = says_yes _ 5 0 _ (yes_of refl (ap not c.if-not-exact.false)) (says_yes _ 6 0 _ (yes_of ((let spare' : c.rows_spare.result ≡ h_spare (alphabet_for c.args.s) (shape_for c.args.s) c.args.hash_matrix.now = let a = c.args in
-    rows_are (setting_for a.s) _ _ _ c.rows_spare.ensures ∙ ap (λ k. rows_spare (alphabet_for a.s) k a.s.t a.hash-matrix.now) c.hashed_bits.ensures in spare')) (ap not c.if-not-rows_spare.false)) says_all)
+    rows_are (setting_for a.s) _ _ _ c.rows_spare.ensures ∙ ap (λ k. rows_spare (alphabet_for a.s) k a.s.t a.hash_matrix.now) c.hashed_bits.ensures in spare')) (ap not c.if-not-rows_spare.false)) says_all)
