@@ -1,0 +1,25 @@
+-- `forms_batching::lines::add_each` meets its contract. The invariant: the lines below i are added to at the panel's
+-- columns, and all else is as it was.
+-- Assumes nothing.
+use borrow.Author.Rules.{rules}
+use Prim.Native.Nat.{ℕ, ◌+◌, ◌*◌, ◌-◌, ◌/◌, ◌%◌, ◌≤◌}
+use mathlib.Core.List.{List}
+use mathlib.Core.Path.{◌≡◌, refl, ap, ap₂, ◌∙◌}
+use native.Mathlib.Omega.{arith}
+use lib.ListN.{length, set, length-set}
+use lib.Bits.{bit_xor}
+use Rattle.strings.specs.Sums.{byte_at, xor_sum}
+use Rattle.strings.proofs.SumLaws.{sum_same}
+use Rattle.chunks.specs.Chunks.{chunk, cell_at}
+use Rattle.forms_batching.proofs.LineLaws.{table-end, PanelAdded, panel_more}
+use Rattle.forms_batching.proofs.lines.add_each.Given as goal
+
+-- the sum of half h of chunk i
+abbrev pub half : List ℕ → ℕ → ℕ → ℕ
+half S i h = xor_sum 16 (λ f. cell_at S i (h * 16 + f))
+
+abbrev pub invariant-loop-i : goal.invariant-loop-i
+invariant-loop-i l = (l.i ≤ l.m) × (length l.lines ≡ length l.initial.lines) × PanelAdded (half l.sums) l.m l.panel l.initial.lines l.lines l.i
+
+abbrev pub decreases-loop-i : goal.decreases-loop-i
+decreases-loop-i l = l.m - l.i

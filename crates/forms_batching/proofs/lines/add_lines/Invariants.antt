@@ -1,0 +1,37 @@
+-- `forms_batching::lines::add_lines` meets its contract. The invariant: the products of the coordinates of the first g
+-- tables are added, those from the n-th on as 0.
+-- Assumes nothing.
+use borrow.Author.Rules.{rules}
+use Prim.Native.Nat.{ℕ, ◌+◌, ◌*◌, ◌-◌, ◌≤◌, ◌<◌}
+use mathlib.Core.List.{List}
+use mathlib.Core.Path.{◌≡◌, sym, ap, ap₂, ◌∙◌}
+use native.Mathlib.Omega.{arith}
+use lib.ListN.{length}
+use lib.Bits.{bit_xor, xor_zero_r}
+use Rattle.protocol.specs.Lists.{block_at}
+use Rattle.protocol.specs.Shape.{most_variables}
+use Rattle.strings.specs.Sums.{byte_at, xor_sum}
+use Rattle.strings.proofs.Rows.{row-end}
+use Rattle.strings.proofs.XorLaws.{xor_assoc}
+use Rattle.strings.proofs.SumLaws.{sum_same, sum_parts}
+use Rattle.lanes.specs.Lanes.{lanes}
+use Rattle.chunks.specs.Chunks.{chunk}
+use Rattle.forms_choices.specs.Entries.{Tabled, up_to, IsBytes, ChosenAll}
+use Rattle.forms_columns.specs.Stacks.{byte_product}
+use Rattle.forms_columns.proofs.ProductLaws.{product-zero}
+use Rattle.forms_batching.specs.Batched.{SumsRoom}
+use Rattle.forms_batching.specs.Lines.{chunk_bits, lines_tables, line_sum}
+use Rattle.forms_batching.proofs.LineLaws.{weighed-rows, line-sum, products-table, products-all}
+use Rattle.forms_batching.proofs.lines.add_lines.Given as goal
+
+-- what coordinate c gives
+abbrev pub term : ℕ → List ℕ → ℕ → (ℕ → ℕ → ℕ) → List ℕ → ℕ → ℕ → ℕ
+term d L m χ vs e c = byte_product d (byte_at vs (e * most_variables + c)) (line_sum L m χ e c)
+
+abbrev pub invariant-loop-g : goal.invariant-loop-g
+invariant-loop-g l =
+    (l.g * chunk_bits < l.n + chunk_bits) × (length l.mid ≡ lanes) × SumsRoom l.sums
+    × ((χ : ℕ → ℕ → ℕ) (e : ℕ) → IsBytes χ → ChosenAll χ l.m l.tau l.words → e < l.tau → byte_at l.mid e ≡ bit_xor (byte_at l.initial.mid e) (xor_sum (l.g * chunk_bits) (up_to l.n (term l.degree l.lines l.m χ l.vectors e))))
+
+abbrev pub decreases-loop-g : goal.decreases-loop-g
+decreases-loop-g l = l.n + chunk_bits - l.g * chunk_bits

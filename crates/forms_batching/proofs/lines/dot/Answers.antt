@@ -1,0 +1,18 @@
+-- `forms_batching::lines::dot` meets its contract: the field is that of the branch.
+-- Assumes nothing.
+use borrow.Author.Rules.{rules}
+use mathlib.Core.Path.{sym, ap, ◌∙◌}
+use Rattle.algebra.specs.Coded.{Coded}
+use Rattle.galois.proofs.DegreeLaws.{field_four, field_other}
+use Rattle.forms_batching.specs.Lines.{dot_of}
+use Rattle.forms_batching.proofs.lines.dot.Goals as goal
+
+pub returns-then-degree-eq-DEGREE : goal.returns-then-degree-eq-DEGREE
+returns-then-degree-eq-DEGREE c =
+    let a = c.args in
+    c.dot_halves.ensures ∙ sym (ap (λ (C : Coded). dot_of C a.f.now a.t.now a.count) (field_four a.degree c.if-degree-eq-DEGREE.true))
+
+pub returns-else-degree-eq-DEGREE : goal.returns-else-degree-eq-DEGREE
+returns-else-degree-eq-DEGREE c =
+    let a = c.args in
+    c.dot_bytes.ensures ∙ sym (ap (λ (C : Coded). dot_of C a.f.now a.t.now a.count) (field_other a.degree c.if-degree-eq-DEGREE.false))

@@ -1,0 +1,25 @@
+-- `forms_batching::lines::sum_left` meets its contract. The invariant: the rows of the first q sixteens are added.
+-- Assumes nothing.
+use borrow.Author.Rules.{rules}
+use Prim.Native.Nat.{ℕ, ◌+◌, ◌*◌, ◌-◌, ◌%◌, ◌≤◌, ◌<◌}
+use mathlib.Core.List.{List}
+use mathlib.Core.Path.{◌≡◌, refl, sym, ap, ◌∙◌}
+use native.Mathlib.Nat.{mul_assoc, zero-add}
+use native.Mathlib.Omega.{arith}
+use lib.ListN.{length, get_or-replicate}
+use lib.Bits.{bit_xor, bit_and}
+use Rattle.strings.specs.Sums.{byte_at, xor_sum}
+use Rattle.strings.proofs.Rows.{row-end}
+use Rattle.strings.proofs.SumLaws.{sum_more}
+use Rattle.chunks.specs.Chunks.{chunk}
+use Rattle.forms_batching.proofs.lines.sum_left.Given as goal
+
+-- what the sixteen rows q add to byte k
+abbrev pub masked : List ℕ → List ℕ → ℕ → ℕ → ℕ → ℕ → ℕ → ℕ
+masked cells bits m top i k q = bit_and (byte_at cells ((q * m + i) * chunk + k)) (byte_at bits ((top + q) * 16 + k % 16))
+
+abbrev pub invariant-loop-q : goal.invariant-loop-q
+invariant-loop-q l = let acc = l.acc in let q = l.q in (q ≤ l.rows) × (length acc ≡ chunk) × ((k : ℕ) → k < chunk → byte_at acc k ≡ xor_sum q (masked l.cells l.bits l.m l.top l.i k))
+
+abbrev pub decreases-loop-q : goal.decreases-loop-q
+decreases-loop-q l = l.rows - l.q
