@@ -1,0 +1,53 @@
+-- `forms_pieces::add_forms` meets its contract. The invariant: of each panel, as many sixteens of rows are
+-- added as the walk over the pieces has passed. What all of them come to is `FoldLaws`.
+-- Assumes nothing.
+use borrow.Author.Rules.{rules}
+use Prim.Native.Nat.{ℕ, ◌+◌, ◌*◌, ◌-◌, ◌/◌, ◌%◌, ◌≤◌, ◌<◌}
+use mathlib.Core.List.{List}
+use mathlib.Core.Bool.{Bool, true, false}
+use mathlib.Core.Path.{◌≡◌, refl, sym, ap, ap₂, ◌∙◌}
+use native.Mathlib.Nat.{mul-le-mul_right}
+use native.Mathlib.Omega.{arith}
+use lib.ListN.{length}
+use lib.Bits.{bit_xor, xor_zero_r}
+use Rattle.strings.specs.Sums.{byte_at, xor_sum}
+use Rattle.lanes.specs.Lanes.{lanes}
+use Rattle.chunks.specs.Chunks.{chunk}
+use Rattle.forms_choices.specs.Entries.{IsBytes, ChosenAll}
+use Rattle.forms_folds.specs.Folds.{Folded, FoldedSet}
+use Rattle.forms_columns.specs.Stacks.{byte_product, planes, column_of, coordinate_of}
+use Rattle.forms_batching.specs.Batched.{SumsRoom, rows_sum}
+use Rattle.forms_pieces.specs.FormSums.{left_sum}
+use Rattle.forms_batching.specs.Lines.{line_bit, line_sum}
+use Rattle.forms_pieces.specs.Pieces.{panels_of, end_of, rows_of, piece_end, Walk, Walked}
+use Rattle.forms_pieces.proofs.FoldLaws.{form_is, polar_is}
+use Rattle.forms_pieces.proofs.PanelLaws.{part_term, quad_is, mid_is, term_parts, terms_none, terms_all}
+use Rattle.forms_pieces.proofs.LeftLaws.{Added, AddedUpTo, left-none, added_start, added-end, lines-added, both_halves}
+use Rattle.forms_pieces.proofs.PieceLaws.{piece_of, rows-height, walk_measure, end_bounds, end_under, walk_start, walk_end, back_walked, walked_here, sum_walked, next_walked, next-walk, next-inside, next_less, next_held, part-folded, lines_walked}
+use Rattle.forms_pieces.proofs.add_forms.Given as goal
+
+-- what r sixteens of rows of panel J give: to the form, and to half of the polar form
+abbrev pub quadTerm : ℕ → ℕ → ℕ → ℕ → List ℕ → List ℕ → (ℕ → ℕ → ℕ) → ℕ → ℕ → ℕ → ℕ
+quadTerm d n w m A vs χ e r J = part_term d n w m A χ e (coordinate_of vs e) (coordinate_of vs e) 0 r J
+
+abbrev pub midTerm : ℕ → ℕ → ℕ → ℕ → List ℕ → List ℕ → List ℕ → (ℕ → ℕ → ℕ) → ℕ → ℕ → ℕ → ℕ
+midTerm d n w m A vs xs χ e r J = part_term d n w m A χ e (byte_at xs) (coordinate_of vs e) 0 r J
+
+-- the place of the walk: what is loaded, and how far the panel's number goes
+abbrev pub Held : ℕ → ℕ → ℕ → List ℕ → List ℕ → ℕ → ℕ → Type 0
+Held n w m A cells first top = FoldedSet n w m A top (first - top) (rows_of (first - top) (end_of n first - top)) cells
+
+abbrev pub invariant-loop-first : goal.invariant-loop-first
+invariant-loop-first l = let n = l.n in let polar = l.polar in let first = l.first in let top = l.top in let p = l.p in Walk first top × (first * 16 < n → first + p < end_of n first) × (first * 16 < n + 64) × (length l.quad ≡ lanes) × (length l.mid ≡ lanes) × SumsRoom l.sums
+    × (length l.stacks ≡ lanes * (planes * chunk))
+    × (length l.lines ≡ length l.initial.lines) × (length l.cells ≡ length l.initial.cells) × ((p ≡ 0 → ⊥) → Held n l.width l.m l.a l.cells first top)
+    × ((R : ℕ → ℕ) → Walked n first top p R → (χ : ℕ → ℕ → ℕ) (e : ℕ) → IsBytes χ → ChosenAll χ l.m l.tau l.words → e < l.tau
+    → byte_at l.quad e ≡ bit_xor (byte_at l.initial.quad e) (xor_sum (panels_of n) (λ J. quadTerm l.degree n l.width l.m l.a l.vectors χ e (R J) J)))
+    × ((R : ℕ → ℕ) → Walked n first top p R → (χ : ℕ → ℕ → ℕ) (e : ℕ) → IsBytes χ → ChosenAll χ l.m l.tau l.words → e < l.tau
+    → byte_at l.mid e ≡ bit_xor (byte_at l.initial.mid e) (xor_sum (panels_of n) (λ J. midTerm l.degree n l.width l.m l.a l.vectors l.xs χ e (R J) J)))
+    × (polar ≡ true → (R : ℕ → ℕ) → Walked n first top p R → (i c : ℕ) → i < l.m → c < n → AddedUpTo l.width (n * l.width) l.m l.a (byte_at l.xs) l.initial.lines l.lines i c (R (c / 16)))
+    × (polar ≡ false → l.lines ≡ l.initial.lines)
+
+abbrev pub decreases-loop-first : goal.decreases-loop-first
+decreases-loop-first l =
+    walk_measure l.first l.top l.p

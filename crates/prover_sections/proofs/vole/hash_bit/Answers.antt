@@ -1,0 +1,38 @@
+-- `prover_sections::vole::hash_bit` meets its contract. The row product reads no more of u than the row's bytes.
+-- Assumes nothing.
+use Prim.Native.Nat.{◌*◌}
+use mathlib.Core.Path.{ap, ap₂, ◌∙◌}
+use native.Mathlib.Omega.{arith}
+use lib.Bits.{bit_xor}
+use lib.ListN.{take, length-take}
+use Rattle.protocol.specs.Lists.{block_at}
+use Rattle.protocol.specs.Strings.{bytes_for, bit}
+use Rattle.strings.specs.Products.{bit_product}
+use Rattle.strings.proofs.SumLaws.{sum_same}
+use Rattle.strings.proofs.BitLaws.{take-bit}
+use borrow.Author.Rules.{rules}
+use Rattle.prover_sections.proofs.vole.hash_bit.Goals as goal
+
+pub row_at-row-requires : goal.row_at-row-requires
+unfolding bytes_for
+row_at-row-requires c = omega arith
+
+pub slice_bounds-row_product-end : goal.slice_bounds-row_product-end
+slice_bounds-row_product-end c = simp length-take (omega arith)
+
+pub row_product-requires : goal.row_product-requires
+row_product-requires c = (simp length-take (omega (arith, c.row_at-row.ensures.1)), omega (arith, c.row_at-row.ensures.1))
+
+pub returns : goal.returns
+unfolding bytes_for
+returns c =
+    let a = c.args in
+    let row = c.row_at-row in
+    let width = bytes_for a.k in
+    ap₂ bit_xor
+    (c.row_product.ensures.0
+    ∙ ap (λ n. bit_product (n * 8) row.result.now (take width a.u.now)) row.ensures.1
+    ∙ ap (λ s. bit_product (width * 8) s (take width a.u.now)) row.ensures.0
+    ∙ sum_same (width * 8) _ (λ d. bit (block_at a.matrix.now width a.rho) d * bit a.u.now d)
+    (λ d h. ap (λ q. bit (block_at a.matrix.now width a.rho) d * q) (take-bit width a.u.now d h)))
+    c.bit_at.ensures

@@ -1,0 +1,21 @@
+-- `verifier_consistency::fill_masks` meets its contract. Each element is changed once (`Elementwise`).
+-- Assumes nothing.
+use borrow.Author.Rules.{rules}
+use Prim.Native.Nat.{ℕ, ◌*◌, ◌-◌, ◌≤◌, ◌<◌}
+use mathlib.Core.Path.{refl, ap, ◌≡◌}
+use mathlib.Core.List.{List}
+use native.Mathlib.Omega.{arith}
+use lib.ListN.{length, length-set}
+use Rattle.protocol.specs.Strings.{bit}
+use Rattle.theorems.proofs.StringLaws.{bit_lt}
+use Rattle.strings.proofs.Elementwise.{changed, changed_more, changed-all}
+use Rattle.verifier_consistency.proofs.fill_masks.Given as goal
+
+abbrev pub change : List ℕ → ℕ → ℕ → ℕ
+change u k x = bit u k * 255
+
+abbrev pub invariant-loop-i : goal.invariant-loop-i
+invariant-loop-i l = (l.i ≤ length l.initial.masks) × (l.masks ≡ changed (change l.u) l.initial.masks l.i) × (length l.masks ≡ length l.initial.masks)
+
+abbrev pub decreases-loop-i : goal.decreases-loop-i
+decreases-loop-i l = length l.initial.masks - l.i
