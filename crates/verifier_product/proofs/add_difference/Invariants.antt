@@ -1,0 +1,24 @@
+-- `verifier_product::add_difference` meets its contract. The invariant: the coordinates passed are changed, and no
+-- other.
+-- Assumes nothing.
+use borrow.Author.Rules.{rules}
+use Prim.Native.Nat.{ℕ, ◌*◌, ◌-◌, ◌≤◌, ◌<◌}
+use mathlib.Core.Path.{◌≡◌, refl, ap₂, ◌∙◌}
+use mathlib.Core.Logic.{⊎_elim}
+use native.Mathlib.Nat.{eq-or-lt_of_le, le_of_suc-le-suc}
+use native.Mathlib.Numerals.{add-one}
+use native.Mathlib.Omega.{arith}
+use lib.ListN.{length}
+use lib.Bits.{bit_xor}
+use Rattle.protocol.specs.Strings.{bit}
+use Rattle.theorems.proofs.StringLaws.{bit_lt}
+use Rattle.strings.specs.Sums.{byte_at}
+use Rattle.strings.proofs.Rows.{row-end}
+use Rattle.lanes.specs.Lanes.{lanes, lane_at}
+use Rattle.verifier_product.proofs.add_difference.Given as goal
+
+abbrev pub invariant-loop-c : goal.invariant-loop-c
+invariant-loop-c l = let table₀ = l.initial.table in let d = l.d in let delta = l.delta in let table = l.table in let c = l.c in (c ≤ l.n) × (length table ≡ length table₀) × ((q e : ℕ) → q < c → e < lanes → lane_at table q e ≡ bit_xor (lane_at table₀ q e) (bit d q * byte_at delta e)) × ((q e : ℕ) → c ≤ q → e < lanes → lane_at table q e ≡ lane_at table₀ q e)
+
+abbrev pub decreases-loop-c : goal.decreases-loop-c
+decreases-loop-c l = l.n - l.c
