@@ -1,4 +1,5 @@
 // The check program's work, on slices: six sections read, the verifier asked, one line written.
+#![tactic(auto)]
 mod input;
 mod line;
 

@@ -1,0 +1,24 @@
+-- `checking::input::read_lengths` meets its contract. The loop's invariant: the lengths so far are those of the
+-- sections before `next`, and from there on the others have still to follow.
+-- Assumes nothing.
+use mathlib.Core.Path.{◌≡◌, refl, sym, ap, ◌∙◌}
+use mathlib.Core.Bool.{false≢true}
+use Prim.Native.Nat.{◌-◌, ◌≤◌}
+use native.Mathlib.Omega.{arith}
+use borrow.Author.Rules.{rules}
+use lib.ListN.{length, take, drop, length-set}
+use lib.Seq.{take_all}
+use Rattle.protocol.specs.Frames.{framed, framed_length}
+use Rattle.protocol.specs.Check.{lengths_in}
+use Rattle.sections.proofs.SpanLaws.{found, not_found, found_inside}
+use Rattle.checking.proofs.LengthLaws.{turn_first, turn_missing, turn_next, turn_end, lengths_more, end_more}
+use Rattle.checking.proofs.input.read_lengths.Given as goal
+
+abbrev pub invariant-loop-i : goal.invariant-loop-i
+invariant-loop-i l =
+    (l.i ≤ length l.initial.lengths) × (length l.lengths ≡ length l.initial.lengths) × (l.next ≤ length l.s)
+    × (take l.i l.lengths ≡ lengths_in l.i l.s) × (l.next ≡ framed_length (lengths_in l.i l.s))
+    × (framed (lengths_in (length l.initial.lengths) l.s) l.s ≡ framed (lengths_in (length l.initial.lengths - l.i) (drop l.next l.s)) (drop l.next l.s))
+
+abbrev pub decreases-loop-i : goal.decreases-loop-i
+decreases-loop-i l = length l.initial.lengths - l.i

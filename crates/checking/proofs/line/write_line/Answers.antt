@@ -1,0 +1,19 @@
+-- `checking::line::write_line` meets its contract, case by case.
+-- Assumes nothing.
+use Rattle.protocol.specs.Check.{line_of}
+use borrow.Author.Rules.{rules}
+use Rattle.checking.proofs.line.write_line.Goals as goal
+
+pub returns-in-Unread : goal.returns-in-Unread
+unfolding line_of
+returns-in-Unread c = record { value = rw c.in-Unread.is c.put_line.ensures.value; line = rw c.in-Unread.is c.put_line.ensures.put }
+
+pub returns-in-Accepted : goal.returns-in-Accepted
+unfolding line_of
+returns-in-Accepted c =
+    record { value = rw (c.in-Answered.is, c.in-Accepted.is) c.put_line-in-Accepted.ensures.value; line = rw (c.in-Answered.is, c.in-Accepted.is) c.put_line-in-Accepted.ensures.put }
+
+pub returns-in-Refused : goal.returns-in-Refused
+unfolding line_of
+returns-in-Refused c =
+    record { value = rw (c.in-Answered.is, c.in-Refused.is, ← c.number-number.ensures.0) c.put_line-in-Refused.ensures.value; line = rw (c.in-Answered.is, c.in-Refused.is, ← c.number-number.ensures.0) c.put_line-in-Refused.ensures.put }
