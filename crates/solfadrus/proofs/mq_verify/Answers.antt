@@ -1,0 +1,9 @@
+-- `solfadrus::mq_verify` meets its contract: the answer's number is the call's.
+-- Assumes nothing.
+use mathlib.Core.Path.{ap, ◌∙◌}
+use Rattle.protocol.specs.Answers.{word}
+use borrow.Author.Rules.{rules}
+use Rattle.solfadrus.proofs.mq_verify.Goals as goal
+
+pub returns : goal.returns
+returns c = c.word_of.ensures ∙ ap word c.verify.ensures

@@ -1,0 +1,19 @@
+-- `solfadrus::sizes::mq_proof_size` meets its contract.
+-- Assumes nothing.
+use mathlib.Core.Path.{◌≡◌, sym, ◌∙◌}
+use Rattle.protocol.specs.Frames.{framed_length}
+use Rattle.protocol.specs.Alphabet.{Alphabet}
+use Rattle.protocol.specs.Shape.{Shape}
+use Rattle.protocol.specs.Sections.{lengths}
+use Rattle.solfadrus.proofs.SizedLaws.{in-range, out_of_range, limits_of}
+use borrow.Author.Rules.{rules}
+use Rattle.solfadrus.proofs.sizes.mq_proof_size.Goals as goal
+
+pub proof_bytes-requires : goal.proof_bytes-requires
+proof_bytes-requires c = limits_of _ _ (sym c.in_range.ensures ∙ c.if-in_range.true)
+
+pub returns-then-in_range : goal.returns-then-in_range
+returns-then-in_range c = c.proof_bytes.ensures ∙ in-range _ _ (λ (A : Alphabet) (z : Shape). framed_length (lengths A z)) (sym c.in_range.ensures ∙ c.if-in_range.true)
+
+pub returns-else-in_range : goal.returns-else-in_range
+returns-else-in_range c = out_of_range _ _ (λ (A : Alphabet) (z : Shape). framed_length (lengths A z)) (sym c.in_range.ensures ∙ c.if-in_range.false)
