@@ -5,7 +5,7 @@
 #
 #   leaf_sums.sh [REPETITIONS]
 #   BEFORE=ARCHIVE leaf_sums.sh ..   another libleaf_sums.a is timed beside this one: the crate leaf_sums, put into an
-#                                    earlier state of the repository and built there (`rt staticlib leaf_sums`)
+#                                    earlier state of the repository and built there (`rt lib` in its folder)
 #   leaf_sums.sh --once              the gate's run: each program is built, the bytes are compared, each is timed once
 set -eu
 cd "$(dirname "$0")/.."
@@ -20,12 +20,7 @@ mkdir -p "$work"
 if [ -n "${LEAF_SUMS-}" ]; then
     archive=$LEAF_SUMS
 else
-    need_kit
-    rt staticlib leaf_sums >"$work/leaf_sums.log" 2>&1 || {
-        tail -n 60 "$work/leaf_sums.log" >&2
-        exit 1
-    }
-    archive=target/staticlib/libleaf_sums.a
+    archive=$(archive leaf_sums)/libleaf_sums.a
 fi
 
 # divides ARCHIVE: whether its code has a division, or takes a number of more than a byte apart as one by 8 would be.

@@ -48,11 +48,11 @@ install_all() {
     put 644 "$made" lib/pkgconfig/solfadrus.pc
     put 644 docs/man/solfadrus.3 share/man/man3/solfadrus.3
     put 644 docs/man/mqcheck.1 share/man/man1/mqcheck.1
-    program=${MQCHECK:-target/bin/mqcheck}
+    program=${MQCHECK:-crates/mqcheck/out/mqcheck}
     if [ -x "$program" ]; then
         put 755 "$program" bin/mqcheck
     else
-        echo "mqcheck is left out: it has not been built (rt check mqcheck)"
+        echo "mqcheck is left out: it has not been built (rt run in crates/mqcheck)"
     fi
 }
 

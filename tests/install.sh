@@ -33,12 +33,12 @@ checked() {
     [ "$line" = "$1" ] || fail "mqcheck says '$line' in place of '$1'"
 }
 
-[ -x "${MQCHECK:-target/bin/mqcheck}" ] || fail "no check program: rt check mqcheck builds it"
+[ -x "${MQCHECK:-crates/mqcheck/out/mqcheck}" ] || fail "no check program: rt run in crates/mqcheck builds it"
 
 echo "installed:"
 made install PREFIX="$prefix" >/dev/null
 files "$prefix" | tee "$work/files"
-mqcheck=${MQCHECK:-target/bin/mqcheck}
+mqcheck=${MQCHECK:-crates/mqcheck/out/mqcheck}
 set -- ./include/solfadrus.h ./include/solfadrus_util.h ./lib/libsolfadrus.a ./lib/pkgconfig/solfadrus.pc \
     ./share/man/man1/mqcheck.1 ./share/man/man3/solfadrus.3
 [ ! -x "$mqcheck" ] || set -- ./bin/mqcheck "$@"

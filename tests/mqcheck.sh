@@ -3,14 +3,8 @@
 # vectors and random inputs. Each line is held against the Rust rendering's.
 set -eu
 cd "$(dirname "$0")/.."
-mkdir -p target
-if [ -z "${MQCHECK:-}" ]; then
-    rt check mqcheck >target/mqcheck.log 2>&1 || {
-        tail -n 60 target/mqcheck.log >&2
-        exit 1
-    }
-    MQCHECK=target/bin/mqcheck
-fi
+. tests/need.sh
+MQCHECK=${MQCHECK:-$(program mqcheck)}
 cargo build --quiet --release --offline -j1 --manifest-path tests/mqcheck/Cargo.toml --target-dir target/mqcheck
 test=target/mqcheck/release/mqcheck-test
 

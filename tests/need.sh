@@ -44,25 +44,25 @@ need_cargo() {
     }
 }
 
-# progress CRATES LOG: reads what rt writes, keeps it in LOG, and shows each crate as it is proved, and each edit as it
-# is refused, with how many there are. A loop of sh, since awk may hold lines back.
+# progress CRATES LOG: reads what rt writes, keeps it in LOG, and shows rt's own lines: each crate as it is proved, and each
+# edit as it is told of, with how many there are. A loop of sh, since awk may hold lines back.
 progress() {
     proved=0
-    refused=0
-    edits=$(find crates -name '*.edit' | wc -l)
+    told=0
+    edits=$(find crates/*/must-fail -name '*.edit' | wc -l)
     : >"$2"
     while IFS= read -r line; do
         printf '%s\n' "$line" >>"$2"
         said=${line#rt: }
+        name=${said%% *}
         case $line in
         'rt: must-fail '*)
-            refused=$((refused + 1))
-            printf '[%3d/%d] %s\n' "$refused" "$edits" "$said"
+            told=$((told + 1))
+            printf '[%3d/%d] %s\n' "$told" "$edits" "$said"
             ;;
-        'rt: '*' proved ('*)
+        "rt: $name proved" | "rt: $name is kept: "*)
             proved=$((proved + 1))
-            took=${said##*(}
-            printf '[%3d/%d] %-12s %s\n' "$proved" "$1" "${said%% *}" "${took%)}"
+            printf '[%3d/%d] %s\n' "$proved" "$1" "$said"
             ;;
         'rt: '*) printf '          %s\n' "$said" ;;
         esac
@@ -78,41 +78,95 @@ with_progress() {
     return "$(cat "$said_to.status")"
 }
 
-# What the archive is made from: the kit, and the crates that solfadrus reaches.
+# passed LOG: whether what `rt ci` wrote is a pass. An edit that could not be tried fails nothing there, and fails here.
+passed() {
+    case $(tail -n 1 "$1") in
+    *' passed, 0 failed') ;;
+    *)
+        echo "rt ci: $(tail -n 1 "$1")"
+        return 1
+        ;;
+    esac
+    if ! grep -q '^rt: ok' "$1"; then
+        echo "rt ci: no line 'rt: ok'"
+        return 1
+    fi
+    if grep '^rt: ok' "$1" | grep -qE ', [0-9]+ bad'; then
+        grep 'BAD EDIT' "$1" || true
+        echo "rt ci: edits that could not be tried"
+        return 1
+    fi
+}
+
+# below CRATE: the crates that it stands on, as crates.txt has them.
+below() {
+    sed -nE "s/^$1( [^:]*)?: *//p" crates.txt
+}
+
+# with_crates TO CRATE...: copies the crates, without what rt made of them, into the folder TO/crates.
+with_crates() {
+    copy=$1
+    shift
+    for crate; do
+        mkdir -p "$copy/crates/$crate"
+        for part in "crates/$crate"/*; do
+            [ "$part" = "crates/$crate/out" ] || cp -r "$part" "$copy/crates/$crate"
+        done
+    done
+}
+
+# What an archive is made from: the kit, and the crate with those that it stands on.
 sources() {
     rt version
-    sed -n 's/^solfadrus: *//p' crates.txt
-    for crate in solfadrus $(sed -n 's/^solfadrus: *//p' crates.txt); do
-        find "crates/$crate" -type f ! -path '*/must-fail/*'
+    below "$1"
+    for crate in "$1" $(below "$1"); do
+        find "crates/$crate/"* -type f ! -path "crates/$crate/must-fail/*" ! -path "crates/$crate/out/*"
     done | LC_ALL=C sort | xargs sha256sum
 }
 
 # The sum of the sources, and that of the archive which was built from them.
 built_from() {
-    echo "$(sources | sha256sum) $(sha256sum <target/staticlib/libsolfadrus.a)"
+    echo "$(sources "$1" | sha256sum) $(sha256sum <"crates/$1/out/lib$1.a")"
 }
 
-# The directory that has libsolfadrus.a: that of SOLFADRUS_LIB_DIR, or else the one that rt proves and builds. It is
-# built anew where a source has changed since.
+# archive CRATE: the directory that has its archive, which rt proves and builds. It is built anew where a source has
+# changed since.
+archive() {
+    need_kit
+    mkdir -p target
+    if [ ! -f "crates/$1/out/lib$1.a" ] || [ "$(cat "target/$1.from" 2>/dev/null)" != "$(built_from "$1")" ]; then
+        crates=$(($(below "$1" | wc -w) + 1))
+        echo "The archive of $1 is proved and built: $crates crates. An unchanged crate is not proved again." >&2
+        rm -f "target/$1.from" "crates/$1/out/lib$1.a"
+        with_progress "$crates" "target/$1.log" sh -c 'cd "crates/$1" && exec rt lib' sh "$1" >&2 || {
+            tail -n 60 "target/$1.log" >&2
+            return 1
+        }
+        built_from "$1" >"target/$1.from"
+    fi
+    echo "$PWD/crates/$1/out"
+}
+
+# The directory that has libsolfadrus.a: that of SOLFADRUS_LIB_DIR, or else the one that rt proves and builds.
 library() {
     if [ -n "${SOLFADRUS_LIB_DIR:-}" ]; then
         (cd "$SOLFADRUS_LIB_DIR" && pwd)
         return
     fi
+    archive solfadrus
+}
+
+# program CRATE: the program, which rt proves and builds where a source has changed since. It runs it once, on the
+# input of the crate, and what it writes must be the output of the crate.
+program() {
     need_kit
     mkdir -p target
-    if [ ! -f target/staticlib/libsolfadrus.a ] || [ "$(cat target/built-from 2>/dev/null)" != "$(built_from)" ]; then
-        crates=$(($(sed -n 's/^solfadrus: *//p' crates.txt | wc -w) + 1))
-        echo "The library is proved and built: $crates crates, about 5 minutes on two cores." \
-            "An unchanged crate is not proved again." >&2
-        rm -f target/built-from
-        with_progress "$crates" target/staticlib.log rt staticlib solfadrus >&2 || {
-            tail -n 60 target/staticlib.log >&2
-            return 1
-        }
-        built_from >target/built-from
+    if ! (cd "crates/$1" && exec rt run <stdin) >"target/$1.out" 2>"target/$1.log" ||
+        ! cmp "target/$1.out" "crates/$1/stdout" >&2; then
+        tail -n 60 "target/$1.log" >&2
+        return 1
     fi
-    echo "$PWD/target/staticlib"
+    echo "$PWD/crates/$1/out/$1"
 }
 
 # aside LOG COMMAND...: runs it in the background, in a process group of its own, whose number is then in `group`.

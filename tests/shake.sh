@@ -14,12 +14,7 @@ mkdir -p "$work"
 if [ -n "${SHAKE_CALLS-}" ]; then
     archive=$SHAKE_CALLS
 else
-    need_kit
-    rt staticlib shake_calls >"$work/staticlib.log" 2>&1 || {
-        tail -n 60 "$work/staticlib.log" >&2
-        exit 1
-    }
-    archive=target/staticlib/libshake_calls.a
+    archive=$(archive shake_calls)/libshake_calls.a
 fi
 gcc -std=c11 -O2 -Wall -Wextra -Werror tests/shake.c "$archive" -o "$work/shake"
 
