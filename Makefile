@@ -5,13 +5,13 @@ help: ## this list
 	@sed -n 's/^\([a-z ]*\):.*## /\1|/p' $(MAKEFILE_LIST) | while IFS='|' read -r name what; do \
 		printf '  make %-18s %s\n' "$$name" "$$what"; done
 
-demo: ## the main job on a built-in example; the library is proved and built first, once (about 5 minutes)
+demo: ## the main job on a built-in example; the library is proved and built first, once
 	@sh tests/demo.sh
 
-lib: ## the library: target/staticlib/libsolfadrus.a, proved and built where a source has changed
+lib: ## the library: crates/solfadrus/out/libsolfadrus.a, proved and built where a source has changed
 	@. tests/need.sh; lib=$$(library) && echo "$$lib/libsolfadrus.a"
 
-test: ## every proof and every test, from nothing each time (about 32 minutes on two cores)
+test: ## every proof and every test; what a run here proved of the same files is kept for the next
 	@sh tests/run.sh
 
 compare: ## the library against the Rust rendering; words for the comparison in ARGS
@@ -47,5 +47,5 @@ bindings: ## the Rust wrapper's tests
 install uninstall: ## library, header, .pc file, manual pages, and mqcheck if built; PREFIX=/usr/local [DESTDIR=...]
 	@PREFIX="$(PREFIX)" DESTDIR="$(DESTDIR)" MQCHECK="$(MQCHECK)" sh packaging/install.sh $@
 
-clean: ## takes away target/, and with it all that was proved and built
-	@rm -rf target
+clean: ## takes away target/ and crates/*/out/, and with them all that was proved and built
+	@rm -rf target crates/*/out

@@ -125,10 +125,10 @@ static void run(size_t which, void (*caller)(void))
 
 /* ---- What is left ------------------------------------------------------------------------- */
 
-/* Where these bytes stand, no deeper than the burn goes, or NULL. */
+/* Where these bytes stand, at any depth, or NULL. */
 static const uint8_t *find(const uint8_t *bytes, size_t len)
 {
-    for (const uint8_t *at = stack + STACK - MQ_STACK_BYTES - FRAMES; at + len <= stack + STACK; at++)
+    for (const uint8_t *at = stack; at + len <= stack + STACK; at++)
         if (at[0] == bytes[0] && memcmp(at, bytes, len) == 0)
             return at;
     return NULL;

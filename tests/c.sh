@@ -4,11 +4,8 @@
 set -eu
 cd "$(dirname "$0")/.."
 . tests/need.sh
-# All that is needed is named, and installed, before two of the tests could ask for it at once.
-need gcc gcc g++ g++ clang clang nm binutils make make valgrind valgrind pkg-config pkg-config \
-    groff groff-base man man-db
-need_fuzzer
-need_cargo
+# Before two of the tests could ask for it at once.
+need_all
 mkdir -p target
 lib=$(library)
 export SOLFADRUS_LIB_DIR="$lib"

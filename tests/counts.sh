@@ -9,8 +9,15 @@ order=tests/reading-order.txt
 
 # uses FILE...: what the files import from this repository. (`declared` is the code's own enums and structs.)
 uses() {
-    grep -hE '^ *(ghost |pub )?use Rattle·' "$@" |
-        sed -E 's/.*use Rattle·([a-z_]+)(·[a-z]+)?\.(specs|proofs)\.([A-Za-z0-9]+)\..*/\1\/\3\/\4/; /\/declared$/d' | sort -u
+    grep -hE '^ *(ghost |pub )?use Rattle\.' "$@" |
+        sed -E 's/.*use Rattle\.([a-z_0-9]+)\.(specs|proofs)\.([A-Za-z0-9]+)\..*/\1\/\2\/\3/; /\/declared$/d' |
+        sort -u | while read -r used; do
+        # What the kit has is no crate here. A line that is read otherwise is left as it is, and then on no list.
+        case $used in
+        [a-z]*/*/*) [ ! -d "crates/${used%%/*}" ] || echo "$used" ;;
+        *) echo "$used" ;;
+        esac
+    done
 }
 
 # within LIST WHAT NAME...: fails, and shows them, where names are not in the list.
@@ -97,11 +104,11 @@ lines() {
 sizes() {
     echo '| Crate | Code | Definitions and statements | Proofs | Edits |'
     echo '|---|---:|---:|---:|---:|'
-    sed 's/:.*//' crates.txt | while read -r crate; do
+    sed 's/[ :].*//' crates.txt | while read -r crate; do
         at=crates/$crate
-        echo "| \`$crate\` | $(lines "$at/src" '*.rt') | $(lines "$at/specs" '*.antt') | $(lines "$at/proofs" '*.antt') | $(find "$at" -name '*.edit' | wc -l) |"
+        echo "| \`$crate\` | $(lines "$at/src" '*.rt') | $(lines "$at/specs" '*.antt') | $(lines "$at/proofs" '*.antt') | $(find "$at/must-fail" -name '*.edit' 2>/dev/null | wc -l) |"
     done
-    echo "| in all | $(lines crates '*.rt') | $(cat crates/*/specs/*.antt | wc -l) | $(find crates -path '*/proofs/*' -name '*.antt' -exec cat {} + | wc -l) | $(find crates -name '*.edit' | wc -l) |"
+    echo "| in all | $(find crates/*/src -name '*.rt' -exec cat {} + | wc -l) | $(cat crates/*/specs/*.antt | wc -l) | $(find crates/*/proofs -name '*.antt' -exec cat {} + | wc -l) | $(find crates/*/must-fail -name '*.edit' | wc -l) |"
 }
 
 # between NAME: the page with what NAME prints between its two marks.

@@ -5,6 +5,7 @@
 # calls. Comments, contracts and imports may say what they like, and a constant is computed when it is compiled.
 set -eu
 cd "$(dirname "$0")/.."
+. tests/need.sh
 work=$(mktemp -d)
 trap 'rm -rf "$work"' EXIT
 walk='trees tables tables_opened chunks leaf_sums'
@@ -22,7 +23,7 @@ code() {
             line = $0
             sub(/\/\/.*/, "", line)
             if (line ~ /^ *(ghost )?use /) next
-            if (line ~ /^ *(requires|ensures)[a-z_ ]* *[{]/) contract = 1
+            if (line ~ /^ *(requires|ensures)[a-z0-9_ ]* *[{]/) contract = 1
             if (contract) {
                 if (line ~ /[}] *$/) contract = 0
                 next
@@ -116,7 +117,7 @@ strays() {
 
 # The crates below the walk, whose functions it may call.
 # shellcheck disable=SC2086 # crates are words
-below=$(for crate in $walk; do sed -n "s/^$crate: *//p" crates.txt; done | tr ' ' '\n' | LC_ALL=C sort -u)
+below=$(for crate in $walk; do below "$crate"; done | tr ' ' '\n' | LC_ALL=C sort -u)
 for crate in $walk; do below=$(echo "$below" | grep -vx "$crate"); done
 below=$(for crate in $below; do [ ! -d "crates/$crate/src" ] || echo "$crate"; done | xargs)
 
@@ -134,8 +135,8 @@ done
 named=$(xargs <"$work/eights")
 
 # The controls, in a copy.
-mkdir -p "$work/copy/crates"
-for crate in $walk $below; do cp -r "crates/$crate" "$work/copy/crates"; done
+# shellcheck disable=SC2086 # crates are words
+with_crates "$work/copy" $walk $below
 
 # with FILE LINE: what is found where a function with the line is added to the file.
 with() {
@@ -175,8 +176,9 @@ found crates/trees/src/lib.rt 'let b = strings::turned(c);'
 # A contract may divide, on more lines than one too.
 cat >>"$work/copy/crates/tables/src/lib.rt" <<'RT'
 fn stated(c: usize)
-    requires { ⌜ (c / 8 < 8)
-        × (c % 8 < 8) ⌝ }
+    requires { (c / 8 < 8)
+        × (c % 8 < 8) }
+    ensures by_index_2 { c / 8 < 8 }
 {
 }
 RT

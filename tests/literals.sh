@@ -6,6 +6,7 @@
 # the line may have no such number. Comments may.
 set -eu
 cd "$(dirname "$0")/.."
+. tests/need.sh
 work=$(mktemp -d)
 trap 'rm -rf "$work"' EXIT
 kernels='lanes chunks trees tables tables_opened hash equations
@@ -26,7 +27,9 @@ fail() {
 strays() {
     (
         cd "$1"
-        for kernel in $kernels; do find "crates/$kernel" -path '*/src/*.rt' -o -path '*/specs/*.antt'; done |
+        for kernel in $kernels; do
+            find "crates/$kernel/"* -path "crates/$kernel/src/*.rt" -o -path "crates/$kernel/specs/*.antt"
+        done |
             LC_ALL=C xargs awk -F '\t' -v numbers="$numbers" '
         # whether the text has one of the numbers, or says that a degree is 8, or is bounded by it
         function literal(text) {
@@ -42,7 +45,7 @@ strays() {
             number = "[^0-9a-z_](" any ")" typed
             # the signs of programs, and of definitions: equal, at most, at least
             is = " *([=<>:]+|\342\211\241|\342\211\244|\342\211\245) *"
-            degree = "degree[a-z_]*( *: *[a-z0-9]+|[(][a-z0-9_]*[)]| +[a-z0-9_]+)?[)]?" is "(8|0x0*8)" typed
+            degree = "degree[a-z_]*([.](now|old|new))?( *: *[a-z0-9]+|[(][a-z0-9_]*[)]| +[a-z0-9_]+)?[)]?" is "(8|0x0*8)" typed
             degree_last = "[^0-9a-z_](8|0x0*8)" is "[(]?[a-z0-9_ .:]*degree"
         }
         FNR == NR {
@@ -77,8 +80,8 @@ strays . tests/literals.tsv >"$work/strays"
 }
 
 # The controls, in a copy of the kernels.
-mkdir -p "$work/copy/crates"
-for kernel in $kernels; do cp -r "crates/$kernel" "$work/copy/crates"; done
+# shellcheck disable=SC2086 # kernels are words
+with_crates "$work/copy" $kernels
 
 # with FILE LINE: what is found where the line is added to the file.
 with() {
@@ -96,7 +99,7 @@ stands() {
 }
 for number in $numbers; do
     found crates/forms/src/lib.rt "const ROOM: usize = $number;"
-    found crates/hash/src/lib.rt "    requires { ⌜ length (now s) ≤$number×2 ⌝ }"
+    found crates/hash/src/lib.rt "    requires { length s.now ≤$number×2 }"
     found crates/chunks/specs/Chunks.antt "room = $number"
     stands "const ROOM: usize = ROOM_$number; // at most $number"
     stands "const ROOM: usize = 1$number + ${number}0 + room${number}_of;"
@@ -106,11 +109,12 @@ found crates/lanes/src/lib.rt 'let mask = bit * 0xFF;'
 found crates/tables/src/lib.rt 'let sums = [0u8; 133_120];'
 found crates/lanes/src/lib.rt 'const DEGREE: usize = 8;'
 found crates/forms/src/lib.rt '        degree: 8,'
-found crates/lanes/src/lib.rt '    requires { ⌜ (s .degree ≡ 8) × (e < lanes) ⌝ }'
-found crates/tables/src/lib.rt '    requires { ⌜ s .degree ≤ 8 ⌝ }'
+found crates/lanes/src/lib.rt '    requires { (s.degree ≡ 8) × (e < lanes) }'
+found crates/tables/src/lib.rt '    requires { s.degree ≤ 8 }'
+found crates/tables/src/lib.rt '    ensures degree_kept { s.degree.new ≡ 8 }'
 found crates/hash/src/lib.rt '    if degree_of(s) == 8 {'
-found crates/trees/specs/Partial.antt 'Wide s = 8 ≡ s .degree'
-stands '    requires { ⌜ (at + gf256 .degree ≤ length u * 8) × (r < 8) ⌝ }'
+found crates/trees/specs/Partial.antt 'Wide s = 8 ≡ s.degree'
+stands '    requires { (at + gf256.degree ≤ length u * 8) × (r < 8) }'
 stands 'const WORDS: usize = Gf256::DEGREE * 80;'
 
 # missed WHAT SED: the table changed by a sed command, in which | is a tab.

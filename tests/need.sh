@@ -44,6 +44,14 @@ need_cargo() {
     }
 }
 
+# All that the tests need beside the kit: named, and installed, at once.
+need_all() {
+    need gcc gcc g++ g++ clang clang nm binutils make make valgrind valgrind pkg-config pkg-config \
+        groff groff-base man man-db
+    need_fuzzer
+    need_cargo
+}
+
 # progress CRATES LOG: reads what rt writes, keeps it in LOG, and shows rt's own lines: each crate as it is proved, and each
 # edit as it is told of, with how many there are. A loop of sh, since awk may hold lines back.
 progress() {
