@@ -15,6 +15,9 @@ said() {
     awk -v start="rt: must-fail $2: " 'index($0, start) == 1 { print substr($0, length(start) + 1) }' "$1"
 }
 
+# What is said where something cannot be named.
+unnamed='can be named|has no (field|`)|is not in scope|is no name|was not admitted'
+
 # judged CRATES LOG: names what is wrong with each edit of the crates below CRATES, by what rt says in LOG.
 judged() {
     find "$1"/*/must-fail -name '*.edit' | sort | while read -r edit; do
@@ -31,7 +34,7 @@ judged() {
             case $result in
             'refused, as it must be (only '*) echo "$name: refused, but for no good reason: ${result#*: }" ;;
             'refused, as it must be: '*)
-                if echo "$result" | grep -qE 'can be named|has no (field|`)|is not in scope|is no name|was not admitted'; then
+                if echo "$result" | grep -qE "$unnamed"; then
                     echo "$name: refused because something cannot be named: ${result#*: }"
                 fi
                 ;;

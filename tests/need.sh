@@ -52,8 +52,8 @@ need_all() {
     need_cargo
 }
 
-# progress CRATES LOG: reads what rt writes, keeps it in LOG, and shows rt's own lines: each crate as it is proved, and each
-# edit as it is told of, with how many there are. A loop of sh, since awk may hold lines back.
+# progress CRATES LOG: reads what rt writes, keeps it in LOG, and shows rt's own lines: each crate as it is proved, and
+# each edit as it is told of, with how many there are. A loop of sh, since awk may hold lines back.
 progress() {
     proved=0
     told=0
@@ -123,10 +123,10 @@ with_crates() {
     done
 }
 
-# What an archive is made from: the kit, and the crate with those that it stands on.
+# What an archive is made from: the kit, its line of crates.txt, and the crate with those that it stands on.
 sources() {
     rt version
-    below "$1"
+    grep -E "^$1( [^:]*)?:" crates.txt
     for crate in "$1" $(below "$1"); do
         find "crates/$crate/"* -type f ! -path "crates/$crate/must-fail/*" ! -path "crates/$crate/out/*"
     done | LC_ALL=C sort | xargs sha256sum
@@ -146,6 +146,7 @@ archive() {
         crates=$(($(below "$1" | wc -w) + 1))
         echo "The archive of $1 is proved and built: $crates crates. An unchanged crate is not proved again." >&2
         rm -f "target/$1.from" "crates/$1/out/lib$1.a"
+        # shellcheck disable=SC2016 # the inner shell reads $1
         with_progress "$crates" "target/$1.log" sh -c 'cd "crates/$1" && exec rt lib' sh "$1" >&2 || {
             tail -n 60 "target/$1.log" >&2
             return 1

@@ -1,7 +1,8 @@
 #!/bin/sh
 # What the scripts share (need.sh): a script that fails leaves nothing running; a missing program is named with its
-# package before anything is installed; rt's progress is shown as it goes, and its status is kept; a run of rt ci in which
-# an edit could not be tried is no pass; an archive is built again where a source has changed, and else is not.
+# package before anything is installed; rt's progress is shown as it goes, and its status is kept; a run of rt ci in
+# which an edit could not be tried is no pass; an archive is built again where a source has changed, and else is not; a
+# program is taken where it writes what its crate says.
 set -eu
 cd "$(dirname "$0")/.."
 work=$(mktemp -d)
