@@ -7,7 +7,7 @@ use Prim.Native.Nat.{ℕ, zero, suc, ◌+◌, ◌≤◌, ◌<◌}
 use native.Mathlib.Omega.{arith}
 use lib.Dec.{eqb, leb}
 use lib.ListN.{length, get_or, take, drop, length-append, take-append-drop, get_or-append}
-use lib.Seq.{drop_at, drop-append-le, length-take-le}
+use lib.Seq.{drop-append-le, length-take-le}
 use Rattle.algebra.proofs.CountLaws.{and_left, and_right}
 use Rattle.protocol.specs.Frames.{num2, num4, count4, frame, framed, section_no, framed_length}
 use Rattle.protocol.specs.Calls.{verify_answer}

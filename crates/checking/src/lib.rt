@@ -1,5 +1,6 @@
 // The check program's work, on slices: six sections read, the verifier asked, one line written.
 #![tactic(auto)]
+
 mod input;
 mod line;
 

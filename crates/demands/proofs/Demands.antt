@@ -1,6 +1,6 @@
 -- Demand 1 and demand 2 of the exports.
 -- Assumes nothing.
-use mathlib.Core.Path.{◌≡◌, refl, sym, ap, ap₂, ◌∙◌, subst}
+use mathlib.Core.Path.{◌≡◌, sym, ap, ap₂, ◌∙◌, subst}
 use mathlib.Core.Bool.{true, false}
 use mathlib.Core.List.{List, [], ◌∷◌, ◌++◌}
 use Prim.Native.Nat.{ℕ, ◌*◌}
@@ -9,7 +9,7 @@ use lib.ListN.{length, drop}
 use Rattle.galois.specs.Degrees.{field_of}
 use Rattle.protocol.specs.Alphabet.{Alphabet, elements_in, Lawful}
 use Rattle.protocol.specs.Setting.{Setting, served, q16, alphabet_of}
-use Rattle.protocol.specs.Shape.{Shape, shape_of, limits, per_tree}
+use Rattle.protocol.specs.Shape.{Shape, shape_of, limits}
 use Rattle.protocol.specs.Frames.{framed}
 use Rattle.protocol.specs.Sections.{Sections, bytes_of, lengths, sections_in}
 use Rattle.protocol.specs.Prover.{sections_of, proof_of}

@@ -1,15 +1,11 @@
 -- Demand 3 of mq_verify: its numbers count as its answers do.
 -- Assumes nothing.
-use mathlib.Core.Path.{◌≡◌, refl, sym, ap, subst, ◌∙◌}
-use mathlib.Core.Bool.{Bool, true}
+use mathlib.Core.Path.{◌≡◌, refl, ap, subst, ◌∙◌}
 use mathlib.Core.List.{List, map}
 use Prim.Native.Nat.{ℕ, ◌*◌, ◌^◌, ◌<◌}
 use native.Mathlib.Omega.{arith}
 use lib.Dec.{eqb}
 use lib.ListN.{get_or, length-map}
-use Rattle.algebra.specs.Ring.{Ring}
-use Rattle.algebra.specs.Field.{Field}
-use Rattle.algebra.specs.Coded.{Coded}
 use Rattle.algebra.proofs.CountLaws.{words_congr}
 use Rattle.protocol.specs.Strings.{bytes}
 use Rattle.galois.specs.Degrees.{size_of as fieldSize}
@@ -17,7 +13,7 @@ use Rattle.galois.proofs.DegreeLaws.{size-most}
 use Rattle.protocol.specs.Alphabet.{Alphabet}
 use Rattle.protocol.specs.Setting.{Setting, alphabet_of}
 use Rattle.protocol.specs.Shape.{Shape, shape_of, per_tree, w_of}
-use Rattle.protocol.specs.Answers.{Answer, accepted, refused, word, is_accepted, Published}
+use Rattle.protocol.specs.Answers.{Answer, refused, word, is_accepted, Published}
 use Rattle.protocol.specs.Calls.{verify_answer}
 use Rattle.protocol.specs.Counting.{opening, accepted_count}
 use Rattle.theorems.proofs.TestLaws.{eqb_eq, eqb_same, bool_iff}
@@ -26,7 +22,7 @@ use Rattle.theorems.proofs.LeafLaws.{opened-bytes}
 use Rattle.theorems.proofs.AnswerLaws.{accepted_of}
 use Rattle.theorems.proofs.Published.{all_published}
 use Rattle.theorems.proofs.Demands.{demand_3}
-use Rattle.demands.specs.Forgery.{Answers, accepts, accepted_by, ForgeryBound, VerifierBound}
+use Rattle.demands.specs.Forgery.{Answers, accepts, accepted_by, VerifierBound}
 use Rattle.demands.proofs.ToldLaws.{word-accepted, only-accepted}
 
 -- of an answer in the list, the number is 0 exactly where it accepts

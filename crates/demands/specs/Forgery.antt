@@ -7,9 +7,6 @@
 --     setting g
 -- Assumes nothing.
 use Rattle.std.specs.Prelude.{◌≡◌, Bool, true, false, List, map, ℕ, ◌*◌, ◌^◌, ◌<◌, eqb, length}
-use Rattle.algebra.specs.Ring.{Ring}
-use Rattle.algebra.specs.Field.{Field}
-use Rattle.algebra.specs.Coded.{Coded}
 use Rattle.algebra.specs.Count.{count, product}
 use Rattle.algebra.specs.Strings.{strings}
 use Rattle.protocol.specs.Strings.{bytes}

@@ -1,21 +1,19 @@
 -- From bytes to elements: products, products with a bit, and the sums that rows of bits select.
 --   bits_of x c == bit c of a string as an element, which is `sym` of the binary alphabet
 -- Assumes nothing.
-use mathlib.Core.Path.{◌≡◌, refl, sym, ap, ap₂, ◌∙◌}
+use mathlib.Core.Path.{◌≡◌, sym, ap, ap₂, ◌∙◌}
 use mathlib.Core.Bool.{true}
 use mathlib.Core.List.{List}
-use Prim.Native.Nat.{ℕ, zero, suc, ◌+◌, ◌*◌, ◌≤◌, ◌<◌}
-use native.Mathlib.Nat.{zero-mul, one-mul, mul-zero, add_comm}
+use Prim.Native.Nat.{ℕ, ◌+◌, ◌*◌, ◌≤◌, ◌<◌}
+use native.Mathlib.Nat.{zero-mul, mul-zero, add_comm}
 use native.Mathlib.Omega.{arith}
 use lib.ListN.{length}
-use lib.Bits.{bit_xor}
 use Rattle.algebra.specs.Coded.{Coded, mul_byte}
 use Rattle.algebra.specs.Sum.{sum, form}
-use Rattle.algebra.proofs.RingLaws.{ring}
 use Rattle.algebra.proofs.SumLaws.{sum_ext, sum-mul}
 use Rattle.protocol.specs.Strings.{bit, spare_zero}
 use Rattle.theorems.proofs.StringLaws.{bit_lt}
-use Rattle.strings.specs.Sums.{byte_at, xor_sum, selected}
+use Rattle.strings.specs.Sums.{xor_sum, selected}
 use Rattle.strings.proofs.SumLaws.{sum_same, sum_past}
 use Rattle.strings.proofs.Meaning.{byte-sum, byte-bit, byte-scale}
 use Rattle.lanes.specs.Lanes.{lanes, lane_at}

@@ -1,14 +1,13 @@
 -- What the errors are in 01's terms: those of the equations of the key at the witness; and what the first of them that
 -- is not 0 says.
 -- Assumes nothing.
-use mathlib.Core.Path.{◌≡◌, refl, sym, ap, ap₂, ◌∙◌}
+use mathlib.Core.Path.{◌≡◌, sym, ap, ap₂, ◌∙◌}
 use mathlib.Core.Logic.{◌≢◌}
 use mathlib.Core.Bool.{true, false, true≢false}
 use mathlib.Core.List.{List}
-use Prim.Native.Nat.{ℕ, zero, suc, ◌+◌, ◌*◌, ◌<◌}
+use Prim.Native.Nat.{ℕ, ◌+◌, ◌*◌, ◌<◌}
 use native.Mathlib.Omega.{arith}
 use lib.ListN.{length}
-use lib.Dec.{T}
 use lib.Bits.{bit_xor}
 use Rattle.algebra.specs.Coded.{Coded}
 use Rattle.algebra.specs.Sum.{sum}
@@ -26,7 +25,7 @@ use Rattle.theorems.proofs.ListLaws.{block-block}
 use Rattle.theorems.proofs.StringLaws.{bit_lt}
 use Rattle.strings.specs.Sums.{byte_at, xor_sum}
 use Rattle.strings.proofs.SumLaws.{sum_same}
-use Rattle.strings.proofs.Meaning.{byte-sum, byte-bit, byte-scale}
+use Rattle.strings.proofs.Meaning.{byte-bit, byte-scale}
 use Rattle.equations.specs.Equations.{row_product, row_of, error_bit, key_error, FirstIn}
 use Rattle.equations.specs.declared.Found.TheVariants.{At, Nothing}
 use Rattle.equations.proofs.ElementLaws.{byte-form, product_is, bits_of}

@@ -1,6 +1,7 @@
 // Whether a witness solves the equations of a key: arithmetic over GF(2), each product of a row with x taken as 01 has
 // it (`parity`). The witness is secret, so no branch goes by it before every equation is looked at.
 #![tactic(auto)]
+
 ghost use Rattle.std.specs.Prelude.{◌≡◌, ℕ, ◌*◌, ◌<◌, ◌≤◌, length};
 ghost use Rattle.protocol.specs.Strings.{bytes_for, bit};
 ghost use Rattle.strings.specs.Sums.{byte_at};

@@ -7,8 +7,6 @@ use mathlib.Core.Bool.{true}
 use mathlib.Core.List.{List, [], ◌∷◌}
 use Prim.Native.Nat.{ℕ, ◌<◌}
 use native.Mathlib.Omega.{arith}
-use Rattle.algebra.specs.Field.{Field}
-use Rattle.algebra.specs.Coded.{Coded}
 use Rattle.algebra.specs.Count.{count}
 use Rattle.algebra.specs.Roots.{passing}
 use Rattle.protocol.specs.Alphabet.{Alphabet}

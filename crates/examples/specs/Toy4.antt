@@ -10,9 +10,7 @@
 --   accepted_at k p == the challenges at which that is accepted, rising;  atΔ p == the answer at Δ = 03
 -- Assumes nothing.
 use Rattle.std.specs.Prelude.{◌≡◌, cond, List, [], ◌∷◌, ℕ, length}
-use Rattle.algebra.specs.Coded.{Coded}
 use Rattle.protocol.specs.Lists.{table, concat}
-use Rattle.protocol.specs.Alphabet.{Alphabet}
 use Rattle.protocol.specs.Binary.{bits16}
 use Rattle.protocol.specs.Setting.{setting}
 use Rattle.protocol.specs.Shape.{Shape, shape_of, per_tree, per_opened, k_of, l_of, w_of}

@@ -2,18 +2,14 @@
 --   w-0, w_1 == W_0 and W_1, a byte for each coordinate
 -- Assumes nothing.
 use mathlib.Core.Path.{◌≡◌, refl, sym, ap, ◌∙◌, subst}
-use mathlib.Core.Bool.{Bool, true}
+use mathlib.Core.Bool.{true}
 use mathlib.Core.List.{List, [], ◌∷◌}
 use Prim.Native.Nat.{ℕ, zero, suc, ◌<◌}
 use native.Mathlib.Omega.{arith}
-use Rattle.algebra.specs.Ring.{Ring}
-use Rattle.algebra.specs.Field.{Field}
-use Rattle.algebra.specs.Coded.{Coded}
 use Rattle.galois.specs.Gf256.{gf256}
 use Rattle.galois.specs.Degrees.{field_of}
-use Rattle.protocol.specs.Alphabet.{Alphabet}
 use Rattle.protocol.specs.Binary.{bits256}
-use Rattle.protocol.specs.Shape.{Shape, shape_of, per_tree}
+use Rattle.protocol.specs.Shape.{per_tree}
 use Rattle.protocol.specs.Sections.{Sections, sections_in}
 use Rattle.protocol.specs.Verifier.{W, consistent, product_holds, consistent_at, product_at}
 use Rattle.protocol.specs.Questions.{tree_of, consistent_in, product_in}

@@ -1,13 +1,10 @@
 -- The full example's bytes, computed from the tables of u and v.
 -- Assumes nothing.
 use mathlib.Core.Path.{◌≡◌, refl, ap, ◌∙◌}
-use mathlib.Core.List.{List, [], ◌∷◌}
+use mathlib.Core.List.{[], ◌∷◌}
 use Prim.Native.Nat.{ℕ, zero, suc, ◌<◌}
 use native.Mathlib.Omega.{arith}
 use lib.Dec.{lit<}
-use Rattle.algebra.specs.Ring.{Ring}
-use Rattle.algebra.specs.Field.{Field}
-use Rattle.algebra.specs.Coded.{Coded}
 use Rattle.galois.specs.Gf256.{gf256}
 use Rattle.protocol.specs.Binary.{bits256}
 use Rattle.protocol.specs.Frames.{frame, count4}

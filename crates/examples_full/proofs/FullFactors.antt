@@ -6,11 +6,9 @@ use mathlib.Core.Bool.{true}
 use mathlib.Core.List.{List, [], ◌∷◌}
 use Prim.Native.Nat.{ℕ, ◌<◌}
 use lib.Dec.{lit<}
-use Rattle.algebra.specs.Field.{Field}
-use Rattle.algebra.specs.Coded.{Coded}
 use Rattle.galois.specs.Gf256.{gf256}
 use Rattle.protocol.specs.Binary.{bits256}
-use Rattle.protocol.specs.Shape.{Shape, shape_of, per_tree}
+use Rattle.protocol.specs.Shape.{shape_of, per_tree}
 use Rattle.protocol.specs.Questions.{leaves_exact}
 use Rattle.protocol.specs.Counting.{factor}
 use Rattle.protocol.specs.SmallExample.{changed}

@@ -4,21 +4,19 @@
 --   c_of, masked_of, ũOf, ṼOf, qs0Of, qs1Of == the sections C, d, ũ, Ṽ, QS0, QS1, with any vectors û e, v̂ e for u_e, v_e
 -- Assumes nothing.
 use mathlib.Core.Path.{◌≡◌, refl, sym, ap, ap₂, ◌∙◌}
-use mathlib.Core.Bool.{Bool, true, false, cond}
-use mathlib.Core.List.{List, [], ◌∷◌}
-use Prim.Native.Nat.{ℕ, zero, suc, ◌+◌, ◌*◌, ◌-◌, ◌%◌, ◌≤◌, ◌<◌}
+use mathlib.Core.List.{List}
+use Prim.Native.Nat.{ℕ, suc, ◌+◌, ◌*◌, ◌-◌, ◌%◌, ◌<◌}
 use native.Mathlib.Omega.{arith}
-use lib.Dec.{ltb, ltb→lt}
 use lib.ListN.{get_or}
 use Rattle.algebra.specs.Coded.{Coded}
-use Rattle.algebra.specs.Roots.{Line, Conditions}
+use Rattle.algebra.specs.Roots.{Conditions}
 use Rattle.protocol.specs.Lists.{table, concat, all_below}
-use Rattle.protocol.specs.Strings.{bytes_for, from_bits, pack}
+use Rattle.protocol.specs.Strings.{pack}
 use Rattle.protocol.specs.Alphabet.{Alphabet, sym as symbol, elem_at}
 use Rattle.protocol.specs.Binary.{binary}
 use Rattle.protocol.specs.Shape.{Shape, l_of}
 use Rattle.protocol.specs.Sections.{Sections}
-use Rattle.protocol.specs.Forms.{quad, lin, y_of, middle, error, hash, mask_of, batch}
+use Rattle.protocol.specs.Forms.{quad, y_of, middle, error, hash, mask_of, batch}
 use Rattle.protocol.specs.Prover.{u, v, correction, d_of, a₀, a₁, qs0, qs1, c_section, d_section, ũSection, ṼSection, qs0_section, qs1_section}
 use Rattle.protocol.specs.Verifier.{correction_at, key_at, consistent, product_left, product_holds, candidate, batched_error}
 use Rattle.protocol.specs.Coefficients.{shift, conditions}

@@ -1,13 +1,9 @@
 -- u and v of the example with three repetitions, computed by walking the leaves.
 -- Assumes nothing.
 use mathlib.Core.Path.{◌≡◌, refl, ap, ◌∙◌}
-use mathlib.Core.List.{List}
 use Prim.Native.Nat.{ℕ}
-use Rattle.algebra.specs.Ring.{Ring}
-use Rattle.algebra.specs.Field.{Field}
-use Rattle.algebra.specs.Coded.{Coded}
 use Rattle.galois.specs.Gf256.{gf256}
-use Rattle.protocol.specs.Shape.{Shape, shape_of}
+use Rattle.protocol.specs.Shape.{shape_of}
 use Rattle.protocol.proofs.Computing.{computing}
 use Rattle.examples_full.specs.FullThree.{sizes, key, leaves, u-0, u-1, u_2, v-0, v-1, v_2, coordinates, ThreeSums}
 use Rattle.examples_full.proofs.TreeLaws.{weighed, u_walked, v_walked}

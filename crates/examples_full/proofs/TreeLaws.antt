@@ -20,7 +20,7 @@ use Rattle.algebra.proofs.RingLaws.{mul-zero, one-mul, zero-add as zero-plus}
 use Rattle.algebra.proofs.SumLaws.{sum_congr, sum_ext, sum-front, sum-split}
 use Rattle.protocol.specs.Lists.{part, block_at}
 use Rattle.protocol.specs.Strings.{bit}
-use Rattle.protocol.specs.Alphabet.{Alphabet, sym as symbol}
+use Rattle.protocol.specs.Alphabet.{sym as symbol}
 use Rattle.protocol.specs.Binary.{binary}
 use Rattle.protocol.specs.Shape.{Shape, per_tree, w_of}
 use Rattle.protocol.specs.Sections.{Sections}

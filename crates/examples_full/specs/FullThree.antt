@@ -7,11 +7,7 @@
 --   factors p == those of the proof p
 -- Assumes nothing.
 use Rattle.std.specs.Prelude.{◌≡◌, List, [], ◌∷◌, ℕ}
-use Rattle.algebra.specs.Ring.{Ring}
-use Rattle.algebra.specs.Field.{Field}
-use Rattle.algebra.specs.Coded.{Coded}
 use Rattle.protocol.specs.Lists.{table}
-use Rattle.protocol.specs.Alphabet.{Alphabet}
 use Rattle.protocol.specs.Binary.{bits256}
 use Rattle.protocol.specs.Shape.{Shape, shape_of, l_of}
 use Rattle.protocol.specs.Prover.{u, v, c_section, d_section, ũSection, ṼSection, qs0_section, qs1_section, proof_of}

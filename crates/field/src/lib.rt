@@ -1,5 +1,6 @@
 // Arithmetic in the field of 256 elements, whose elements are the bytes; and in the field of a degree.
 #![tactic(auto)]
+
 mod gf16;
 
 ghost use Rattle.std.specs.Prelude.{◌≡◌, ◌*◌, ◌<◌};

@@ -1,17 +1,15 @@
 -- What the limits bound: the sizes, what is derived from them, and so each length that the code computes.
 -- Assumes nothing.
 use mathlib.Core.Path.{◌≡◌}
-use mathlib.Core.Bool.{Bool, true}
-use mathlib.Core.List.{List, [], ◌∷◌}
+use mathlib.Core.Bool.{true}
+use mathlib.Core.List.{[], ◌∷◌}
 use Prim.Native.Nat.{ℕ, ◌+◌, ◌*◌, ◌-◌, ◌/◌, ◌≤◌}
 use native.Mathlib.Nat.{mul-le-mul}
 use native.Mathlib.Omega.{arith}
 use lib.Dec.{leb}
-use Rattle.algebra.specs.Field.{Field}
-use Rattle.algebra.specs.Coded.{Coded}
 use Rattle.galois.specs.Degrees.{degree}
 use Rattle.protocol.specs.Alphabet.{Alphabet}
-use Rattle.algebra.proofs.CountLaws.{and_left, and_right}
+use Rattle.algebra.proofs.CountLaws.{and_left}
 use Rattle.protocol.specs.Strings.{bytes_for}
 use Rattle.protocol.specs.Setting.{Setting, alphabet_of}
 use Rattle.protocol.specs.Frames.{framed_length}

@@ -6,7 +6,6 @@ use Rattle.std.specs.Prelude.{ℕ}
 use Rattle.protocol.specs.Answers.{Answer, accepted, refused}
 use Rattle.format.specs.declared.Reason.{Reason}
 use Rattle.format.specs.declared.Reason.TheVariants.{ShortHeader, SizeOutOfRange, KeyLength, KeySpareBit, ChallengeLength, HashSpareBit, LeafLength, LeafSpareBit, WitnessForm, OutputLength, EquationFails, ProofLength, ProofSpareBit, Inconsistent, ProductDiffers, DegreeUnserved, ChallengeElement, ProofElement}
-use Rattle.format.specs.declared.Refusal.{Refusal}
 use Rattle.format.specs.declared.Verdict.{Verdict}
 use Rattle.format.specs.declared.Verdict.TheVariants.{Accepted, Refused}
 

@@ -1,5 +1,6 @@
 // The answers of the calls, in the forms that 01 names.
 #![tactic(auto)]
+
 pub mod numbers;
 pub mod sizes;
 pub mod verdicts;

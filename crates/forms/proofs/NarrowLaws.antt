@@ -1,8 +1,6 @@
 -- Numbers that are elements of the field of a degree.
 -- Assumes nothing.
 use Prim.Native.Nat.{ℕ, ◌^◌, ◌<◌}
-use Rattle.algebra.specs.Field.{Field}
-use Rattle.algebra.specs.Coded.{Coded}
 use Rattle.galois.specs.Degrees.{field_of, degree_of}
 
 -- a number below the field's size has the field's bits

@@ -16,8 +16,7 @@
 --     of the alphabet A
 -- Assumes nothing.
 use Rattle.std.specs.Prelude.{◌≡◌, Bool, false, List, ℕ, ◌+◌, ◌*◌, ◌<◌, ◌≤◌, length}
-use Rattle.algebra.specs.Field.{Field}
-use Rattle.algebra.specs.Coded.{Coded, mul_byte}
+use Rattle.algebra.specs.Coded.{mul_byte}
 use Rattle.galois.specs.Degrees.{field_of}
 use Rattle.protocol.specs.Strings.{bytes_for}
 use Rattle.protocol.specs.Alphabet.{Alphabet}

@@ -1,6 +1,7 @@
 // The columns of products that stand in stacks, for all repetitions side by side, and their products with vectors. All
 // of it is secret but the places, and whether the polar form is asked for.
 #![tactic(auto)]
+
 ghost use Rattle.std.specs.Prelude.{◌≡◌, true, false, ℕ, ◌+◌, ◌*◌, ◌<◌, ◌≤◌, length};
 ghost use Rattle.strings.specs.Sums.{byte_at, bit_of, xor_sum};
 ghost use Rattle.strings.specs.Rows.{RowsKept};

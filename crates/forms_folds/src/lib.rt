@@ -1,6 +1,7 @@
 // The matrices of a key, folded, as the kernels take them: panels of sixteen columns of every matrix, four at a time,
 // so that eight bytes of a row are read together. The rows of four panels are taken in pieces that the cells hold.
 #![tactic(auto)]
+
 ghost use Rattle.std.specs.Prelude.{◌≡◌, List, ℕ, ◌+◌, ◌*◌, ◌<◌, ◌≤◌, length, drop};
 ghost use Rattle.protocol.specs.Lists.{block_at};
 ghost use Rattle.chunks.specs.Chunks.{chunk, most_block};

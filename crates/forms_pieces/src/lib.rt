@@ -1,6 +1,7 @@
 // The forms of all equations, batched first: a sum of matrices by public bytes, and then the products with the secret
 // vectors of all repetitions. Set after set of four panels, piece after piece of its rows, panel after panel.
 #![tactic(auto)]
+
 ghost use Rattle.std.specs.Prelude.{◌≡◌, ℕ, ◌+◌, ◌*◌, ◌-◌, ◌<◌, ◌≤◌, length};
 ghost use Rattle.std.specs.Int.Bits.{bit_xor};
 ghost use Rattle.protocol.specs.Shape.{most_variables};

@@ -2,6 +2,7 @@
 // written once for both. The vectors and what is computed from them are secret: no branch and no index goes by it. The
 // same code serves a field of any degree: in an element of fewer than eight bits the other bits are 0.
 #![tactic(auto)]
+
 ghost use Rattle.std.specs.Prelude.{◌≡◌, List, ℕ, ◌+◌, ◌*◌, ◌^◌, ◌<◌, ◌≤◌, length};
 ghost use Rattle.std.specs.Int.Bits.{bit_xor, bit_and};
 ghost use Rattle.galois.specs.Degrees.{degree_of};

@@ -8,7 +8,7 @@ use lib.Dec.{eqb, lit≤}
 use Rattle.algebra.specs.Coded.{Coded}
 use Rattle.galois.specs.Gf256.{gf256}
 use Rattle.galois.specs.Gf16.{gf16}
-use Rattle.galois.specs.Degrees.{field_of, degree_of, size_of, degree}
+use Rattle.galois.specs.Degrees.{field_of, degree_of, size_of}
 
 -- what holds of both fields holds of the field of any degree
 pub each_field : (P : Coded → Type 0) → P gf16 → P gf256 → (d : ℕ) → P (field_of d)

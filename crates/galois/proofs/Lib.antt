@@ -1,2 +1,3 @@
 pub mod Products
 pub mod DegreeLaws
+pub mod Moduli

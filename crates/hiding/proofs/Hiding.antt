@@ -9,7 +9,7 @@ use Rattle.protocol.specs.Shape.{Shape, shape_of}
 use Rattle.hiding.specs.Masks.{OneMask}
 use Rattle.hiding.specs.View.{View, view_of}
 use Rattle.hiding.specs.Hidden.{HiddenForm, hidden_of, with_hidden}
-use Rattle.hiding.specs.Hiding.{ExactlyOne, Solution, Honest, Keeps, OwnHidden, Gives, FullLeaves, FavoursNone, OneToOne, Corresponding, Common}
+use Rattle.hiding.specs.Hiding.{ExactlyOne, Solution, Honest, Keeps, OwnHidden, Gives, FullLeaves, FavoursNone, Corresponding, Common}
 use Rattle.hiding.proofs.FormLaws.{is_replacement, with_exact, with_spare, with_bytes, own-form, given_back}
 use Rattle.hiding.proofs.Choice.{in_tree, hidden-leaves}
 

@@ -7,8 +7,6 @@
 --   keeps Δ h == Keeps of the hidden leaves h at Δ, with the other solution
 -- Assumes nothing.
 use Rattle.std.specs.Prelude.{◌≡◌, true, false, List, [], ◌∷◌, ℕ, ◌<◌, set}
-use Rattle.algebra.specs.Coded.{Coded}
-use Rattle.protocol.specs.Alphabet.{Alphabet}
 use Rattle.protocol.specs.Binary.{bits256, bits16}
 use Rattle.protocol.specs.Leaves.{leaf_at}
 use Rattle.protocol.specs.Prover.{proof_of}

@@ -5,6 +5,7 @@
 // and two rounds a turn go from lanes to lanes and back with no copy: 710 cycles a permutation, with one a turn 768.
 // The parts of a round, in planes.rt, are small enough to be compiled into both.
 #![tactic(auto)]
+
 pub mod even;
 pub mod odd;
 pub mod planes;

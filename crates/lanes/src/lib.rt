@@ -1,6 +1,7 @@
 // The vectors of all repetitions side by side: byte typeof.c.LANES + e of a table is coordinate c of the vector of
 // repetition e. A table, and what is computed from it, is secret: no branch and no index goes by it.
 #![tactic(auto)]
+
 ghost use Rattle.std.specs.Prelude.{◌≡◌, ℕ, ◌+◌, ◌*◌, ◌<◌, ◌≤◌, length};
 ghost use Rattle.std.specs.Int.Bits.{bit_xor};
 ghost use Rattle.galois.specs.Gf16.{gf16};

@@ -1,6 +1,7 @@
 // The leaf sums alone, as a call from C, so that the benchmark can time them without the rest of a call. Only the
 // benchmark links this crate: it is no part of the library.
 #![tactic(auto)]
+
 ghost use Rattle.std.specs.Prelude.{◌≡◌, true, false};
 ghost use Rattle.tables.specs.Sums.{TreesReady};
 ghost use Rattle.leaf_sums.specs.LeafSums.{SumsTold};

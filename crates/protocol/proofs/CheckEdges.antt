@@ -7,9 +7,8 @@ use Prim.Native.Nat.{ℕ}
 use borrow.Author.Tests.{le-leb, lt-leb}
 use lib.Dec.{leb}
 use lib.ListN.{length}
-use Rattle.protocol.specs.Frames.{framed}
 use Rattle.protocol.specs.Calls.{verify_answer}
-use Rattle.protocol.specs.Check.{eight, answered, unread, lengths_in, readable, check_of, decimal, decimal_digits}
+use Rattle.protocol.specs.Check.{eight, answered, unread, readable, check_of, decimal, decimal_digits}
 use Rattle.protocol.specs.CheckEdges.{section, CheckReads, Decimals}
 
 and-false : (b : Bool) → (b && false) ≡ false

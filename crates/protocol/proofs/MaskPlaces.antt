@@ -5,7 +5,7 @@ use Prim.Native.Nat.{ℕ, ◌+◌, ◌*◌}
 use native.Mathlib.Nat.{suc-mul, zero-mul, one-mul}
 use native.Mathlib.Omega.{arith}
 use Rattle.protocol.specs.Alphabet.{Alphabet}
-use Rattle.protocol.specs.Shape.{Shape, mask_at, k_of}
+use Rattle.protocol.specs.Shape.{mask_at, k_of}
 use Rattle.protocol.specs.MaskPlaces.{MaskPlaces}
 
 pub mask_places : (A : Alphabet) → MaskPlaces A

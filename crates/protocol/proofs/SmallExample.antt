@@ -1,7 +1,6 @@
 -- The small example's key, bytes and answers, computed on the definitions.
 -- Assumes nothing.
-use mathlib.Core.Path.{◌≡◌, refl, ap, ◌∙◌}
-use mathlib.Core.List.{List, [], ◌∷◌}
+use mathlib.Core.Path.{refl, ap, ◌∙◌}
 use Rattle.protocol.specs.Frames.{frame, count4}
 use Rattle.protocol.specs.Binary.{bits16}
 use Rattle.protocol.specs.Sections.{Sections, bytes_of}

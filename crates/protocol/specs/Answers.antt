@@ -7,7 +7,7 @@
 --   written a old new == the output after a call that answers a: a refusal writes nothing
 --   Published s a == a is accepted or stands in the published list, for a key of sizes s
 -- Assumes nothing.
-use Rattle.std.specs.Prelude.{◌≡◌, Bool, true, false, ◌&&◌, List, [], ◌∷◌, ℕ, ◌+◌, ◌*◌, ◌<◌}
+use Rattle.std.specs.Prelude.{Bool, true, false, ◌&&◌, List, [], ◌∷◌, ℕ, ◌+◌, ◌*◌, ◌<◌}
 use Rattle.protocol.specs.Shape.{Shape}
 
 pub data Answer : Type 0 where

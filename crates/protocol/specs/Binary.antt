@@ -2,7 +2,7 @@
 -- field's degree.
 --   binary K == bits over the field K;  bits256, bits16 == bits over GF(256) and over GF(16)
 -- Assumes nothing.
-use Rattle.std.specs.Prelude.{ℕ, ◌%◌}
+use Rattle.std.specs.Prelude.{◌%◌}
 use Rattle.algebra.specs.Coded.{Coded}
 use Rattle.galois.specs.Gf256.{gf256}
 use Rattle.galois.specs.Gf16.{gf16}

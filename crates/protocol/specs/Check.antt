@@ -6,7 +6,7 @@
 --   check_of g input == what is printed of the input, in the setting g;  line_of == the line;  check_line g input == the
 --     whole output
 -- Assumes nothing.
-use Rattle.std.specs.Prelude.{Bool, true, false, ◌&&◌, List, [], ◌∷◌, ◌++◌, ℕ, zero, suc, ◌+◌, ◌*◌, ◌/◌, ◌%◌, leb, ltb, length, drop}
+use Rattle.std.specs.Prelude.{Bool, true, false, ◌&&◌, List, [], ◌∷◌, ◌++◌, ℕ, zero, suc, ◌+◌, ◌/◌, ◌%◌, leb, ltb, length, drop}
 use Rattle.protocol.specs.Frames.{num4, framed, section_no}
 use Rattle.protocol.specs.Setting.{Setting, setting}
 use Rattle.protocol.specs.Answers.{Answer, accepted, refused}

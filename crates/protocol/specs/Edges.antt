@@ -6,16 +6,16 @@
 -- That each call is refused by each of its questions, Refusals has.
 --   allowed n m τ t == the limits admit these sizes;  toy == the sizes of 01's toy;  largest == the most of each
 -- Assumes nothing.
-use Rattle.std.specs.Prelude.{◌≡◌, Bool, true, false, List, [], ◌∷◌, ◌++◌, ℕ, replicate, take}
+use Rattle.std.specs.Prelude.{◌≡◌, Bool, true, false, [], ◌∷◌, ◌++◌, ℕ, replicate, take}
 use Rattle.protocol.specs.Frames.{num2, num4, count4}
 use Rattle.protocol.specs.Reader.{between, missing, section_at}
-use Rattle.protocol.specs.Alphabet.{Alphabet, elements_in}
+use Rattle.protocol.specs.Alphabet.{elements_in}
 use Rattle.protocol.specs.Binary.{bits256, bits16}
 use Rattle.protocol.specs.Setting.{setting, served, alphabet_of}
 use Rattle.protocol.specs.Shape.{Shape, limits, per_tree, per_opened, mask_at, k_of, l_of, w_of}
 use Rattle.protocol.specs.Key.{key_exact, key_spare}
 use Rattle.protocol.specs.Sections.{sections_in}
-use Rattle.protocol.specs.Answers.{Answer, accepted, refused, word}
+use Rattle.protocol.specs.Answers.{accepted, refused, word}
 use Rattle.protocol.specs.Questions.{h_spare, leaves_spare, witness_form, solves, proof_spare}
 use Rattle.protocol.specs.Calls.{test_answer, hash_answer, batch_answer, prove_answer, verify_answer}
 use Rattle.protocol.specs.SmallExample.{four, changed, sizes, key, witness, leaves, H', χ, Δ, proof, opened}

@@ -6,7 +6,7 @@
 --   sections_of == the six sections that the rules give
 --   proof_of, commit_bytes, hash_bytes, batch_bytes == what the whole call and the three steps write
 -- Assumes nothing.
-use Rattle.std.specs.Prelude.{List, [], ◌∷◌, ℕ, zero, suc, ◌*◌, ◌-◌}
+use Rattle.std.specs.Prelude.{List, [], ◌∷◌, ℕ, suc, ◌-◌}
 use Rattle.algebra.specs.Sum.{sum}
 use Rattle.protocol.specs.Lists.{table, concat}
 use Rattle.protocol.specs.Frames.{frame}

@@ -9,12 +9,12 @@
 --   tree_of opened e == the opened tree of repetition e
 --   consistent_in, product_in == the checks in repetition e, on what the verifier is lent
 -- Assumes nothing.
-use Rattle.std.specs.Prelude.{◌≡◌, ◌≢◌, Bool, ◌&&◌, List, [], ◌∷◌, ℕ, ◌*◌, ◌-◌, ◌<◌, eqb, leb, get_or, length}
+use Rattle.std.specs.Prelude.{◌≢◌, Bool, ◌&&◌, List, [], ◌∷◌, ℕ, ◌*◌, ◌-◌, ◌<◌, eqb, leb, get_or, length}
 use Rattle.algebra.specs.Roots.{is_zero}
 use Rattle.protocol.specs.Lists.{all_below, all_true, first_not, block_at}
 use Rattle.protocol.specs.Frames.{framed, framed_length}
 use Rattle.protocol.specs.Alphabet.{Alphabet, sym, elements_in}
-use Rattle.protocol.specs.Shape.{Shape, limits, per_tree, per_opened, k_of, l_of, w_of}
+use Rattle.protocol.specs.Shape.{Shape, limits, per_opened, k_of, l_of, w_of}
 use Rattle.protocol.specs.Key.{rows_spare, key_exact, key_spare}
 use Rattle.protocol.specs.Sections.{Sections, lengths, sections_in}
 use Rattle.protocol.specs.Forms.{error}

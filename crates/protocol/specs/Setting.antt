@@ -6,8 +6,6 @@
 --   size_of g == how many elements the field has
 -- Assumes nothing.
 use Rattle.std.specs.Prelude.{Bool, ◌||◌, ℕ, eqb}
-use Rattle.algebra.specs.Field.{Field}
-use Rattle.algebra.specs.Coded.{Coded}
 use Rattle.galois.specs.Degrees.{field_of}
 use Rattle.protocol.specs.Alphabet.{Alphabet}
 use Rattle.protocol.specs.Binary.{binary}

@@ -13,8 +13,6 @@
 --     fewer
 -- Assumes nothing.
 use Rattle.std.specs.Prelude.{Bool, ◌&&◌, List, [], ◌∷◌, ℕ, ◌+◌, ◌*◌, ◌-◌, leb}
-use Rattle.algebra.specs.Field.{Field}
-use Rattle.algebra.specs.Coded.{Coded}
 use Rattle.protocol.specs.Lists.{all_true}
 use Rattle.protocol.specs.Frames.{num2}
 use Rattle.protocol.specs.Alphabet.{Alphabet}

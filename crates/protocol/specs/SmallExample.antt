@@ -14,9 +14,7 @@
 -- Assumes nothing.
 use Rattle.std.specs.Prelude.{◌≡◌, List, [], ◌∷◌, ℕ, get_or, set}
 use Rattle.std.specs.Int.Bits.{bit_xor}
-use Rattle.algebra.specs.Coded.{Coded}
 use Rattle.protocol.specs.Lists.{table}
-use Rattle.protocol.specs.Alphabet.{Alphabet}
 use Rattle.protocol.specs.Binary.{bits16}
 use Rattle.protocol.specs.Setting.{Setting, setting}
 use Rattle.protocol.specs.Shape.{Shape, shape_of}

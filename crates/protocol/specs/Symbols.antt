@@ -8,7 +8,6 @@
 -- Exchanging BC and BD keeps all sums and products of symbols: only values tell which is which.
 -- Assumes nothing.
 use Rattle.std.specs.Prelude.{◌≡◌, true, false, List, [], ◌∷◌, ℕ, ◌+◌, ◌*◌, ◌/◌, ◌%◌, ◌^◌, get_or}
-use Rattle.algebra.specs.Ring.{Ring}
 use Rattle.galois.specs.Gf256.{gf256}
 use Rattle.protocol.specs.Lists.{table, concat}
 use Rattle.protocol.specs.Alphabet.{sym}

@@ -10,8 +10,6 @@
 --     needs
 -- Assumes nothing.
 use Rattle.std.specs.Prelude.{◌≡◌, true, List, [], ◌∷◌, ℕ, ◌+◌, ◌*◌, ◌-◌, ◌≤◌, ◌<◌, length}
-use Rattle.algebra.specs.Field.{Field}
-use Rattle.algebra.specs.Coded.{Coded}
 use Rattle.protocol.specs.Strings.{bytes_for}
 use Rattle.protocol.specs.Frames.{frame}
 use Rattle.protocol.specs.Alphabet.{Alphabet}

@@ -1,5 +1,6 @@
 // The prover: its trees are loaded, and each step then writes its framed sections into its own part of the output.
 #![tactic(auto)]
+
 pub mod steps;
 
 ghost use Rattle.std.specs.Prelude.{◌≡◌};

@@ -1,20 +1,17 @@
 -- The sections that the hash step writes, from what the kernels ensure.
 -- Assumes nothing.
-use mathlib.Core.Path.{◌≡◌, refl, sym, ap, ap₂, ◌∙◌}
-use mathlib.Core.Bool.{true}
+use mathlib.Core.Path.{◌≡◌, sym, ◌∙◌}
 use mathlib.Core.List.{List}
 use Prim.Native.Nat.{ℕ, ◌+◌, ◌*◌, ◌≤◌, ◌<◌}
 use native.Mathlib.Omega.{arith}
-use lib.ListN.{length, get_or, take}
+use lib.ListN.{length, take}
 use lib.Seq.{get_or-take}
-use Rattle.protocol.specs.Lists.{table, block_at}
+use Rattle.protocol.specs.Lists.{table}
 use Rattle.protocol.specs.Strings.{bytes_for}
 use Rattle.protocol.specs.Setting.{Setting, alphabet_of}
-use Rattle.protocol.specs.Shape.{Shape, per_tree, k_of, l_of, w_of}
+use Rattle.protocol.specs.Shape.{Shape, per_tree, k_of, w_of}
 use Rattle.protocol.specs.Forms.{hash}
 use Rattle.protocol.specs.Prover.{v, ṼSection}
-use Rattle.protocol.specs.Questions.{h_exact}
-use Rattle.theorems.proofs.TestLaws.{eqb_eq}
 use Rattle.theorems.proofs.ListLaws.{row-end, length-table, table_at}
 use Rattle.strings.specs.Sums.{byte_at}
 use Rattle.lanes.specs.Lanes.{lanes}

@@ -1,5 +1,6 @@
 // The sections C, d, ũ and Ṽ, each after its count, written where the output has them.
 #![tactic(auto)]
+
 mod vole;
 
 ghost use Rattle.format.specs.Sizes.{alphabet_for, shape_for};

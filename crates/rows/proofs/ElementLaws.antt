@@ -3,13 +3,11 @@
 use mathlib.Core.Path.{◌≡◌, refl, sym, ap, ◌∙◌}
 use mathlib.Core.Bool.{Bool, true, false, not, ◌||◌, true≢false}
 use mathlib.Core.List.{List}
-use Prim.Native.Nat.{ℕ, ◌<◌}
+use Prim.Native.Nat.{ℕ}
 use lib.Dec.{eqb, ltb}
 use lib.ListN.{length, get_or}
-use Rattle.algebra.specs.Field.{Field}
-use Rattle.algebra.specs.Coded.{Coded}
 use Rattle.galois.specs.Gf16.{gf16}
-use Rattle.galois.specs.Degrees.{field_of, size_of}
+use Rattle.galois.specs.Degrees.{size_of}
 use Rattle.galois.proofs.DegreeLaws.{size-four, size-other}
 use Rattle.protocol.specs.Lists.{all_below}
 use Rattle.protocol.specs.Strings.{bytes}

@@ -14,8 +14,6 @@ use lib.ListN.{length, get_or, drop, length-take}
 use lib.Pow.{shr-shr, shr_lt}
 use lib.Seq.{take_all}
 use Rattle.algebra.proofs.CountLaws.{and_left, and_right}
-use Rattle.algebra.specs.Field.{Field}
-use Rattle.algebra.specs.Coded.{Coded}
 use Rattle.galois.specs.Gf16.{gf16}
 use Rattle.protocol.specs.Lists.{all_below, part, block_at}
 use Rattle.protocol.specs.Strings.{bytes_for, bit, from_bits, spare_zero}

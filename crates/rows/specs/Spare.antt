@@ -3,8 +3,6 @@
 --   narrow s == each byte of s is below 16, the size of the smaller field
 -- Assumes nothing.
 use Rattle.std.specs.Prelude.{Bool, List, ℕ, ltb, length, get_or}
-use Rattle.algebra.specs.Field.{Field}
-use Rattle.algebra.specs.Coded.{Coded}
 use Rattle.galois.specs.Gf16.{gf16}
 use Rattle.protocol.specs.Lists.{all_below, block_at}
 use Rattle.protocol.specs.Strings.{bytes_for, spare_zero}

@@ -1,5 +1,6 @@
 // Sections, each after its byte count of four bytes: how one is found, and how a string of them is read.
 #![tactic(auto)]
+
 pub mod frames;
 pub mod outputs;
 pub mod reader;

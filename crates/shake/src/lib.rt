@@ -1,5 +1,6 @@
 // SHAKE256 of FIPS 202, its state by value: new, absorb piece after piece, finish, squeeze piece after piece.
 #![tactic(auto)]
+
 pub mod input;
 pub mod output;
 

@@ -1,6 +1,7 @@
 // SHAKE256 as calls from C, each way that the crate shake offers it, so that NIST's vectors can be put to the compiled
 // code. Only tests/shake.sh links this crate: it is no part of the library.
 #![tactic(auto)]
+
 ghost use Rattle.std.specs.Prelude.{◌≡◌, length};
 ghost use Rattle.sponge.specs.Sponge.{shake256};
 

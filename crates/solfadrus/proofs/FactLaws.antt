@@ -1,21 +1,20 @@
 -- What an accepted answer to the questions on form says.
 -- Assumes nothing.
-use mathlib.Core.Path.{◌≡◌, refl, sym, ap, ◌∙◌}
-use mathlib.Core.Bool.{Bool, true, ◌&&◌}
-use mathlib.Core.List.{List, [], ◌∷◌, ◌++◌}
-use Prim.Native.Nat.{ℕ, ◌+◌, ◌*◌, ◌-◌, ◌≤◌}
+use mathlib.Core.Path.{◌≡◌, ◌∙◌}
+use mathlib.Core.Bool.{true}
+use mathlib.Core.List.{List, [], ◌∷◌}
+use Prim.Native.Nat.{ℕ, ◌+◌, ◌*◌, ◌-◌}
 use native.Mathlib.Omega.{arith}
 use lib.Dec.{eqb}
 use lib.ListN.{length}
 use Rattle.algebra.proofs.CountLaws.{and_left, and_right}
-use Rattle.protocol.specs.Lists.{all_true}
 use Rattle.protocol.specs.Strings.{bytes_for, spare_zero}
 use Rattle.protocol.specs.Frames.{framed_length}
 use Rattle.protocol.specs.Alphabet.{elements_in}
 use Rattle.protocol.specs.Setting.{Setting, alphabet_of}
-use Rattle.protocol.specs.Shape.{Shape, shape_of, limits, w_of}
+use Rattle.protocol.specs.Shape.{Shape, shape_of, w_of}
 use Rattle.protocol.specs.Sections.{lengths, commit_lengths, hash_lengths, batch_lengths}
-use Rattle.protocol.specs.Answers.{accepted, ask, Question}
+use Rattle.protocol.specs.Answers.{accepted, ask}
 use Rattle.protocol.specs.Questions.{h_exact, χExact, witness_form}
 use Rattle.protocol.specs.Calls.{test_questions, commit_questions, hash_questions, batch_questions, prove_questions}
 use Rattle.theorems.proofs.TestLaws.{eqb_eq, leb_le, all_true_lem}

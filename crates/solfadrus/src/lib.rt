@@ -1,6 +1,7 @@
 // The calls that C makes. Each takes the degree of the field right after the key (request 3), and answers with one
 // number: 0 for accepted, else number × 65,536 + place.
 #![tactic(auto)]
+
 ghost use Rattle.std.specs.Prelude.{◌≡◌};
 ghost use Rattle.protocol.specs.Setting.{setting};
 ghost use Rattle.demands.specs.Demands.{TestTold, CommitWrites, HashWrites, BatchWrites, ProveWrites, VerifyTold};

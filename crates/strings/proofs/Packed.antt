@@ -3,17 +3,15 @@
 -- Assumes nothing.
 use Prim.Native.Nat.{ℕ, zero, suc, ◌+◌, ◌*◌, ◌-◌, ◌≤◌, ◌<◌}
 use mathlib.Core.Path.{◌≡◌, refl, sym, ap, ap₂, ◌∙◌}
-use mathlib.Core.Bool.{true, cond}
+use mathlib.Core.Bool.{true}
 use mathlib.Core.List.{List, [], ◌∷◌, ◌++◌}
 use native.Mathlib.Nat.{zero-mul, suc-mul}
-use native.Mathlib.Decide.{dec_lt}
 use native.Mathlib.Omega.{arith}
-use lib.Dec.{ltb}
 use lib.ListN.{length, take, drop, length-drop, take-append-drop}
 use lib.Seq.{drop-drop}
 use Rattle.protocol.specs.Lists.{table, concat, part, block_at}
 use Rattle.protocol.specs.Strings.{bytes_for, bit, spare_zero, pack}
-use Rattle.theorems.proofs.TestLaws.{eqb_same, ltb_no, all_of}
+use Rattle.theorems.proofs.TestLaws.{eqb_same, all_of}
 use Rattle.theorems.proofs.StringLaws.{string_is, pack_congr}
 use Rattle.strings.specs.Sums.{byte_at}
 

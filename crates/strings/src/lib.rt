@@ -1,5 +1,6 @@
 // Byte strings as the code walks them: sums in place, rows of a table, single bits, and words of eight bytes.
 #![tactic(auto)]
+
 pub mod copies;
 pub mod parity;
 

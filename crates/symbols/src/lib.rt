@@ -1,6 +1,7 @@
 // The symbols of request 11 as elements of GF(256). Symbol c of a string is its bits 2c and 2c + 1, and stands for the
 // first plus ω times the second, where ω is what symbol 2 stands for.
 #![tactic(auto)]
+
 ghost use Rattle.std.specs.Prelude.{◌≡◌, ◌+◌, ◌*◌, ◌<◌, length};
 ghost use Rattle.symbols.specs.Omega.{omega_times, symbol_element};
 

@@ -12,7 +12,7 @@
 --     e below τ; a tree has count leaves
 --   CorrectionsAre out sums n w == out has n rows of w bytes, row e the sum of rows e + 1 and 0 of the sums
 -- Assumes nothing.
-use Rattle.std.specs.Prelude.{◌≡◌, List, ℕ, ◌+◌, ◌*◌, ◌/◌, ◌^◌, ◌<◌, ◌≤◌, length}
+use Rattle.std.specs.Prelude.{◌≡◌, List, ℕ, ◌+◌, ◌*◌, ◌^◌, ◌<◌, ◌≤◌, length}
 use Rattle.std.specs.Int.Bits.{bit_xor}
 use Rattle.protocol.specs.Lists.{block_at}
 use Rattle.protocol.specs.Strings.{bit, from_bits}

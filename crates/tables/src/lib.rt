@@ -1,5 +1,6 @@
 // Leaf sums for all repetitions: u_e in the rows of a table, v_e in the lanes of another.
 #![tactic(auto)]
+
 mod parts;
 
 ghost use Rattle.std.specs.Prelude.{◌≡◌, ℕ, ◌+◌, ◌*◌, ◌^◌, ◌<◌, ◌≤◌, length};

@@ -2,6 +2,7 @@
 // that is left out, W_e = v + Δ_e·(u + C_e), where u and v are the sums of the leaves as the prover has them. Nothing
 // that the verifier is lent is secret.
 #![tactic(auto)]
+
 ghost use Rattle.std.specs.Prelude.{◌+◌, ◌*◌, ◌-◌, ◌^◌, ◌<◌, ◌≤◌, length};
 ghost use Rattle.lanes.specs.Lanes.{lanes, LaneIs, LanesKept};
 ghost use Rattle.tables_opened.specs.Opened.{w_byte, CorrectionAdded, OpenedFits, OpenedInputs, OpenedTableIs};

@@ -1,13 +1,13 @@
 -- Bits are a lawful alphabet.
 -- Assumes nothing.
-use mathlib.Core.Path.{◌≡◌, refl, sym, ap, ◌∙◌}
-use Prim.Native.Nat.{ℕ, zero, suc, ◌+◌, ◌%◌, ◌<◌}
+use mathlib.Core.Path.{◌≡◌, sym, ap, ◌∙◌}
+use Prim.Native.Nat.{ℕ, zero, suc, ◌%◌, ◌<◌}
 use native.Mathlib.Nat.{mod-lt, mod-eq_of_lt}
 use native.Mathlib.Omega.{arith}
 use lib.Dec.{lit<}
 use Rattle.algebra.specs.Coded.{Coded}
 use Rattle.algebra.proofs.RingLaws.{ring}
-use Rattle.protocol.specs.Alphabet.{Alphabet, IsSymbol, Lawful}
+use Rattle.protocol.specs.Alphabet.{IsSymbol, Lawful}
 use Rattle.protocol.specs.Binary.{binary, bits256}
 use Rattle.galois.specs.Gf256.{gf256}
 use Rattle.theorems.proofs.StringLaws.{bit_lt, bytes_for_le, length-pack, pack_in, pack-spare, pack_congr, pack-bytes, string_is}

@@ -1,15 +1,12 @@
 -- A repetition's two checks are its conditions on the challenge; so its factor counts the elements that pass them.
 -- Assumes nothing.
 use mathlib.Core.Path.{◌≡◌, refl, sym, ap, ap₂, ◌∙◌}
-use mathlib.Core.Logic.{◌⊎◌, ◌↔◌}
 use mathlib.Core.Bool.{Bool, ◌&&◌}
 use mathlib.Core.List.{List}
 use Prim.Native.Nat.{ℕ, zero, suc, ◌+◌, ◌*◌, ◌<◌}
 use lib.ListN.{length}
-use Rattle.algebra.specs.Count.{count}
 use Rattle.algebra.specs.Roots.{is_zero, Line, line_at, lines_ok, quad_at, passing, Conditions}
 use Rattle.algebra.proofs.Solver.{◌:+◌, ◌:*◌, ◌:=◌, ring_by, same_of_zero, zero_of_same}
-use Rattle.algebra.proofs.CountLaws.{count_congr}
 use Rattle.algebra.proofs.FieldLaws.{eqb_iff}
 use Rattle.protocol.specs.Lists.{all_below, table}
 use Rattle.protocol.specs.Alphabet.{Alphabet, sym as symbol, elem_at}

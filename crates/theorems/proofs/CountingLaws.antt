@@ -1,28 +1,27 @@
 -- The count of accepted challenge strings is the product of the factors.
 -- Assumes nothing.
-use mathlib.Core.Path.{◌≡◌, refl, sym, ap, ap₂, ◌∙◌}
-use mathlib.Core.Bool.{Bool, true, ◌&&◌}
+use mathlib.Core.Path.{◌≡◌, sym, ap, ◌∙◌}
+use mathlib.Core.Bool.{true, ◌&&◌}
 use mathlib.Core.List.{List, [], ◌∷◌, map}
 use Prim.Native.Nat.{ℕ, ◌+◌, ◌*◌, ◌-◌, ◌<◌}
 use native.Mathlib.Omega.{arith}
 use lib.Dec.{leb}
 use lib.ListN.{length, get_or, length-map}
-use Rattle.algebra.specs.Count.{count, passes, product}
+use Rattle.algebra.specs.Count.{passes, product}
 use Rattle.algebra.proofs.CountLaws.{count-words, words_congr}
-use Rattle.protocol.specs.Lists.{all_below, all_true, block_at}
+use Rattle.protocol.specs.Lists.{all_below}
 use Rattle.protocol.specs.Frames.{framed}
 use Rattle.protocol.specs.Alphabet.{Alphabet, elements_in}
-use Rattle.protocol.specs.Setting.{Setting, served, q16, alphabet_of}
+use Rattle.protocol.specs.Setting.{Setting, served, alphabet_of}
 use Rattle.protocol.specs.Shape.{Shape, shape_of, limits, per_tree, per_opened, l_of, w_of}
 use Rattle.protocol.specs.Key.{rows_spare, key_exact, key_spare}
 use Rattle.protocol.specs.Sections.{Sections, lengths, sections_in}
-use Rattle.protocol.specs.Leaves.{leaf_at, open_tree, opened_leaf}
-use Rattle.protocol.specs.Verifier.{consistent_at, product_at}
+use Rattle.protocol.specs.Leaves.{leaf_at, open_tree}
 use Rattle.protocol.specs.Answers.{is_accepted}
-use Rattle.protocol.specs.Questions.{h_exact, χExact, ΔExact, h_spare, leaves_exact, leaves_spare, proof_spare, proof_elements, tree_of, consistent_in, product_in, q1, q2, q3, q4, q5, q6, q7, q8, q12, q13, q14, q15, q17, q18}
+use Rattle.protocol.specs.Questions.{h_exact, χExact, ΔExact, h_spare, leaves_exact, leaves_spare, proof_spare, proof_elements, tree_of, consistent_in, product_in}
 use Rattle.protocol.specs.Calls.{verify_answer, well_formed_questions, well_formed}
 use Rattle.protocol.specs.Counting.{opening, accepted_count, checks_at, factor}
-use Rattle.theorems.proofs.TestLaws.{eqb_same, eqb_eq, and-true, both_true, all_true_lem, all-at, all_of, all_congr, all-and, passes-all}
+use Rattle.theorems.proofs.TestLaws.{eqb_same, eqb_eq, and-true, all_true_lem, all-at, all_of, all_congr, all-and, passes-all}
 use Rattle.theorems.proofs.ListLaws.{row-end, get_d_map, cut_at}
 use Rattle.theorems.proofs.LeafLaws.{cut_opened, opened-length, opened-block}
 use Rattle.theorems.proofs.AnswerLaws.{all_yes_lem, accepted-all}

@@ -1,10 +1,10 @@
 -- Demands 2 and 3, sentence by sentence. The client's words stand above each type in specs/Demands.
 -- Assumes nothing.
 use mathlib.Core.Path.{◌≡◌, refl, sym, ap, ap₂, ◌∙◌}
-use mathlib.Core.Logic.{◌≢◌, ◌⊎◌, inl, inr}
+use mathlib.Core.Logic.{◌⊎◌, inl, inr}
 use mathlib.Core.Bool.{Bool, true, false, ◌&&◌, ◌||◌, false≢true}
 use mathlib.Core.List.{List, [], ◌∷◌, map}
-use Prim.Native.Nat.{ℕ, zero, suc, ◌<◌}
+use Prim.Native.Nat.{ℕ, suc, ◌<◌}
 use native.Mathlib.Omega.{arith}
 use lib.Dec.{eqb}
 use lib.ListN.{length, get_or, length-map}
@@ -18,10 +18,9 @@ use Rattle.algebra.proofs.FieldLaws.{eqb-true}
 use Rattle.algebra.proofs.SumLaws.{sum_congr}
 use Rattle.algebra.proofs.CountLaws.{words_congr}
 use Rattle.algebra.proofs.StringLaws.{strings-length, strings_once}
-use Rattle.protocol.specs.Lists.{all_below, table}
-use Rattle.protocol.specs.Strings.{bytes}
+use Rattle.protocol.specs.Lists.{table}
 use Rattle.protocol.specs.Alphabet.{Alphabet, sym as symbol, elements_in, Lawful}
-use Rattle.protocol.specs.Setting.{Setting, setting, served, alphabet_of, size_of}
+use Rattle.protocol.specs.Setting.{Setting, setting, served, alphabet_of}
 use Rattle.protocol.specs.Shape.{Shape, shape_of}
 use Rattle.protocol.specs.Sections.{Sections, sections_in}
 use Rattle.protocol.specs.Forms.{error, χAt, batch}

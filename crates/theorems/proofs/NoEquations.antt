@@ -1,10 +1,9 @@
 -- A key with no equations: sums over equations are empty.
 -- Assumes nothing.
-use mathlib.Core.Path.{◌≡◌, refl, sym, ap, ap₂, ◌∙◌}
-use mathlib.Core.Logic.{◌≢◌}
+use mathlib.Core.Path.{◌≡◌, refl, ap, ◌∙◌}
 use mathlib.Core.Bool.{Bool, true, false, ◌&&◌}
 use mathlib.Core.List.{List, [], ◌∷◌}
-use Prim.Native.Nat.{ℕ, zero, suc, ◌+◌, ◌*◌, ◌^◌, ◌≤◌, ◌<◌}
+use Prim.Native.Nat.{ℕ, ◌+◌, ◌*◌, ◌^◌}
 use native.Mathlib.Nat.{pow-zero, mul-zero, zero-mul}
 use native.Mathlib.Omega.{arith}
 use lib.ListN.{length}
@@ -12,7 +11,7 @@ use Rattle.galois.specs.Degrees.{field_of}
 use Rattle.algebra.specs.Field.{Field}
 use Rattle.algebra.specs.Sum.{sum}
 use Rattle.algebra.specs.Count.{count}
-use Rattle.algebra.specs.Roots.{Line, Conditions, ZeroOneAll, is_zero, line_at, quad_at, lines_ok, passing}
+use Rattle.algebra.specs.Roots.{Conditions, ZeroOneAll, is_zero, quad_at, lines_ok, passing}
 use Rattle.algebra.specs.Columns.{column_sum}
 use Rattle.algebra.proofs.RingLaws.{ring, zero-add}
 use Rattle.algebra.proofs.CountLaws.{count_congr}
@@ -20,7 +19,7 @@ use Rattle.algebra.proofs.RootLaws.{lines_values}
 use Rattle.algebra.proofs.ColumnLaws.{columns-all}
 use Rattle.protocol.specs.Frames.{framed_length}
 use Rattle.protocol.specs.Alphabet.{Alphabet, Lawful}
-use Rattle.protocol.specs.Setting.{Setting, alphabet_of, size_of}
+use Rattle.protocol.specs.Setting.{Setting, alphabet_of}
 use Rattle.protocol.specs.Shape.{Shape, shape_of}
 use Rattle.protocol.specs.Key.{key_lengths}
 use Rattle.protocol.specs.Forms.{mask_of, χAt, batch}

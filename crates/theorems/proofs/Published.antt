@@ -1,14 +1,13 @@
 -- Every answer of every call is in the published list; 11 is given exactly when some equation fails, and names the
 -- first that does.
 -- Assumes nothing.
-use mathlib.Core.Path.{◌≡◌, refl, sym, ap, ◌∙◌}
+use mathlib.Core.Path.{◌≡◌, refl, sym, ◌∙◌}
 use mathlib.Core.Logic.{◌↔◌, ◌≢◌}
-use mathlib.Core.Bool.{Bool, true, false, false≢true, true≢false}
+use mathlib.Core.Bool.{Bool, true, false, true≢false}
 use mathlib.Core.List.{List, [], ◌∷◌, ◌++◌}
-use Prim.Native.Nat.{ℕ, ◌<◌}
-use native.Mathlib.Omega.{arith}
+use Prim.Native.Nat.{ℕ}
 use lib.ListN.{drop}
-use Rattle.algebra.proofs.FieldLaws.{dec, eqb-true}
+use Rattle.algebra.proofs.FieldLaws.{eqb-true}
 use Rattle.protocol.specs.Lists.{all_below, first_not}
 use Rattle.protocol.specs.Alphabet.{Alphabet, sym as symbol}
 use Rattle.protocol.specs.Setting.{Setting, alphabet_of}

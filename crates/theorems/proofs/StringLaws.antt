@@ -13,7 +13,7 @@ use lib.Dec.{eqb, ltb, lit<}
 use lib.Pow.{shr-shr}
 use lib.ListN.{length, get_or, length-take, length-drop}
 use lib.Seq.{ext_get_or}
-use Rattle.protocol.specs.Lists.{table, all_below, concat, part, block_at}
+use Rattle.protocol.specs.Lists.{table, concat, part, block_at}
 use Rattle.protocol.specs.Strings.{bytes_for, bit, from_bits, pack, spare_zero, bytes}
 use Rattle.theorems.proofs.TestLaws.{eqb_same, eqb_eq, ltb_yes, ltb_no, all_of, all-at}
 use Rattle.theorems.proofs.ListLaws.{length-table, table_at, table_congr, block_getD}

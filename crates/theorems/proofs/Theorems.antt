@@ -1,13 +1,12 @@
 -- The statements of specs/Statements, proved for every lawful alphabet and every setting.
 -- Assumes nothing.
 use mathlib.Core.Path.{◌≡◌, refl, sym, ap, ap₂, ◌∙◌, subst}
-use mathlib.Core.Logic.{◌≢◌, ◌⊎◌, inl, inr, ◌↔◌}
+use mathlib.Core.Logic.{◌⊎◌, inl, inr, ◌↔◌}
 use mathlib.Core.Bool.{Bool, true, false, ◌&&◌}
 use mathlib.Core.List.{List, [], ◌∷◌, ◌++◌, map}
-use Prim.Native.Nat.{ℕ, zero, suc, ◌+◌, ◌*◌, ◌-◌, ◌^◌, ◌≤◌, ◌<◌}
+use Prim.Native.Nat.{ℕ, zero, suc, ◌^◌, ◌≤◌, ◌<◌}
 use native.Mathlib.Decide.{dec_lt}
 use native.Mathlib.Omega.{arith}
-use lib.Dec.{lit<}
 use lib.ListN.{length, get_or, drop, length-map}
 use Rattle.galois.specs.Degrees.{field_of}
 use Rattle.algebra.specs.Count.{count}
@@ -22,19 +21,19 @@ use Rattle.protocol.specs.Alphabet.{Alphabet, sym as symbol, elements_in, IsSymb
 use Rattle.protocol.specs.Binary.{binary}
 use Rattle.protocol.specs.Quaternary.{fours256}
 use Rattle.protocol.specs.Setting.{Setting, alphabet_of}
-use Rattle.protocol.specs.Shape.{Shape, shape_of, limits, per_tree, per_opened, w_of}
+use Rattle.protocol.specs.Shape.{Shape, shape_of, per_tree, w_of}
 use Rattle.protocol.specs.Sections.{Sections, bytes_of, sections_in}
-use Rattle.protocol.specs.Leaves.{open_tree, opened_leaf}
-use Rattle.protocol.specs.Forms.{quad, lin, y_of, error}
+use Rattle.protocol.specs.Leaves.{opened_leaf}
+use Rattle.protocol.specs.Forms.{y_of, error}
 use Rattle.protocol.specs.Prover.{v, a₀, a₁, c_section, d_section, ũSection, ṼSection, qs0_section, qs1_section, sections_of, commit_bytes, hash_bytes, batch_bytes, proof_of}
 use Rattle.protocol.specs.Verifier.{candidate, correction_at}
-use Rattle.protocol.specs.Answers.{accepted, refused, is_accepted, Question, ask, all_yes}
+use Rattle.protocol.specs.Answers.{accepted, refused, is_accepted, Question, all_yes}
 use Rattle.protocol.specs.Questions.{ΔExact, h_exact, χExact, solves, witness_form, proof_spare, proof_elements, leaves_exact, consistent_in, product_in, q5, q6, q14, q15, q17}
 use Rattle.protocol.specs.Calls.{test_questions, commit_questions, batch_questions, prove_questions, verify_questions, honest_questions, well_formed_questions, key_questions, verify_puts, test_answer, commit_answer, batch_answer, prove_answer, verify_answer, honest_form, verify_form, well_formed}
 use Rattle.protocol.specs.Counting.{opening, accepted_count, checks_at, factor, candidate_bytes}
 use Rattle.protocol.specs.Coefficients.{conditions}
 use Rattle.theorems.specs.Statements.{OpenedByPlace, OpenedForm, VoleIdentity, Expansion, ProverExpansion, HonestAccepted, HonestWellFormed, AcceptsExactly, FirstNamed, StepsAreWhole, ProofReadsBack, CandidateIsWitness, HonestChecks, Factors, HidingColumns, HoldsOver, EveryAlphabet, ForgeryCount, error_of}
-use Rattle.theorems.proofs.TestLaws.{both_true, all-at, all_of, all_true_lem, true-all, eqb_same, passes-all}
+use Rattle.theorems.proofs.TestLaws.{both_true, all-at, all_of, true-all, eqb_same, passes-all}
 use Rattle.theorems.proofs.FrameLaws.{frame-append}
 use Rattle.theorems.proofs.LeafLaws.{open_place}
 use Rattle.theorems.proofs.VoleLaws.{vole}

@@ -7,9 +7,6 @@
 --   InAll n == those strings are size^n
 -- Assumes nothing.
 use Rattle.std.specs.Prelude.{◌≡◌, ◌≢◌, ◌⊎◌, ◌↔◌, true, false, List, ◌++◌, map, ℕ, ◌-◌, ◌^◌, ◌<◌, eqb, length, get_or}
-use Rattle.algebra.specs.Ring.{Ring}
-use Rattle.algebra.specs.Field.{Field}
-use Rattle.algebra.specs.Coded.{Coded}
 use Rattle.algebra.specs.Count.{count, same, product}
 use Rattle.algebra.specs.Strings.{strings}
 use Rattle.algebra.specs.Columns.{column_sum, zero_columns}
@@ -17,7 +14,7 @@ use Rattle.protocol.specs.Lists.{table}
 use Rattle.protocol.specs.Strings.{bytes}
 use Rattle.protocol.specs.Alphabet.{Alphabet, elements_in}
 use Rattle.protocol.specs.Setting.{Setting, setting, served, alphabet_of, size_of}
-use Rattle.protocol.specs.Shape.{Shape, shape_of}
+use Rattle.protocol.specs.Shape.{shape_of}
 use Rattle.protocol.specs.Sections.{sections_in}
 use Rattle.protocol.specs.Forms.{χAt}
 use Rattle.protocol.specs.Prover.{commit_bytes, hash_bytes, batch_bytes, proof_of}

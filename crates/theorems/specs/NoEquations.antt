@@ -5,7 +5,7 @@
 --   NoSquares g key == of a well-formed proof, each factor is 0, 1 or the field's size: nothing is quadratic
 --   PracticeKeys g == all three hold of every key with m = 0
 -- Assumes nothing.
-use Rattle.std.specs.Prelude.{◌≡◌, ◌≢◌, true, List, [], ◌∷◌, ℕ, ◌+◌, ◌<◌, length}
+use Rattle.std.specs.Prelude.{◌≡◌, ◌≢◌, true, List, [], ◌∷◌, ℕ, ◌+◌, ◌<◌}
 use Rattle.algebra.specs.Roots.{ZeroOneAll}
 use Rattle.algebra.specs.Columns.{column_sum, zero_columns}
 use Rattle.protocol.specs.Frames.{framed_length}

@@ -2,7 +2,7 @@
 -- setting.
 -- `Demands` gives the client's sentences.
 -- Assumes nothing.
-use Rattle.std.specs.Prelude.{◌≡◌, ◌≢◌, ◌⊎◌, ◌↔◌, Bool, true, false, List, [], ◌∷◌, ◌++◌, ℕ, ◌+◌, ◌*◌, ◌-◌, ◌^◌, ◌≤◌, ◌<◌, get_or, length}
+use Rattle.std.specs.Prelude.{◌≡◌, ◌≢◌, ◌⊎◌, ◌↔◌, Bool, true, false, List, ◌∷◌, ◌++◌, ℕ, ◌-◌, ◌^◌, ◌≤◌, ◌<◌, get_or, length}
 use Rattle.algebra.specs.Coded.{Coded}
 use Rattle.algebra.specs.Count.{product}
 use Rattle.algebra.specs.Roots.{Trivial}

@@ -10,7 +10,7 @@ use mathlib.Core.List.{List}
 use native.Mathlib.Nat.{add-mul, one-mul, mul-zero}
 use native.Mathlib.Decide.{dec_lt}
 use native.Mathlib.Omega.{arith}
-use lib.Bits.{bit_xor, xor_comm, xor_zero_r}
+use lib.Bits.{bit_xor, xor_zero_r}
 use lib.ListN.{length}
 use Rattle.protocol.specs.Lists.{block_at}
 use Rattle.protocol.specs.Leaves.{place, opened_leaf}

@@ -4,12 +4,12 @@
 --   Changed g l₀ l at n == the n bytes of l from `at` on are those of l₀, byte k of them changed by g k, and the others
 --     are as in l₀
 -- Assumes nothing.
-use Prim.Native.Nat.{ℕ, zero, suc, ◌+◌, ◌*◌, ◌-◌, ◌/◌, ◌%◌, ◌^◌, ◌≤◌, ◌<◌}
+use Prim.Native.Nat.{ℕ, zero, suc, ◌+◌, ◌*◌, ◌-◌, ◌/◌, ◌%◌, ◌≤◌, ◌<◌}
 use mathlib.Core.Path.{◌≡◌, refl, sym, ap, ◌∙◌}
 use mathlib.Core.Bool.{cond}
 use mathlib.Core.List.{List}
 use mathlib.Core.Logic.{◌⊎◌, inl, inr, ⊎_elim}
-use native.Mathlib.Nat.{eq-or-lt_of_le, le_of_suc-le-suc, div-one}
+use native.Mathlib.Nat.{eq-or-lt_of_le, le_of_suc-le-suc}
 use native.Mathlib.Decide.{dec_lt, ℕ_discrete}
 use native.Mathlib.Numerals.{add-one}
 use native.Mathlib.Omega.{arith}
@@ -17,7 +17,6 @@ use lib.Bits.{bit_xor, xor_self, xor_shr, xor_mod}
 use lib.Count.{count_trailing_zeros, under}
 use lib.Dec.{ltb}
 use lib.ListN.{length, set}
-use lib.Pow.{shr-shr}
 use lib.Seq.{get_or-set_same, get_or-set_other}
 use Rattle.theorems.proofs.TestLaws.{ltb_yes, ltb_no}
 use Rattle.strings.specs.Sums.{byte_at, bit_of, xor_sum}

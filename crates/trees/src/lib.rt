@@ -1,6 +1,7 @@
 // The sums u and v of one tree of leaves, full or opened. Leaf delta is left out, and counts as 0; a full tree has
 // delta at its count.
 #![tactic(auto)]
+
 mod fours;
 mod sixteens;
 

@@ -1,6 +1,7 @@
 // The verifier: its questions on form, and then 14 and 15, 14 over all repetitions before 15 over any. All that it is
 // lent is public.
 #![tactic(auto)]
+
 ghost use Rattle.std.specs.Prelude.{◌≡◌};
 ghost use Rattle.protocol.specs.Setting.{setting};
 ghost use Rattle.protocol.specs.Answers.{ask};

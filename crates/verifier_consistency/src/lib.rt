@@ -1,5 +1,6 @@
 // The consistency check (01, verifier's rules): H.W_e = Ṽ_e + δ_e·ũ.
 #![tactic(auto)]
+
 ghost use Rattle.std.specs.Prelude.{◌≡◌, true, List, ℕ, ◌*◌, ◌≤◌, eqb, length};
 ghost use Rattle.protocol.specs.Alphabet.{elements_in};
 ghost use Rattle.protocol.specs.Shape.{limits, w_of, most_hash_rows};

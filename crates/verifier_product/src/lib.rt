@@ -1,6 +1,7 @@
 // The product check (01, verifier's rules): K_e, the left side in every repetition, and the right side, to which it is
 // held. All of it is public.
 #![tactic(auto)]
+
 ghost use Rattle.std.specs.Prelude.{◌≡◌, true, ℕ, ◌+◌, ◌*◌, ◌<◌, ◌≤◌, length};
 ghost use Rattle.std.specs.Int.Bits.{bit_xor};
 ghost use Rattle.protocol.specs.Strings.{bit};

@@ -1,7 +1,6 @@
 -- `checking::check_line` meets its contract.
 -- Assumes nothing.
 use Rattle.protocol.specs.Check.{check_line}
-use borrow.Author.Rules.{rules}
 use Rattle.checking.proofs.check_line.Goals as goal
 
 pub returns : goal.returns

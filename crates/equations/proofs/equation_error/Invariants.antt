@@ -1,23 +1,13 @@
 -- `equations::equation_error` meets its contract. The invariant: the sum is what the definition of the error has, over
 -- the rows below rho.
 -- Assumes nothing.
-use borrow.Author.Rules.{rules}
-use Prim.Native.Nat.{ℕ, ◌*◌, ◌-◌, ◌≤◌, ◌<◌}
-use mathlib.Core.Path.{◌≡◌, sym, ap, ap₂, ◌∙◌}
-use native.Mathlib.Numerals.{add-one}
-use native.Mathlib.Omega.{arith}
+use Prim.Native.Nat.{ℕ, ◌*◌, ◌-◌, ◌≤◌}
+use mathlib.Core.Path.{◌≡◌}
 use mathlib.Core.List.{List}
-use lib.ListN.{length}
-use lib.Bits.{bit_and, bit_xor, xor_zero_l}
-use Rattle.protocol.specs.Lists.{block_at}
-use Rattle.protocol.specs.Strings.{bytes_for, bit}
-use Rattle.theorems.proofs.StringLaws.{bit_lt}
+use lib.Bits.{bit_xor}
+use Rattle.protocol.specs.Strings.{bit}
 use Rattle.strings.specs.Sums.{xor_sum}
-use Rattle.strings.proofs.Rows.{row-end}
-use Rattle.strings.proofs.ParityLaws.{and-bits}
-use Rattle.equations.specs.Equations.{row_product, row_of, error_bit}
-use Rattle.equations.proofs.BlockLaws.{bytes-enough}
-use Rattle.equations.proofs.RowLaws.{error_more}
+use Rattle.equations.specs.Equations.{row_product, row_of}
 use Rattle.equations.proofs.equation_error.Given as goal
 
 -- the error, over the rows below k

@@ -1,17 +1,11 @@
 -- `equations::equation_errors` meets its contract. Each element is changed once (`Elementwise`), to the error of its
 -- equation.
 -- Assumes nothing.
-use borrow.Author.Rules.{rules}
-use Prim.Native.Nat.{ℕ, ◌*◌, ◌-◌, ◌≤◌}
-use mathlib.Core.Path.{◌≡◌, refl, ap, ◌∙◌}
+use Prim.Native.Nat.{ℕ, ◌-◌, ◌≤◌}
+use mathlib.Core.Path.{◌≡◌}
 use mathlib.Core.List.{List}
-use native.Mathlib.Nat.{mul-le-mul}
-use native.Mathlib.Omega.{arith}
-use lib.ListN.{length, length-set}
-use Rattle.protocol.specs.Lists.{block_at}
-use Rattle.protocol.specs.Strings.{bytes_for}
-use Rattle.strings.proofs.Elementwise.{changed, changed_more, changed-all}
-use Rattle.strings.proofs.Rows.{row-end}
+use lib.ListN.{length}
+use Rattle.strings.proofs.Elementwise.{changed}
 use Rattle.equations.specs.Equations.{key_error}
 use Rattle.equations.proofs.equation_errors.Given as goal
 

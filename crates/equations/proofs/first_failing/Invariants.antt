@@ -1,10 +1,7 @@
 -- `equations::first_failing` meets its contract. The invariant: the errors passed are 0.
 -- Assumes nothing.
-use borrow.Author.Rules.{rules}
 use Prim.Native.Nat.{ℕ, ◌-◌, ◌≤◌, ◌<◌}
 use mathlib.Core.Path.{◌≡◌}
-use native.Mathlib.Omega.{arith}
-use borrow.Author.Count.{below_more}
 use lib.ListN.{length}
 use Rattle.strings.specs.Sums.{byte_at}
 use Rattle.equations.proofs.first_failing.Given as goal

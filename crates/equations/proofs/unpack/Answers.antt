@@ -1,11 +1,11 @@
 -- `equations::unpack` meets its contract. Each element is changed once (`Elementwise`).
 -- Assumes nothing.
 use borrow.Author.Rules.{rules}
-use Prim.Native.Nat.{ℕ, ◌-◌, ◌≤◌, ◌<◌}
+use Prim.Native.Nat.{ℕ}
 use mathlib.Core.Path.{◌≡◌, refl, ap, ◌∙◌}
 use mathlib.Core.List.{List}
 use native.Mathlib.Omega.{arith}
-use lib.ListN.{length, length-set}
+use lib.ListN.{length-set}
 use Rattle.protocol.specs.Strings.{bit}
 use Rattle.strings.specs.Sums.{byte_at}
 use Rattle.strings.proofs.Elementwise.{changed, changed_more, changed-at, changed-past}

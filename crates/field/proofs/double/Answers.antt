@@ -3,7 +3,6 @@
 use Prim.Native.Nat.{◌*◌, ◌%◌}
 use mathlib.Core.Path.{ap, ◌∙◌}
 use lib.Bits.{bit_xor}
-use borrow.Author.Rules.{rules}
 use Rattle.algebra.specs.Bits.{elem}
 use Rattle.algebra.specs.BitField.{computing}
 use Rattle.galois.specs.Gf256.{modulus}

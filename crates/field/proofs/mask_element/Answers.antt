@@ -1,7 +1,6 @@
 -- `field::mask_element` meets its contract: the field is that of the branch.
 -- Assumes nothing.
 use mathlib.Core.Path.{sym, ap, ◌∙◌}
-use borrow.Author.Rules.{rules}
 use Rattle.algebra.specs.Coded.{Coded}
 use Rattle.galois.specs.Gf256.{mask_element as mask256}
 use Rattle.galois.specs.Gf16.{mask_element as mask16}

@@ -1,6 +1,5 @@
 -- `field::masked` meets its contract: a mask of ones or zeros is a product with a bit.
 -- Assumes nothing.
-use borrow.Author.Rules.{rules}
 use Rattle.field.proofs.ProductLaws.{mask-times}
 use Rattle.field.proofs.masked.Goals as goal
 

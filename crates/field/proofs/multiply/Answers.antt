@@ -1,7 +1,6 @@
 -- `field::multiply` meets its contract: the field is that of the branch.
 -- Assumes nothing.
 use mathlib.Core.Path.{sym, ap, ◌∙◌}
-use borrow.Author.Rules.{rules}
 use Rattle.algebra.specs.Coded.{Coded, mul_byte}
 use Rattle.galois.proofs.DegreeLaws.{field_four, field_other}
 use Rattle.field.proofs.multiply.Goals as goal

@@ -1,6 +1,5 @@
 -- `format::also` meets its contract. The answer so far, then the question's.
 -- Assumes nothing.
-use borrow.Author.Rules.{rules}
 use Rattle.format.proofs.AskLaws.{go_on, stop_at, says_no, says_yes, says_all}
 use Rattle.format.proofs.also.Goals as goal
 

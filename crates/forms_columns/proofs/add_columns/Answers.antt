@@ -1,17 +1,11 @@
 -- `forms_columns::add_columns` meets its contract. The invariant: the columns below z are added.
 -- Assumes nothing.
 use borrow.Author.Rules.{rules}
-use Prim.Native.Nat.{ℕ, ◌+◌, ◌*◌, ◌-◌, ◌≤◌}
-use mathlib.Core.List.{List}
-use mathlib.Core.Bool.{true, false}
 use mathlib.Core.Path.{◌≡◌, refl, sym, ◌∙◌}
 use native.Mathlib.Omega.{arith}
-use lib.ListN.{length}
 use lib.Bits.{xor_zero_r}
 use Rattle.strings.specs.Sums.{byte_at, xor_sum}
 use Rattle.strings.proofs.SumLaws.{sum_step}
-use Rattle.lanes.specs.Lanes.{lanes, lane_at, LanesAdded}
-use Rattle.forms_columns.specs.Stacks.{byte_product, value_of}
 use Rattle.forms_columns.proofs.add_columns.Invariants.{midTerm, quadTerm}
 use Rattle.forms_columns.proofs.add_columns.Goals as goal
 

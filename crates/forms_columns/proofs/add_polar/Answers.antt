@@ -1,6 +1,5 @@
 -- `forms_columns::add_polar` meets its contract: the column's values, times a bit.
 -- Assumes nothing.
-use borrow.Author.Rules.{rules}
 use mathlib.Core.Bool.{true≢false}
 use mathlib.Core.Path.{refl, sym, ◌∙◌}
 use Rattle.forms_columns.proofs.add_polar.Goals as goal

@@ -2,10 +2,8 @@
 -- with a bit.
 -- Assumes nothing.
 use borrow.Author.Rules.{rules}
-use Prim.Native.Nat.{ℕ, ◌*◌, ◌≤◌, ◌-◌}
-use mathlib.Core.List.{List}
-use mathlib.Core.Path.{◌≡◌, refl, ap, ◌∙◌}
-use lib.ListN.{length, length-set}
+use mathlib.Core.Path.{refl, ap, ◌∙◌}
+use lib.ListN.{length-set}
 use lib.Bits.{bit_xor}
 use native.Mathlib.Nat.{mul_comm}
 use native.Mathlib.Omega.{arith}
@@ -13,7 +11,6 @@ use Rattle.field.proofs.ProductLaws.{mask-times}
 use Rattle.strings.specs.Sums.{byte_at, bit_of}
 use Rattle.strings.proofs.Meaning.{bitOf_lt}
 use Rattle.strings.proofs.Elementwise.{changed, changed_more, changed-all}
-use Rattle.lanes.specs.Lanes.{lanes}
 use Rattle.forms_columns.proofs.add_weighted.Invariants.{change}
 use Rattle.forms_columns.proofs.add_weighted.Goals as goal
 

@@ -2,12 +2,11 @@
 -- that the weight is.
 -- Assumes nothing.
 use borrow.Author.Rules.{rules}
-use Prim.Native.Nat.{ℕ, ◌-◌, ◌≤◌}
-use mathlib.Core.Path.{◌≡◌, refl, ap, ◌∙◌}
+use mathlib.Core.Path.{refl, ap, ◌∙◌}
 use native.Mathlib.Omega.{arith}
-use lib.ListN.{length, length-set}
+use lib.ListN.{length-set}
 use Rattle.strings.proofs.Elementwise.{changed, changed_more, changed-all}
-use Rattle.forms_columns.specs.Stacks.{alpha, byte_product, planes}
+use Rattle.forms_columns.specs.Stacks.{byte_product}
 use Rattle.forms_columns.proofs.ProductLaws.{alpha-zero, alpha_more}
 use Rattle.forms_columns.proofs.fill_weights.Invariants.{change}
 use Rattle.forms_columns.proofs.fill_weights.Goals as goal

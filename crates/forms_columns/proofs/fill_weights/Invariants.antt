@@ -1,14 +1,11 @@
 -- `forms_columns::fill_weights` meets its contract. Each element is changed once (`Elementwise`), to the power of α
 -- that the weight is.
 -- Assumes nothing.
-use borrow.Author.Rules.{rules}
 use Prim.Native.Nat.{ℕ, ◌-◌, ◌≤◌}
-use mathlib.Core.Path.{◌≡◌, refl, ap, ◌∙◌}
-use native.Mathlib.Omega.{arith}
-use lib.ListN.{length, length-set}
-use Rattle.strings.proofs.Elementwise.{changed, changed_more, changed-all}
-use Rattle.forms_columns.specs.Stacks.{alpha, byte_product, planes}
-use Rattle.forms_columns.proofs.ProductLaws.{alpha-zero, alpha_more}
+use mathlib.Core.Path.{◌≡◌}
+use lib.ListN.{length}
+use Rattle.strings.proofs.Elementwise.{changed}
+use Rattle.forms_columns.specs.Stacks.{alpha, planes}
 use Rattle.forms_columns.proofs.fill_weights.Given as goal
 
 abbrev pub change : ℕ → ℕ → ℕ → ℕ

@@ -1,20 +1,18 @@
 -- `forms_columns::finish` meets its contract. The invariant: the columns of the halves below h are added.
 -- Assumes nothing.
 use borrow.Author.Rules.{rules}
-use Prim.Native.Nat.{ℕ, ◌+◌, ◌*◌, ◌-◌, ◌≤◌, ◌<◌}
+use Prim.Native.Nat.{ℕ, ◌+◌, ◌*◌, ◌≤◌, ◌<◌}
 use mathlib.Core.List.{List}
-use mathlib.Core.Bool.{true, false}
 use mathlib.Core.Path.{◌≡◌, refl, sym, ap, ap₂, ◌∙◌}
 use native.Mathlib.Omega.{arith}
 use lib.Arith.{digits_div, digits_mod}
 use lib.Dec.{lit<}
-use lib.ListN.{length}
 use lib.Bits.{xor_zero_r}
 use Rattle.strings.specs.Sums.{byte_at, xor_sum}
 use Rattle.strings.proofs.Rows.{row-byte, row_lt}
-use Rattle.lanes.specs.Lanes.{lanes, lane_at, LanesAdded}
+use Rattle.lanes.specs.Lanes.{lanes, lane_at}
 use Rattle.chunks.specs.Chunks.{chunk}
-use Rattle.forms_columns.specs.Stacks.{byte_product, planes, fold_of, column_of, value_of, coordinate_of}
+use Rattle.forms_columns.specs.Stacks.{byte_product, planes, fold_of, column_of, value_of}
 use Rattle.forms_columns.proofs.ColumnLaws.{fold_is, eight_more}
 use Rattle.forms_columns.proofs.finish.Invariants.{midTerm, quadTerm}
 use Rattle.forms_columns.proofs.finish.Goals as goal

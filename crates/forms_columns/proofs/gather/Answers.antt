@@ -1,17 +1,12 @@
 -- `forms_columns::gather` meets its contract. The invariant: the planes below s are gathered.
 -- Assumes nothing.
 use borrow.Author.Rules.{rules}
-use Prim.Native.Nat.{ℕ, ◌+◌, ◌*◌, ◌-◌, ◌≤◌, ◌<◌}
+use Prim.Native.Nat.{◌<◌}
 use mathlib.Core.Logic.{⊎_elim}
 use mathlib.Core.Path.{◌≡◌, ◌∙◌}
 use native.Mathlib.Nat.{eq-or-lt_of_le, le_of_suc-le-suc}
 use native.Mathlib.Numerals.{add-one}
 use native.Mathlib.Omega.{arith}
-use lib.ListN.{length}
-use Rattle.strings.specs.Sums.{byte_at, xor_sum}
-use Rattle.lanes.specs.Lanes.{lanes, lane_at}
-use Rattle.chunks.specs.Chunks.{chunk}
-use Rattle.forms_columns.specs.Stacks.{planes}
 use Rattle.forms_columns.proofs.gather.Goals as goal
 
 pub loop-s-init : goal.loop-s-init

@@ -1,15 +1,11 @@
 -- `forms_columns::gather_row` meets its contract. Each element is changed once (`Elementwise`).
 -- Assumes nothing.
-use borrow.Author.Rules.{rules}
 use Prim.Native.Nat.{ℕ, ◌+◌, ◌*◌, ◌-◌, ◌≤◌}
 use mathlib.Core.List.{List}
-use mathlib.Core.Path.{◌≡◌, refl, ap, ◌∙◌}
-use lib.ListN.{length, length-set}
-use native.Mathlib.Nat.{add_assoc}
-use native.Mathlib.Omega.{arith}
+use mathlib.Core.Path.{◌≡◌}
+use lib.ListN.{length}
 use Rattle.strings.specs.Sums.{byte_at, xor_sum}
-use Rattle.strings.proofs.Elementwise.{changed, changed_more, changed-at}
-use Rattle.strings.proofs.SumLaws.{sum_same}
+use Rattle.strings.proofs.Elementwise.{changed}
 use Rattle.chunks.specs.Chunks.{chunk}
 use Rattle.forms_columns.specs.Stacks.{planes}
 use Rattle.forms_columns.proofs.gather_row.Given as goal

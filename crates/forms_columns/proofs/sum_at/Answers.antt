@@ -1,6 +1,5 @@
 -- `forms_columns::sum_at` meets its contract: the bytes of two words, added by halves.
 -- Assumes nothing.
-use borrow.Author.Rules.{rules}
 use Prim.Native.Nat.{ℕ, ◌%◌}
 use mathlib.Core.Path.{ap₂, ◌∙◌}
 use lib.Bits.{bit_xor}

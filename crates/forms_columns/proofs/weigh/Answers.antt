@@ -1,17 +1,16 @@
 -- `forms_columns::weigh` meets its contract. The invariant: the planes below s are added, each times its power of α.
 -- Assumes nothing.
 use borrow.Author.Rules.{rules}
-use Prim.Native.Nat.{ℕ, ◌*◌, ◌-◌, ◌≤◌, ◌<◌}
+use Prim.Native.Nat.{ℕ, ◌*◌}
 use mathlib.Core.List.{List}
 use mathlib.Core.Path.{◌≡◌, sym, ap, ap₂, ◌∙◌}
 use native.Mathlib.Omega.{arith}
-use lib.ListN.{length}
 use lib.Bits.{bit_xor}
 use Rattle.strings.specs.Sums.{byte_at, bit_of, xor_sum}
 use Rattle.strings.proofs.Rows.{row-byte}
 use Rattle.strings.proofs.SumLaws.{sum_more}
 use Rattle.lanes.specs.Lanes.{lanes, lane_at}
-use Rattle.forms_columns.specs.Stacks.{alpha, planes, Weights}
+use Rattle.forms_columns.specs.Stacks.{alpha, planes}
 use Rattle.forms_columns.proofs.weigh.Goals as goal
 
 pub loop-s-init : goal.loop-s-init

@@ -2,12 +2,11 @@
 -- matrices' cells are as they were.
 -- Assumes nothing.
 use borrow.Author.Rules.{rules}
-use Prim.Native.Nat.{◌+◌, ◌*◌, ◌-◌, ◌≤◌}
+use Prim.Native.Nat.{◌+◌, ◌*◌, ◌≤◌}
 use mathlib.Core.Path.{◌≡◌, refl, ◌∙◌}
 use native.Mathlib.Nat.{mul-le-mul_right}
 use native.Mathlib.Omega.{arith}
-use lib.ListN.{length, drop}
-use Rattle.forms_folds.specs.Sets.{SetFolded, OthersKept}
+use lib.ListN.{drop}
 use Rattle.forms_folds.proofs.SetLaws.{chunk-folded, set_more, kept_more}
 use Rattle.forms_folds.proofs.fold_all.Goals as goal
 

@@ -1,14 +1,10 @@
 -- `forms_folds::fold_all` meets its contract. The invariant: the sixteens of rows below q are folded, and the other
 -- matrices' cells are as they were.
 -- Assumes nothing.
-use borrow.Author.Rules.{rules}
-use Prim.Native.Nat.{◌+◌, ◌*◌, ◌-◌, ◌≤◌}
-use mathlib.Core.Path.{◌≡◌, refl, ◌∙◌}
-use native.Mathlib.Nat.{mul-le-mul_right}
-use native.Mathlib.Omega.{arith}
+use Prim.Native.Nat.{◌-◌, ◌≤◌}
+use mathlib.Core.Path.{◌≡◌}
 use lib.ListN.{length, drop}
 use Rattle.forms_folds.specs.Sets.{SetFolded, OthersKept}
-use Rattle.forms_folds.proofs.SetLaws.{chunk-folded, set_more, kept_more}
 use Rattle.forms_folds.proofs.fold_all.Given as goal
 
 abbrev pub invariant-loop-q : goal.invariant-loop-q

@@ -1,6 +1,5 @@
 -- `forms_folds::fold_matrix` meets its contract: what is added to the columns first.
 -- Assumes nothing.
-use borrow.Author.Rules.{rules}
 use native.Mathlib.Omega.{arith}
 use Rattle.forms_folds.proofs.fold_matrix.Goals as goal
 

@@ -1,6 +1,5 @@
 -- `forms_folds::height_of` meets its contract.
 -- Assumes nothing.
-use borrow.Author.Rules.{rules}
 use mathlib.Core.Path.{sym}
 use native.Mathlib.Omega.{arith}
 use Rattle.forms_folds.proofs.PlaceLaws.{height_tall, height_flat}

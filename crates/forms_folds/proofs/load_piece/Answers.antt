@@ -2,12 +2,8 @@
 -- buffers are as long as they were.
 -- Assumes nothing.
 use borrow.Author.Rules.{rules}
-use Prim.Native.Nat.{ℕ, ◌*◌, ◌-◌, ◌≤◌, ◌<◌}
-use mathlib.Core.Path.{◌≡◌, refl, ◌∙◌}
+use mathlib.Core.Path.{refl, ◌∙◌}
 use native.Mathlib.Omega.{arith}
-use lib.ListN.{length}
-use Rattle.protocol.specs.Lists.{block_at}
-use Rattle.forms_folds.specs.Sets.{TurnedFits, MatrixFolded}
 use Rattle.forms_folds.proofs.SetLaws.{matrix_more}
 use Rattle.forms_folds.proofs.load_piece.Goals as goal
 

@@ -1,14 +1,11 @@
 -- `forms_folds::load_piece` meets its contract. The invariant: the matrices below i are loaded, and the lent
 -- buffers are as long as they were.
 -- Assumes nothing.
-use borrow.Author.Rules.{rules}
 use Prim.Native.Nat.{ℕ, ◌*◌, ◌-◌, ◌≤◌, ◌<◌}
-use mathlib.Core.Path.{◌≡◌, refl, ◌∙◌}
-use native.Mathlib.Omega.{arith}
+use mathlib.Core.Path.{◌≡◌}
 use lib.ListN.{length}
 use Rattle.protocol.specs.Lists.{block_at}
 use Rattle.forms_folds.specs.Sets.{TurnedFits, MatrixFolded}
-use Rattle.forms_folds.proofs.SetLaws.{matrix_more}
 use Rattle.forms_folds.proofs.load_piece.Given as goal
 
 abbrev pub invariant-loop-i : goal.invariant-loop-i

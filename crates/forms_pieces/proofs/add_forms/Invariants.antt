@@ -1,29 +1,23 @@
 -- `forms_pieces::add_forms` meets its contract. The invariant: of each panel, as many sixteens of rows are
 -- added as the walk over the pieces has passed. What all of them come to is `FoldLaws`.
 -- Assumes nothing.
-use borrow.Author.Rules.{rules}
-use Prim.Native.Nat.{ℕ, ◌+◌, ◌*◌, ◌-◌, ◌/◌, ◌%◌, ◌≤◌, ◌<◌}
+use Prim.Native.Nat.{ℕ, ◌+◌, ◌*◌, ◌-◌, ◌/◌, ◌<◌}
 use mathlib.Core.List.{List}
-use mathlib.Core.Bool.{Bool, true, false}
-use mathlib.Core.Path.{◌≡◌, refl, sym, ap, ap₂, ◌∙◌}
-use native.Mathlib.Nat.{mul-le-mul_right}
-use native.Mathlib.Omega.{arith}
+use mathlib.Core.Bool.{true, false}
+use mathlib.Core.Path.{◌≡◌}
 use lib.ListN.{length}
-use lib.Bits.{bit_xor, xor_zero_r}
+use lib.Bits.{bit_xor}
 use Rattle.strings.specs.Sums.{byte_at, xor_sum}
 use Rattle.lanes.specs.Lanes.{lanes}
 use Rattle.chunks.specs.Chunks.{chunk}
 use Rattle.forms_choices.specs.Entries.{IsBytes, ChosenAll}
-use Rattle.forms_folds.specs.Folds.{Folded, FoldedSet}
-use Rattle.forms_columns.specs.Stacks.{byte_product, planes, column_of, coordinate_of}
-use Rattle.forms_batching.specs.Batched.{SumsRoom, rows_sum}
-use Rattle.forms_pieces.specs.FormSums.{left_sum}
-use Rattle.forms_batching.specs.Lines.{line_bit, line_sum}
-use Rattle.forms_pieces.specs.Pieces.{panels_of, end_of, rows_of, piece_end, Walk, Walked}
-use Rattle.forms_pieces.proofs.FoldLaws.{form_is, polar_is}
-use Rattle.forms_pieces.proofs.PanelLaws.{part_term, quad_is, mid_is, term_parts, terms_none, terms_all}
-use Rattle.forms_pieces.proofs.LeftLaws.{Added, AddedUpTo, left-none, added_start, added-end, lines-added, both_halves}
-use Rattle.forms_pieces.proofs.PieceLaws.{piece_of, rows-height, walk_measure, end_bounds, end_under, walk_start, walk_end, back_walked, walked_here, sum_walked, next_walked, next-walk, next-inside, next_less, next_held, part-folded, lines_walked}
+use Rattle.forms_folds.specs.Folds.{FoldedSet}
+use Rattle.forms_columns.specs.Stacks.{planes, coordinate_of}
+use Rattle.forms_batching.specs.Batched.{SumsRoom}
+use Rattle.forms_pieces.specs.Pieces.{panels_of, end_of, rows_of, Walk, Walked}
+use Rattle.forms_pieces.proofs.PanelLaws.{part_term}
+use Rattle.forms_pieces.proofs.LeftLaws.{AddedUpTo}
+use Rattle.forms_pieces.proofs.PieceLaws.{walk_measure}
 use Rattle.forms_pieces.proofs.add_forms.Given as goal
 
 -- what r sixteens of rows of panel J give: to the form, and to half of the polar form

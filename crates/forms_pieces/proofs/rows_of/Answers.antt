@@ -1,6 +1,5 @@
 -- `forms_pieces::rows_of` meets its contract, case by case.
 -- Assumes nothing.
-use borrow.Author.Rules.{rules}
 use mathlib.Core.Path.{sym}
 use native.Mathlib.Omega.{arith}
 use Rattle.forms_pieces.proofs.PieceLaws.{rows_whole, rows-eight, rows_long, rows_other}

@@ -2,16 +2,14 @@
 -- to is `PlaneLaws`.
 -- Assumes nothing.
 use borrow.Author.Rules.{rules}
-use Prim.Native.Nat.{ℕ, ◌+◌, ◌*◌, ◌-◌, ◌≤◌, ◌<◌}
+use Prim.Native.Nat.{◌+◌, ◌*◌, ◌<◌}
 use mathlib.Core.Path.{◌≡◌, refl, sym, ap, ◌∙◌}
 use native.Mathlib.Omega.{arith}
-use lib.ListN.{length}
 use lib.Bits.{bit_xor, xor_zero_r}
-use Rattle.strings.specs.Sums.{byte_at, bit_of, xor_sum}
+use Rattle.strings.specs.Sums.{bit_of, xor_sum}
 use Rattle.strings.proofs.SumLaws.{sum_step}
 use Rattle.strings.proofs.Meaning.{bitOf_lt}
-use Rattle.chunks.specs.Chunks.{chunk, cell_at}
-use Rattle.forms_columns.specs.Stacks.{alpha, planes, stack_at}
+use Rattle.forms_columns.specs.Stacks.{alpha, stack_at}
 use Rattle.forms_planes.proofs.PlaneLaws.{masked-added, two-added, term, two-planes}
 use Rattle.forms_planes.proofs.absorb_byte.Goals as goal
 

@@ -1,18 +1,14 @@
 -- `forms_planes::absorb_byte` meets its contract. The invariant: what the bits below b add is added. What they all come
 -- to is `PlaneLaws`.
 -- Assumes nothing.
-use borrow.Author.Rules.{rules}
 use Prim.Native.Nat.{ℕ, ◌+◌, ◌*◌, ◌-◌, ◌≤◌, ◌<◌}
-use mathlib.Core.Path.{◌≡◌, refl, sym, ap, ◌∙◌}
-use native.Mathlib.Omega.{arith}
+use mathlib.Core.Path.{◌≡◌}
 use lib.ListN.{length}
-use lib.Bits.{bit_xor, xor_zero_r}
+use lib.Bits.{bit_xor}
 use Rattle.strings.specs.Sums.{byte_at, bit_of, xor_sum}
-use Rattle.strings.proofs.SumLaws.{sum_step}
-use Rattle.strings.proofs.Meaning.{bitOf_lt}
 use Rattle.chunks.specs.Chunks.{chunk, cell_at}
-use Rattle.forms_columns.specs.Stacks.{alpha, planes, stack_at}
-use Rattle.forms_planes.proofs.PlaneLaws.{masked-added, two-added, term, two-planes}
+use Rattle.forms_columns.specs.Stacks.{planes, stack_at}
+use Rattle.forms_planes.proofs.PlaneLaws.{term}
 use Rattle.forms_planes.proofs.absorb_byte.Given as goal
 
 abbrev pub invariant-loop-b : goal.invariant-loop-b

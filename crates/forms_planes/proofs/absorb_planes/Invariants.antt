@@ -1,16 +1,12 @@
 -- `forms_planes::absorb_planes` meets its contract. The invariant: the bytes below f are done, and the others are as
 -- they were.
 -- Assumes nothing.
-use borrow.Author.Rules.{rules}
 use Prim.Native.Nat.{ℕ, ◌+◌, ◌*◌, ◌-◌, ◌≤◌, ◌<◌, ◌^◌}
 use mathlib.Core.List.{List}
-use mathlib.Core.Path.{◌≡◌, refl, ap, ap₂, ◌∙◌}
-use native.Mathlib.Decide.{dec_lt}
-use native.Mathlib.Omega.{arith}
+use mathlib.Core.Path.{◌≡◌}
 use lib.ListN.{length}
 use lib.Bits.{bit_xor}
 use Rattle.strings.specs.Sums.{byte_at, bit_of}
-use Rattle.strings.proofs.SumLaws.{sum_same}
 use Rattle.chunks.specs.Chunks.{chunk, cell_at, Masks}
 use Rattle.forms_columns.specs.Stacks.{alpha, byte_product, planes, stack_at}
 use Rattle.galois.specs.Degrees.{degree_of}

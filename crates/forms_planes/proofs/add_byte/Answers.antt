@@ -1,6 +1,5 @@
 -- `forms_planes::add_byte` meets its contract: one byte is changed.
 -- Assumes nothing.
-use borrow.Author.Rules.{rules}
 use Prim.Native.Nat.{◌+◌, ◌*◌, ◌<◌}
 use native.Mathlib.Omega.{arith}
 use lib.ListN.{length}

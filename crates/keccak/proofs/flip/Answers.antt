@@ -2,9 +2,6 @@
 use mathlib.Core.Path.{refl}
 use Rattle.sponge.specs.Lanes.{lane, state_of}
 use Rattle.keccak.specs.Flags.{flag, named, flips, outer}
-use borrow.Author.Rules.{rules}
-use Rattle.keccak.proofs.flip.Reads as reads
-use Rattle.keccak.proofs.flip.Lts as lts
 use Rattle.keccak.proofs.flip.Goals as goal
 
 pub returns : goal.returns

@@ -1,8 +1,4 @@
 -- `keccak::known` meets its contract. Assumes nothing.
-use borrow.Author.Rules.{rules}
-use Rattle.keccak.proofs.known.Reads as reads
-use Rattle.keccak.proofs.known.Lts as lts
-use Rattle.keccak.proofs.nothing.Reads as nothing-reads
 use Rattle.keccak.proofs.known.Goals as goal
 
 -- src/lib.rt:40:1

@@ -1,6 +1,5 @@
 -- `lanes::accumulate` meets its contract: the field is that of the branch.
 -- Assumes nothing.
-use borrow.Author.Rules.{rules}
 use mathlib.Core.Path.{sym, ap, ◌∙◌}
 use lib.Bits.{bit_xor}
 use Rattle.algebra.specs.Coded.{Coded, mul_byte}

@@ -1,17 +1,15 @@
 -- `lanes::accumulate_halves` meets its contract. Each element is changed once (`Elementwise`), by the product that
 -- `multiply` ensures.
 -- Assumes nothing.
-use borrow.Author.Rules.{rules}
-use Prim.Native.Nat.{ℕ, ◌≤◌, ◌<◌, ◌-◌}
+use Prim.Native.Nat.{ℕ, ◌≤◌, ◌-◌}
 use mathlib.Core.List.{List}
-use mathlib.Core.Path.{◌≡◌, refl, ap, ◌∙◌}
-use lib.ListN.{length, length-set}
+use mathlib.Core.Path.{◌≡◌}
+use lib.ListN.{length}
 use lib.Bits.{bit_xor}
-use native.Mathlib.Omega.{arith}
 use Rattle.algebra.specs.Coded.{mul_byte}
 use Rattle.galois.specs.Gf16.{gf16}
 use Rattle.strings.specs.Sums.{byte_at}
-use Rattle.strings.proofs.Elementwise.{changed, changed_more, changed-all}
+use Rattle.strings.proofs.Elementwise.{changed}
 use Rattle.lanes.specs.Lanes.{lanes}
 use Rattle.lanes.proofs.accumulate_halves.Given as goal
 

@@ -1,16 +1,15 @@
 -- `lanes::add_mask_bits` meets its contract. Each element is changed once (`Elementwise`).
 -- Assumes nothing.
 use borrow.Author.Rules.{rules}
-use Prim.Native.Nat.{ℕ, ◌+◌, ◌*◌, ◌-◌, ◌≤◌}
+use Prim.Native.Nat.{ℕ}
 use mathlib.Core.List.{List}
 use mathlib.Core.Path.{◌≡◌, refl, ap, ◌∙◌}
-use lib.ListN.{length, length-set}
+use lib.ListN.{length-set}
 use lib.Bits.{bit_xor}
 use native.Mathlib.Omega.{arith}
 use Rattle.strings.specs.Sums.{byte_at}
 use Rattle.strings.proofs.Elementwise.{changed, changed_more, changed-at}
-use Rattle.format.specs.declared.sizes.Sizes.{Sizes}
-use Rattle.lanes.specs.Lanes.{lanes, mask_bits, first_mask}
+use Rattle.lanes.specs.Lanes.{mask_bits}
 use Rattle.lanes.proofs.add_mask_bits.Invariants.{change}
 use Rattle.lanes.proofs.add_mask_bits.Goals as goal
 

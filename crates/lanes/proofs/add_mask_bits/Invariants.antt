@@ -1,16 +1,13 @@
 -- `lanes::add_mask_bits` meets its contract. Each element is changed once (`Elementwise`).
 -- Assumes nothing.
-use borrow.Author.Rules.{rules}
-use Prim.Native.Nat.{ℕ, ◌+◌, ◌*◌, ◌-◌, ◌≤◌}
+use Prim.Native.Nat.{ℕ, ◌-◌, ◌≤◌}
 use mathlib.Core.List.{List}
-use mathlib.Core.Path.{◌≡◌, refl, ap, ◌∙◌}
-use lib.ListN.{length, length-set}
+use mathlib.Core.Path.{◌≡◌}
+use lib.ListN.{length}
 use lib.Bits.{bit_xor}
-use native.Mathlib.Omega.{arith}
-use Rattle.strings.specs.Sums.{byte_at}
-use Rattle.strings.proofs.Elementwise.{changed, changed_more, changed-at}
+use Rattle.strings.proofs.Elementwise.{changed}
 use Rattle.format.specs.declared.sizes.Sizes.{Sizes}
-use Rattle.lanes.specs.Lanes.{lanes, mask_bits, first_mask}
+use Rattle.lanes.specs.Lanes.{mask_bits, first_mask}
 use Rattle.lanes.proofs.add_mask_bits.Given as goal
 
 abbrev pub change : List ℕ → Sizes → ℕ → ℕ → ℕ

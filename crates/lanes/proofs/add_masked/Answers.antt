@@ -2,17 +2,14 @@
 -- product with a bit.
 -- Assumes nothing.
 use borrow.Author.Rules.{rules}
-use Prim.Native.Nat.{ℕ, ◌*◌, ◌≤◌, ◌<◌, ◌-◌}
-use mathlib.Core.List.{List}
-use mathlib.Core.Path.{◌≡◌, refl, ap, ◌∙◌}
-use lib.ListN.{length, length-set}
+use mathlib.Core.Path.{refl, ap, ◌∙◌}
+use lib.ListN.{length-set}
 use lib.Bits.{bit_xor}
 use native.Mathlib.Nat.{mul_comm}
 use native.Mathlib.Omega.{arith}
 use Rattle.field.proofs.ProductLaws.{mask-times}
 use Rattle.strings.specs.Sums.{byte_at}
 use Rattle.strings.proofs.Elementwise.{changed, changed_more, changed-all}
-use Rattle.lanes.specs.Lanes.{lanes}
 use Rattle.lanes.proofs.add_masked.Invariants.{change}
 use Rattle.lanes.proofs.add_masked.Goals as goal
 

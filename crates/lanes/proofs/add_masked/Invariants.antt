@@ -1,17 +1,13 @@
 -- `lanes::add_masked` meets its contract. Each element is changed once (`Elementwise`); a mask of ones or zeros is a
 -- product with a bit.
 -- Assumes nothing.
-use borrow.Author.Rules.{rules}
-use Prim.Native.Nat.{ℕ, ◌*◌, ◌≤◌, ◌<◌, ◌-◌}
+use Prim.Native.Nat.{ℕ, ◌*◌, ◌≤◌, ◌-◌}
 use mathlib.Core.List.{List}
-use mathlib.Core.Path.{◌≡◌, refl, ap, ◌∙◌}
-use lib.ListN.{length, length-set}
+use mathlib.Core.Path.{◌≡◌}
+use lib.ListN.{length}
 use lib.Bits.{bit_xor}
-use native.Mathlib.Nat.{mul_comm}
-use native.Mathlib.Omega.{arith}
-use Rattle.field.proofs.ProductLaws.{mask-times}
 use Rattle.strings.specs.Sums.{byte_at}
-use Rattle.strings.proofs.Elementwise.{changed, changed_more, changed-all}
+use Rattle.strings.proofs.Elementwise.{changed}
 use Rattle.lanes.specs.Lanes.{lanes}
 use Rattle.lanes.proofs.add_masked.Given as goal
 

@@ -1,17 +1,12 @@
 -- `lanes::add_masks` meets its contract. The invariant: the coordinates passed are added, each times its power.
 -- Assumes nothing.
-use borrow.Author.Rules.{rules}
-use Prim.Native.Nat.{ℕ, ◌+◌, ◌*◌, ◌-◌, ◌≤◌, ◌<◌}
-use mathlib.Core.Path.{◌≡◌, refl, sym, ap, ap₂, ◌∙◌}
-use native.Mathlib.Omega.{arith}
-use mathlib.Core.List.{List}
-use lib.ListN.{length, get_or-replicate}
-use lib.Bits.{bit_xor, xor_zero_r}
+use Prim.Native.Nat.{ℕ, ◌+◌, ◌-◌, ◌≤◌, ◌<◌}
+use mathlib.Core.Path.{◌≡◌}
+use lib.ListN.{length}
+use lib.Bits.{bit_xor}
 use Rattle.algebra.specs.Coded.{mul_byte}
-use Rattle.galois.specs.Degrees.{field_of, degree_of, mask_element_of}
+use Rattle.galois.specs.Degrees.{field_of, mask_element_of}
 use Rattle.strings.specs.Sums.{byte_at, xor_sum}
-use Rattle.strings.proofs.Rows.{row-byte}
-use Rattle.strings.proofs.SumLaws.{sum_step}
 use Rattle.lanes.specs.Lanes.{lanes, lane_at, first_mask}
 use Rattle.lanes.proofs.add_masks.Given as goal
 

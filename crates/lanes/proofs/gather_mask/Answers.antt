@@ -1,15 +1,14 @@
 -- `lanes::gather_mask` meets its contract. Each element is changed once (`Elementwise`).
 -- Assumes nothing.
 use borrow.Author.Rules.{rules}
-use Prim.Native.Nat.{ℕ, ◌+◌, ◌*◌, ◌-◌, ◌≤◌}
+use Prim.Native.Nat.{ℕ, ◌+◌}
 use mathlib.Core.List.{List}
 use mathlib.Core.Path.{◌≡◌, refl, ap, ◌∙◌}
-use lib.ListN.{length, length-set}
+use lib.ListN.{length-set}
 use native.Mathlib.Omega.{arith}
 use Rattle.strings.specs.Sums.{byte_at}
 use Rattle.strings.proofs.Elementwise.{changed, changed_more, changed-at}
-use Rattle.format.specs.declared.sizes.Sizes.{Sizes}
-use Rattle.lanes.specs.Lanes.{lanes, lane_at, first_mask}
+use Rattle.lanes.specs.Lanes.{lane_at}
 use Rattle.lanes.proofs.gather_mask.Invariants.{change}
 use Rattle.lanes.proofs.gather_mask.Goals as goal
 

@@ -1,16 +1,11 @@
 -- `lanes::mask_byte` meets its contract. The invariant: the coordinates passed are added, each times its power.
 -- Assumes nothing.
-use borrow.Author.Rules.{rules}
-use Prim.Native.Nat.{ℕ, ◌+◌, ◌*◌, ◌-◌, ◌/◌, ◌≤◌, ◌<◌}
-use mathlib.Core.Path.{◌≡◌, refl, sym, ap, ap₂, ◌∙◌}
-use native.Mathlib.Omega.{arith}
-use lib.Bits.{bit_xor}
+use Prim.Native.Nat.{◌+◌, ◌-◌, ◌≤◌}
+use mathlib.Core.Path.{◌≡◌}
 use Rattle.algebra.specs.Coded.{mul_byte}
-use Rattle.galois.specs.Degrees.{field_of, degree_of, mask_element_of}
-use Rattle.galois.proofs.DegreeLaws.{degree-most}
+use Rattle.galois.specs.Degrees.{field_of, mask_element_of}
 use Rattle.protocol.specs.Strings.{bit}
 use Rattle.strings.specs.Sums.{xor_sum}
-use Rattle.strings.proofs.SumLaws.{sum_more}
 use Rattle.lanes.proofs.mask_byte.Given as goal
 
 abbrev pub invariant-loop-i : goal.invariant-loop-i

@@ -5,7 +5,6 @@ use mathlib.Core.Bool.{false≢true}
 use Prim.Native.Nat.{ℕ, ◌*◌, ◌^◌, ◌≤◌}
 use native.Mathlib.Nat.{mul-le-mul}
 use native.Mathlib.Omega.{arith}
-use borrow.Author.Rules.{rules}
 use Rattle.format.specs.Limits.{most_leaf}
 use Rattle.lanes.specs.Lanes.{lanes}
 use Rattle.theorems.proofs.TestLaws.{eqb_eq, eqb_same}

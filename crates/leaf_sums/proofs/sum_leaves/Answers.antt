@@ -2,7 +2,6 @@
 -- Assumes nothing.
 use mathlib.Core.Path.{refl}
 use mathlib.Core.Logic.{inl, inr}
-use borrow.Author.Rules.{rules}
 use Rattle.leaf_sums.proofs.sum_leaves.Goals as goal
 
 pub load_trees-requires : goal.load_trees-requires

@@ -1,24 +1,14 @@
 -- `prover::prove` meets its contract: the first step, and after it the others.
 -- Assumes nothing.
-use mathlib.Core.Path.{◌≡◌, refl, sym, ap, ap₂, ◌∙◌, subst}
-use mathlib.Core.List.{List, [], ◌∷◌, ◌++◌}
-use mathlib.Core.Bool.{true}
-use Prim.Native.Nat.{ℕ, ◌+◌, ◌*◌, ◌-◌, ◌≤◌, ◌<◌}
+use mathlib.Core.Path.{sym, ◌∙◌}
+use mathlib.Core.List.{[], ◌∷◌}
+use Prim.Native.Nat.{◌+◌, ◌*◌}
 use native.Mathlib.Omega.{arith}
-use lib.ListN.{length, take, drop, length-take, length-drop, length-append}
-use lib.Bits.{bit_xor}
-use Rattle.protocol.specs.Lists.{block_at}
-use Rattle.protocol.specs.Strings.{bytes_for, bit, pack}
-use Rattle.protocol.specs.Frames.{frame, framed_length}
-use Rattle.protocol.specs.Shape.{Shape, limits, k_of, w_of}
-use Rattle.protocol.specs.Sections.{commit_lengths, hash_lengths}
+use lib.ListN.{drop}
+use Rattle.protocol.specs.Strings.{bytes_for}
 use Rattle.protocol.specs.Prover.{c_section, d_section, ũSection, ṼSection, qs0_section, qs1_section}
-use Rattle.theorems.proofs.ListLaws.{row-end}
 use Rattle.format.specs.Sizes.{setting_for, alphabet_for, shape_for}
-use Rattle.format.proofs.SizeLaws.{in-limits, k-most, w_most, bytes_most, corrections_most, hashed_most, row-most}
-use Rattle.format.proofs.FitLaws.{n_fits, l_fits, variables_fit}
-use Rattle.sections.proofs.Writes.{framed-one, framed-two, rest-length, part_starts, take-length}
-use borrow.Author.Rules.{rules}
+use Rattle.sections.proofs.Writes.{framed-two, rest-length, part_starts, take-length}
 use Rattle.protocol.specs.Sections.{bytes_of}
 use Rattle.prover.proofs.LoadedLaws.{loaded_narrow, space_of, commit-length}
 use Rattle.prover.proofs.prove.Goals as goal

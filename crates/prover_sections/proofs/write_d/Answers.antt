@@ -1,24 +1,20 @@
 -- `prover_sections::write_d` meets its contract: the count, and after it the difference, which is the section d.
 -- Assumes nothing.
-use mathlib.Core.Path.{◌≡◌, refl, sym, ap, ap₂, ◌∙◌, subst}
-use mathlib.Core.List.{List, [], ◌∷◌, ◌++◌}
-use mathlib.Core.Bool.{true}
-use Prim.Native.Nat.{ℕ, ◌+◌, ◌*◌, ◌-◌, ◌≤◌, ◌<◌}
+use mathlib.Core.Path.{◌≡◌, ap, ◌∙◌}
+use mathlib.Core.List.{List}
+use Prim.Native.Nat.{ℕ}
 use native.Mathlib.Omega.{arith}
-use lib.ListN.{length, take, drop, length-take, length-drop, length-append}
+use lib.ListN.{length, length-take}
 use lib.Bits.{bit_xor}
 use Rattle.protocol.specs.Lists.{block_at}
 use Rattle.protocol.specs.Strings.{bytes_for, bit, pack}
-use Rattle.protocol.specs.Frames.{frame, framed_length}
-use Rattle.protocol.specs.Shape.{Shape, limits, k_of, w_of}
-use Rattle.protocol.specs.Sections.{commit_lengths, hash_lengths}
-use Rattle.protocol.specs.Prover.{c_section, d_section, ũSection, ṼSection, qs0_section, qs1_section}
+use Rattle.protocol.specs.Shape.{w_of}
+use Rattle.protocol.specs.Prover.{d_section}
 use Rattle.theorems.proofs.ListLaws.{row-end}
 use Rattle.format.specs.Sizes.{setting_for, alphabet_for, shape_for}
-use Rattle.format.proofs.SizeLaws.{in-limits, k-most, w_most, bytes_most, corrections_most, hashed_most, row-most}
-use Rattle.format.proofs.FitLaws.{n_fits, l_fits, variables_fit}
-use Rattle.sections.proofs.Writes.{framed-one, framed-two, rest-length, take-length}
-use borrow.Author.Rules.{rules}
+use Rattle.format.proofs.SizeLaws.{in-limits, row-most}
+use Rattle.format.proofs.FitLaws.{n_fits}
+use Rattle.sections.proofs.Writes.{framed-one, rest-length}
 use Rattle.prover_sections.proofs.SumSections.{first_is_u, difference_is}
 use Rattle.prover_sections.proofs.write_d.Goals as goal
 

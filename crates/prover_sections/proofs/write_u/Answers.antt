@@ -1,24 +1,19 @@
 -- `prover_sections::write_u` meets its contract: the count, and after it the hash of u, which is the section ũ.
 -- Assumes nothing.
-use mathlib.Core.Path.{◌≡◌, refl, sym, ap, ap₂, ◌∙◌, subst}
-use mathlib.Core.List.{List, [], ◌∷◌, ◌++◌}
-use mathlib.Core.Bool.{true}
-use Prim.Native.Nat.{ℕ, ◌+◌, ◌*◌, ◌-◌, ◌≤◌, ◌<◌}
+use mathlib.Core.Path.{◌≡◌, ap₂, ◌∙◌}
+use mathlib.Core.List.{List}
+use Prim.Native.Nat.{ℕ}
 use native.Mathlib.Omega.{arith}
-use lib.ListN.{length, take, drop, length-take, length-drop, length-append}
-use lib.Bits.{bit_xor}
+use lib.ListN.{length, length-take}
 use Rattle.protocol.specs.Lists.{block_at}
-use Rattle.protocol.specs.Strings.{bytes_for, bit, pack}
-use Rattle.protocol.specs.Frames.{frame, framed_length}
-use Rattle.protocol.specs.Shape.{Shape, limits, k_of, w_of}
-use Rattle.protocol.specs.Sections.{commit_lengths, hash_lengths}
-use Rattle.protocol.specs.Prover.{c_section, d_section, ũSection, ṼSection, qs0_section, qs1_section}
+use Rattle.protocol.specs.Strings.{bytes_for, pack}
+use Rattle.protocol.specs.Shape.{w_of}
+use Rattle.protocol.specs.Prover.{ũSection}
 use Rattle.theorems.proofs.ListLaws.{row-end}
 use Rattle.format.specs.Sizes.{setting_for, alphabet_for, shape_for}
-use Rattle.format.proofs.SizeLaws.{in-limits, k-most, w_most, bytes_most, corrections_most, hashed_most, row-most}
-use Rattle.format.proofs.FitLaws.{n_fits, l_fits, variables_fit}
-use Rattle.sections.proofs.Writes.{framed-one, framed-two, rest-length, take-length}
-use borrow.Author.Rules.{rules}
+use Rattle.format.proofs.SizeLaws.{in-limits, w_most, bytes_most}
+use Rattle.format.proofs.FitLaws.{l_fits}
+use Rattle.sections.proofs.Writes.{framed-one, rest-length}
 use Rattle.prover_sections.specs.Hash.{hash_bit}
 use Rattle.hash.proofs.HashMeaning.{hash-length}
 use Rattle.prover_sections.proofs.SumSections.{first_is_u, hash_is}

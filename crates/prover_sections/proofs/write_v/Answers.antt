@@ -1,24 +1,14 @@
 -- `prover_sections::write_v` meets its contract: the count, and after it the hashed lanes, which are the section Ṽ.
 -- Assumes nothing.
-use mathlib.Core.Path.{◌≡◌, refl, sym, ap, ap₂, ◌∙◌, subst}
-use mathlib.Core.List.{List, [], ◌∷◌, ◌++◌}
-use mathlib.Core.Bool.{true}
-use Prim.Native.Nat.{ℕ, ◌+◌, ◌*◌, ◌-◌, ◌≤◌, ◌<◌}
+use mathlib.Core.Path.{◌≡◌, sym, ap, ◌∙◌}
+use Prim.Native.Nat.{ℕ, ◌*◌}
 use native.Mathlib.Omega.{arith}
-use lib.ListN.{length, take, drop, length-take, length-drop, length-append}
-use lib.Bits.{bit_xor}
-use Rattle.protocol.specs.Lists.{block_at}
-use Rattle.protocol.specs.Strings.{bytes_for, bit, pack}
-use Rattle.protocol.specs.Frames.{frame, framed_length}
-use Rattle.protocol.specs.Shape.{Shape, limits, per_tree, k_of, w_of}
-use Rattle.protocol.specs.Sections.{commit_lengths, hash_lengths}
-use Rattle.protocol.specs.Prover.{c_section, d_section, ũSection, ṼSection, qs0_section, qs1_section}
-use Rattle.theorems.proofs.ListLaws.{row-end}
+use lib.ListN.{length, take, length-take}
+use Rattle.protocol.specs.Shape.{per_tree, w_of}
+use Rattle.protocol.specs.Prover.{ṼSection}
 use Rattle.format.specs.Sizes.{setting_for, alphabet_for, shape_for}
-use Rattle.format.proofs.SizeLaws.{in-limits, k-most, w_most, bytes_most, corrections_most, hashed_most, row-most}
-use Rattle.format.proofs.FitLaws.{n_fits, l_fits, variables_fit}
-use Rattle.sections.proofs.Writes.{framed-one, framed-two, rest-length, take-length}
-use borrow.Author.Rules.{rules}
+use Rattle.format.proofs.SizeLaws.{in-limits, hashed_most}
+use Rattle.sections.proofs.Writes.{framed-one, rest-length, take-length}
 use Rattle.lanes.specs.Lanes.{lanes}
 use Rattle.prover_sections.proofs.HashSections.{hashed_are}
 use Rattle.prover_sections.proofs.HashSections.{table_less}

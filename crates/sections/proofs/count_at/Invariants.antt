@@ -1,13 +1,9 @@
 -- `sections::count_at` meets its contract. The loop's invariant: the sections passed end where the next count stands.
 -- Assumes nothing.
-use mathlib.Core.Path.{◌≡◌, refl, sym}
+use mathlib.Core.Path.{◌≡◌}
 use Prim.Native.Nat.{◌-◌, ◌≤◌}
-use native.Mathlib.Numerals.{add-one}
-use native.Mathlib.Omega.{arith}
-use borrow.Author.Rules.{rules}
 use lib.ListN.{take}
 use Rattle.protocol.specs.Frames.{framed_length}
-use Rattle.sections.proofs.SectionLaws.{length_more, section-end}
 use Rattle.sections.proofs.count_at.Given as goal
 
 abbrev pub invariant-loop-j : goal.invariant-loop-j

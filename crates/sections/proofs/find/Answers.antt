@@ -1,7 +1,6 @@
 -- `sections::find` meets its contract. A section that is cut is missing, one that is whole is found (`SectionLaws`).
 -- Assumes nothing.
 use native.Mathlib.Omega.{arith}
-use borrow.Author.Rules.{rules}
 use Rattle.sections.proofs.SectionLaws.{section-short, section-cut, section-whole}
 use Rattle.sections.proofs.find.Goals as goal
 

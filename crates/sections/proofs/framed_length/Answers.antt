@@ -1,7 +1,6 @@
 -- `sections::framed_length` meets its contract. The place after the last section.
 -- Assumes nothing.
 use mathlib.Core.Path.{ap, ◌∙◌}
-use borrow.Author.Rules.{rules}
 use lib.Seq.{take-length}
 use Rattle.protocol.specs.Frames.{framed_length}
 use Rattle.sections.proofs.framed_length.Goals as goal

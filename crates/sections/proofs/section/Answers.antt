@@ -1,7 +1,6 @@
 -- `sections::section` meets its contract. A part of a slice.
 -- Assumes nothing.
 use mathlib.Core.Path.{refl}
-use borrow.Author.Rules.{rules}
 use Rattle.protocol.specs.Lists.{part}
 use Rattle.sections.proofs.section.Goals as goal
 

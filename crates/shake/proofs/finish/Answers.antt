@@ -5,10 +5,6 @@ use Rattle.sponge.specs.Keccak.{keccak}
 use Rattle.shake.specs.Pieces.{finished}
 use Rattle.shake.proofs.StateLaws.{keccak-length}
 use borrow.Author.Rules.{rules}
-use Rattle.shake.proofs.finish.Reads as reads
-use Rattle.shake.proofs.finish.Lts as lts
-use Rattle.keccak.proofs.permute.Reads as permute-reads
-use Rattle.shake.proofs.pad.Reads as pad-reads
 use Rattle.shake.proofs.finish.Goals as goal
 
 pub pad-requires : goal.pad-requires

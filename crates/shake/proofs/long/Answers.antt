@@ -3,13 +3,6 @@ use mathlib.Core.Path.{ap, ◌∙◌}
 use lib.ListN.{length}
 use Rattle.shake.specs.Pieces.{absorbed, finished, given}
 use Rattle.shake.proofs.PieceLaws.{in_block, shake_is}
-use borrow.Author.Rules.{rules}
-use Rattle.shake.proofs.long.Reads as reads
-use Rattle.shake.proofs.long.Lts as lts
-use Rattle.shake.proofs.absorb.Reads as absorb-reads
-use Rattle.shake.proofs.finish.Reads as finish-reads
-use Rattle.shake.proofs.new.Reads as new-reads
-use Rattle.shake.proofs.squeeze.Reads as squeeze-reads
 use Rattle.shake.proofs.long.Goals as goal
 
 pub returns : goal.returns

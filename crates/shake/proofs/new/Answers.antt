@@ -2,8 +2,6 @@
 use borrow.Author.Rules.{rules}
 use mathlib.Core.Path.{refl}
 use Rattle.shake.specs.Pieces.{fresh}
-use Rattle.shake.proofs.new.Reads as reads
-use Rattle.shake.proofs.new.Lts as lts
 use Rattle.shake.proofs.new.Goals as goal
 
 pub returns : goal.returns

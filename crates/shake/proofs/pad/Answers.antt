@@ -8,9 +8,6 @@ use lib.Bits.{bit_xor}
 use lib.Pow.{shl_exact}
 use lib.Dec.{lit<}
 use Rattle.sponge.specs.Sponge.{added, last_bit}
-use borrow.Author.Rules.{rules}
-use Rattle.shake.proofs.pad.Reads as reads
-use Rattle.shake.proofs.pad.Lts as lts
 use Rattle.shake.proofs.pad.Goals as goal
 
 pub returns : goal.returns

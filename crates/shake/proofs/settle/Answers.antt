@@ -1,10 +1,6 @@
 -- `shake::settle` meets its contract. Assumes nothing.
 use mathlib.Core.Path.{sym, ap, ◌∙◌}
 use Rattle.shake.proofs.PieceLaws.{full, rest}
-use borrow.Author.Rules.{rules}
-use Rattle.shake.proofs.settle.Reads as reads
-use Rattle.shake.proofs.settle.Lts as lts
-use Rattle.keccak.proofs.permute.Reads as permute-reads
 use Rattle.shake.proofs.settle.Goals as goal
 
 pub returns-then-at-eq-RATE : goal.returns-then-at-eq-RATE

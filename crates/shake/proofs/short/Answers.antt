@@ -8,13 +8,6 @@ use Rattle.sponge.specs.Lanes.{listed}
 use Rattle.sponge.specs.Sponge.{byte_in, added, rate, suffix, last_bit}
 use Rattle.shake.proofs.StateLaws.{all-length, keccak-length}
 use Rattle.shake.proofs.PieceLaws.{short_is}
-use borrow.Author.Rules.{rules}
-use Rattle.shake.proofs.short.Reads as reads
-use Rattle.shake.proofs.short.Lts as lts
-use Rattle.keccak.proofs.permute.Reads as permute-reads
-use Rattle.shake.proofs.output.emit.Reads as emit-reads
-use Rattle.shake.proofs.input.mix.Reads as mix-reads
-use Rattle.shake.proofs.pad.Reads as pad-reads
 use Rattle.shake.proofs.short.Goals as goal
 
 pub pad-requires : goal.pad-requires

@@ -6,7 +6,7 @@ use Rattle.sponge.specs.Sponge.{byte_in, rate}
 use mathlib.Core.List.{◌++◌}
 use lib.Seq.{take_all}
 use borrow.Rule.Slice.PartMut.{same_len_mid}
-use Rattle.shake.specs.Pieces.{Held, Ready, given, after}
+use Rattle.shake.specs.Pieces.{Held, given, after}
 use Rattle.strings.proofs.LeastLaws.{under_least}
 use Rattle.shake.proofs.PieceLaws.{settled_lt, settled-length}
 use Rattle.shake.proofs.EmitLaws.{take_put_end, given-step, after-step}
@@ -15,11 +15,6 @@ use Prim.Native.Nat.{◌+◌, ◌%◌, ◌-◌, ◌≤◌}
 use mathlib.Core.Path.{◌≡◌, refl, sym, ap, ap₂, ◌∙◌}
 use native.Mathlib.Omega.{arith}
 use lib.ListN.{length, take, drop, length-take, length-drop}
-use Rattle.shake.proofs.squeeze.Reads as reads
-use Rattle.shake.proofs.squeeze.Lts as lts
-use Rattle.shake.proofs.output.emit.Reads as emit-reads
-use Rattle.strings.proofs.least.Reads as least-reads
-use Rattle.shake.proofs.settle.Reads as settle-reads
 use Rattle.shake.proofs.squeeze.Goals as goal
 
 pub loop-i-init : goal.loop-i-init

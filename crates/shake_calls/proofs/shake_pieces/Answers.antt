@@ -11,14 +11,6 @@ use borrow.Rule.Slice.PartMut.{put_mid, same_len_mid}
 use Rattle.shake.specs.Pieces.{Held, fresh, absorbed, finished, given, after}
 use Rattle.shake.proofs.PieceLaws.{in_block, absorbed-append, given_more, shake_is}
 use Rattle.shake.proofs.EmitLaws.{take_put_end}
-use borrow.Author.Rules.{rules}
-use Rattle.shake_calls.proofs.shake_pieces.Reads as reads
-use Rattle.shake_calls.proofs.shake_pieces.Lts as lts
-use Rattle.shake.proofs.absorb.Reads as absorb-reads
-use Rattle.shake.proofs.finish.Reads as finish-reads
-use Rattle.shake.proofs.new.Reads as new-reads
-use Rattle.shake.proofs.squeeze.Reads as squeeze-reads
-use Rattle.strings.proofs.least.Reads as least-reads
 use Rattle.shake_calls.proofs.shake_pieces.Goals as goal
 
 -- a first part written, and then the rest

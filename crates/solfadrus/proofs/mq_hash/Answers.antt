@@ -2,7 +2,6 @@
 -- Assumes nothing.
 use mathlib.Core.Path.{ap, ◌∙◌}
 use Rattle.protocol.specs.Answers.{word}
-use borrow.Author.Rules.{rules}
 use Rattle.solfadrus.proofs.mq_hash.Goals as goal
 
 pub returns : goal.returns

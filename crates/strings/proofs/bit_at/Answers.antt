@@ -2,7 +2,6 @@
 -- Assumes nothing.
 use mathlib.Core.Path.{refl}
 use Rattle.protocol.specs.Strings.{bit}
-use borrow.Author.Rules.{rules}
 use Rattle.strings.proofs.bit_at.Goals as goal
 
 pub returns : goal.returns

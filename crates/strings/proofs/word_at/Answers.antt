@@ -7,7 +7,6 @@ use lib.Bits.{bit_or}
 use Rattle.strings.specs.Sums.{byte_at}
 use Rattle.strings.specs.Words.{word_of}
 use Rattle.strings.proofs.WordLaws.{word_first, word_next}
-use borrow.Author.Rules.{rules}
 use Rattle.strings.proofs.word_at.Goals as goal
 
 pub returns : goal.returns

@@ -4,7 +4,6 @@ use Prim.Native.Nat.{◌%◌, ◌^◌, ◌*◌}
 use mathlib.Core.Path.{◌≡◌}
 use native.Mathlib.Omega.{arith}
 use Rattle.strings.proofs.BitLaws.{bit_shifted, added-same, added-other}
-use borrow.Author.Rules.{rules}
 use Rattle.strings.proofs.xor_bit.Goals as goal
 
 pub returns : goal.returns

@@ -1,14 +1,11 @@
 -- `strings::xor_into` meets its contract. Each element is changed once (`Elementwise`).
 -- Assumes nothing.
-use borrow.Author.Rules.{rules}
-use Prim.Native.Nat.{ℕ, ◌≤◌, ◌<◌, ◌-◌}
-use mathlib.Core.Path.{◌≡◌, refl, ap, ◌∙◌}
-use lib.ListN.{length, length-set}
+use Prim.Native.Nat.{ℕ, ◌≤◌, ◌-◌}
+use mathlib.Core.Path.{◌≡◌}
+use lib.ListN.{length}
 use lib.Bits.{bit_xor}
-use native.Mathlib.Numerals.{add-one}
-use native.Mathlib.Omega.{arith}
 use Rattle.strings.specs.Sums.{byte_at}
-use Rattle.strings.proofs.Elementwise.{changed, changed_more, changed-all}
+use Rattle.strings.proofs.Elementwise.{changed}
 use Rattle.strings.proofs.xor_into.Given as goal
 
 abbrev pub invariant-loop-i : goal.invariant-loop-i

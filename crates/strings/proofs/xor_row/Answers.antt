@@ -9,7 +9,6 @@ use lib.Bits.{bit_xor}
 use Rattle.strings.specs.Sums.{byte_at}
 use Rattle.protocol.specs.Lists.{part, block_at}
 use Rattle.strings.proofs.Rows.{row-byte, put_in, put_other}
-use borrow.Author.Rules.{rules}
 use Rattle.strings.proofs.xor_row.Goals as goal
 
 pub returns : goal.returns

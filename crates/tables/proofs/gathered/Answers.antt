@@ -1,7 +1,7 @@
 -- `tables::gathered` meets its contract. The invariant: the sum has the bits of the planes below p, each at its place.
 -- Assumes nothing.
 use borrow.Author.Rules.{rules}
-use Prim.Native.Nat.{◌+◌, ◌*◌, ◌^◌, ◌-◌, ◌≤◌}
+use Prim.Native.Nat.{◌+◌, ◌*◌, ◌^◌}
 use mathlib.Core.Path.{◌≡◌, refl, sym, ap₂, ◌∙◌}
 use lib.Bits.{bit_xor}
 use native.Mathlib.Omega.{arith}

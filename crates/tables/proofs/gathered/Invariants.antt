@@ -1,15 +1,8 @@
 -- `tables::gathered` meets its contract. The invariant: the sum has the bits of the planes below p, each at its place.
 -- Assumes nothing.
-use borrow.Author.Rules.{rules}
 use Prim.Native.Nat.{◌+◌, ◌*◌, ◌^◌, ◌-◌, ◌≤◌}
-use mathlib.Core.Path.{◌≡◌, refl, sym, ap₂, ◌∙◌}
-use lib.Bits.{bit_xor}
-use native.Mathlib.Omega.{arith}
+use mathlib.Core.Path.{◌≡◌}
 use Rattle.strings.specs.Sums.{byte_at, bit_of, xor_sum}
-use Rattle.strings.proofs.Rows.{row-end}
-use Rattle.strings.proofs.SumLaws.{sum_more}
-use Rattle.strings.proofs.Meaning.{bitOf_lt}
-use Rattle.strings.proofs.BitLaws.{bits-sum, bit_shifted}
 use Rattle.tables.proofs.gathered.Given as goal
 
 abbrev pub invariant-loop-p : goal.invariant-loop-p

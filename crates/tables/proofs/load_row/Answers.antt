@@ -10,7 +10,6 @@ use Rattle.protocol.specs.Lists.{part, block_at}
 use Rattle.theorems.proofs.ListLaws.{length-block}
 use Rattle.strings.proofs.Rows.{put_in, put_other}
 use Rattle.tables.specs.Sums.{u_byte, v_byte}
-use borrow.Author.Rules.{rules}
 use Rattle.tables.proofs.load_row.Goals as goal
 
 pub overflow_mul-leaves_of : goal.overflow_mul-leaves_of

@@ -8,7 +8,6 @@ use Rattle.strings.specs.Sums.{byte_at, bit_of, xor_sum}
 use Rattle.strings.proofs.SumLaws.{sum_same}
 use Rattle.trees.proofs.FourLaws.{full-byte}
 use Rattle.tables.proofs.TreeLaws.{full-fits, tree_v}
-use borrow.Author.Rules.{rules}
 use Rattle.tables.proofs.load_tree.Goals as goal
 
 pub sum_tree-requires : goal.sum_tree-requires

@@ -2,13 +2,13 @@
 -- other lanes and the coordinates before are as they were.
 -- Assumes nothing.
 use borrow.Author.Rules.{rules}
-use Prim.Native.Nat.{◌+◌, ◌*◌, ◌-◌, ◌≤◌}
+use Prim.Native.Nat.{◌+◌, ◌*◌}
 use mathlib.Core.Path.{◌≡◌, refl}
-use lib.ListN.{length, length-set}
+use lib.ListN.{length-set}
 use native.Mathlib.Omega.{arith}
 use Rattle.protocol.specs.Strings.{from_bits}
 use Rattle.strings.specs.Sums.{byte_at, bit_of}
-use Rattle.tables.proofs.LaneLaws.{Filled, Others, filled_more, others-still}
+use Rattle.tables.proofs.LaneLaws.{filled_more, others-still}
 use Rattle.tables.proofs.spread_byte.Goals as goal
 
 pub loop-i-init : goal.loop-i-init

@@ -1,14 +1,12 @@
 -- `tables::spread_byte` meets its contract. The invariant: the first i coordinates of the byte have their lane, the
 -- other lanes and the coordinates before are as they were.
 -- Assumes nothing.
-use borrow.Author.Rules.{rules}
 use Prim.Native.Nat.{◌+◌, ◌*◌, ◌-◌, ◌≤◌}
-use mathlib.Core.Path.{◌≡◌, refl}
-use lib.ListN.{length, length-set}
-use native.Mathlib.Omega.{arith}
+use mathlib.Core.Path.{◌≡◌}
+use lib.ListN.{length}
 use Rattle.protocol.specs.Strings.{from_bits}
 use Rattle.strings.specs.Sums.{byte_at, bit_of}
-use Rattle.tables.proofs.LaneLaws.{Filled, Others, filled_more, others-still}
+use Rattle.tables.proofs.LaneLaws.{Filled, Others}
 use Rattle.tables.proofs.spread_byte.Given as goal
 
 abbrev pub invariant-loop-i : goal.invariant-loop-i

@@ -2,9 +2,8 @@
 -- other lanes are as they were.
 -- Assumes nothing.
 use borrow.Author.Rules.{rules}
-use Prim.Native.Nat.{ℕ, ◌+◌, ◌*◌, ◌-◌, ◌≤◌, ◌<◌}
+use Prim.Native.Nat.{ℕ, ◌+◌, ◌*◌, ◌<◌}
 use mathlib.Core.Path.{◌≡◌, refl, sym, ap, ◌∙◌}
-use lib.ListN.{length}
 use native.Mathlib.Omega.{arith}
 use Rattle.protocol.specs.Lists.{block_at}
 use Rattle.protocol.specs.Strings.{bit, from_bits}
@@ -12,8 +11,7 @@ use Rattle.theorems.proofs.StringLaws.{bits_congr}
 use Rattle.strings.specs.Sums.{byte_at, bit_of}
 use Rattle.strings.proofs.Rows.{row-byte}
 use Rattle.strings.proofs.Meaning.{bit-place}
-use Rattle.lanes.specs.Lanes.{lanes}
-use Rattle.tables.proofs.LaneLaws.{Lane, lane_more}
+use Rattle.tables.proofs.LaneLaws.{lane_more}
 use Rattle.tables.proofs.spread_bytes.Goals as goal
 
 pub loop-b-init : goal.loop-b-init

@@ -1,19 +1,14 @@
 -- `tables::spread_bytes` meets its contract. The invariant: lane e of the coordinates of the first b bytes is done, the
 -- other lanes are as they were.
 -- Assumes nothing.
-use borrow.Author.Rules.{rules}
 use Prim.Native.Nat.{ℕ, ◌+◌, ◌*◌, ◌-◌, ◌≤◌, ◌<◌}
-use mathlib.Core.Path.{◌≡◌, refl, sym, ap, ◌∙◌}
+use mathlib.Core.Path.{◌≡◌}
 use lib.ListN.{length}
-use native.Mathlib.Omega.{arith}
 use Rattle.protocol.specs.Lists.{block_at}
 use Rattle.protocol.specs.Strings.{bit, from_bits}
-use Rattle.theorems.proofs.StringLaws.{bits_congr}
-use Rattle.strings.specs.Sums.{byte_at, bit_of}
-use Rattle.strings.proofs.Rows.{row-byte}
-use Rattle.strings.proofs.Meaning.{bit-place}
+use Rattle.strings.specs.Sums.{byte_at}
 use Rattle.lanes.specs.Lanes.{lanes}
-use Rattle.tables.proofs.LaneLaws.{Lane, lane_more}
+use Rattle.tables.proofs.LaneLaws.{Lane}
 use Rattle.tables.proofs.spread_bytes.Given as goal
 
 abbrev pub invariant-loop-b : goal.invariant-loop-b

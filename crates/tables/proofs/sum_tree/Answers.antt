@@ -1,13 +1,12 @@
 -- `tables::sum_tree` meets its contract. The first r planes are those of the tree, and the others are cleared.
 -- Assumes nothing.
-use Prim.Native.Nat.{ℕ, ◌+◌, ◌*◌, ◌-◌, ◌^◌}
+use Prim.Native.Nat.{ℕ, ◌*◌, ◌-◌, ◌^◌}
 use mathlib.Core.Path.{◌≡◌, refl, ◌∙◌}
 use mathlib.Core.List.{◌++◌}
 use native.Mathlib.Nat.{mul-le-mul_right}
 use native.Mathlib.Omega.{arith}
 use lib.ListN.{length, drop, length-take, length-drop, length-append}
 use Rattle.tables.proofs.TreeLaws.{leaves-most, leaves_even, planes-kept, planes-none}
-use borrow.Author.Rules.{rules}
 use Rattle.tables.proofs.sum_tree.Goals as goal
 
 pub overflow_mul-end : goal.overflow_mul-end

@@ -10,7 +10,6 @@ use lib.ListN.{length}
 use Rattle.strings.specs.Sums.{byte_at}
 use Rattle.strings.proofs.Rows.{row-byte}
 use Rattle.tables_opened.specs.Opened.{correction_byte}
-use borrow.Author.Rules.{rules}
 use Rattle.tables_opened.proofs.add_correction.Goals as goal
 
 pub row_at-requires : goal.row_at-requires

@@ -11,7 +11,6 @@ use Rattle.trees.specs.Trees.{leaf_byte}
 use Rattle.tables_opened.specs.Opened.{correction_byte}
 use Rattle.tables.proofs.TreeLaws.{opened-fits}
 use Rattle.tables_opened.proofs.OpenedLaws.{planes_w, none-added}
-use borrow.Author.Rules.{rules}
 use Rattle.tables_opened.proofs.load_lane.Goals as goal
 
 pub sum_tree-requires : goal.sum_tree-requires

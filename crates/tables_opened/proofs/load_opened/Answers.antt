@@ -11,8 +11,7 @@ use lib.Pow.{pow_pos}
 use Rattle.protocol.specs.Lists.{block_at}
 use Rattle.strings.specs.Sums.{byte_at}
 use Rattle.strings.proofs.Rows.{row-end}
-use Rattle.format.specs.Limits.{most_leaf}
-use Rattle.tables_opened.specs.Opened.{w_byte, OpenedTableIs}
+use Rattle.tables_opened.specs.Opened.{w_byte}
 use Rattle.tables.proofs.TreeLaws.{leaves-most, lanes_more}
 use Rattle.tables_opened.proofs.load_opened.Goals as goal
 

@@ -1,19 +1,10 @@
 -- `tables_opened::load_opened` meets its contract. The invariant: the lanes of the repetitions below e are done.
 -- Assumes nothing.
-use borrow.Author.Rules.{rules}
-use Prim.Native.Nat.{ℕ, ◌*◌, ◌-◌, ◌^◌, ◌≤◌, ◌<◌}
-use mathlib.Core.Path.{◌≡◌, refl, ap₂, ◌∙◌}
-use mathlib.Core.List.{List}
-use native.Mathlib.Nat.{mul_assoc, mul-le-mul, mul-le-mul_right}
-use native.Mathlib.Omega.{arith}
-use lib.ListN.{length, take, length-take, length-drop, length-append}
-use lib.Pow.{pow_pos}
-use Rattle.protocol.specs.Lists.{block_at}
-use Rattle.strings.specs.Sums.{byte_at}
-use Rattle.strings.proofs.Rows.{row-end}
+use Prim.Native.Nat.{◌*◌, ◌-◌, ◌^◌, ◌≤◌}
+use mathlib.Core.Path.{◌≡◌}
+use lib.ListN.{length}
 use Rattle.format.specs.Limits.{most_leaf}
-use Rattle.tables_opened.specs.Opened.{w_byte, OpenedTableIs}
-use Rattle.tables.proofs.TreeLaws.{leaves-most, lanes_more}
+use Rattle.tables_opened.specs.Opened.{OpenedTableIs}
 use Rattle.tables_opened.proofs.load_opened.Given as goal
 
 abbrev pub invariant-loop-e : goal.invariant-loop-e

@@ -1,7 +1,7 @@
 -- `trees::absorb` meets its contract. The invariant: the planes below p are done, the others are as they were.
 -- Assumes nothing.
 use borrow.Author.Rules.{rules}
-use Prim.Native.Nat.{ℕ, ◌+◌, ◌*◌, ◌-◌, ◌≤◌, ◌<◌}
+use Prim.Native.Nat.{ℕ, ◌+◌, ◌*◌, ◌<◌}
 use mathlib.Core.Path.{◌≡◌, refl, ◌∙◌}
 use lib.ListN.{length}
 use lib.Bits.{bit_xor}
@@ -10,7 +10,7 @@ use Rattle.strings.specs.Sums.{byte_at, bit_of}
 use native.Mathlib.Nat.{mod-lt}
 use lib.Dec.{lit<}
 use Rattle.strings.proofs.Rows.{row-end}
-use Rattle.trees.proofs.PlaneLaws.{Done, Left, done_more, left_less}
+use Rattle.trees.proofs.PlaneLaws.{done_more, left_less}
 use Rattle.strings.proofs.SumLaws.{bit_added, bit-left}
 use Rattle.trees.proofs.absorb.Goals as goal
 use Rattle.trees.proofs.absorb.Goals.{then-j-p-eq1, else-j-p-eq1}
@@ -34,16 +34,17 @@ loop-p-preserved c =
     let Others : Type 0 = ((q b : ℕ) → (q ≡ l.p → ⊥) → b < w → byte_at c.if-j-p-eq1.planes (q * w + b) ≡ byte_at l.planes (q * w + b)) in
     let step : (length c.if-j-p-eq1.planes ≡ length l.planes) × Row × Others =
     elim c.if-j-p-eq1.branch [
-      then-j-p-eq1 k ↦ rw k.planes-is (
+      | then-j-p-eq1 k ↦ rw k.planes-is (
         k.xor_row.auto.table,
         (λ b h. k.xor_row.ensures.row_added b h ∙ bit_added (byte_at l.planes (l.p * w + b)) (bit_of a.j l.p) (byte_at a.row.now b) k.if-j-p-eq1.true),
         k.xor_row.ensures.rows_kept,
       )
-    | else-j-p-eq1 k ↦ rw k.planes-is (
-      refl,
-      (λ b h. bit-left (byte_at l.planes (l.p * w + b)) (bit_of a.j l.p) (byte_at a.row.now b) (mod-lt _ (lit< tt)) k.if-j-p-eq1.false),
-      (λ q b h o. refl),
-    )] in (
+      | else-j-p-eq1 k ↦ rw k.planes-is (
+        refl,
+        (λ b h. bit-left (byte_at l.planes (l.p * w + b)) (bit_of a.j l.p) (byte_at a.row.now b) (mod-lt _ (lit< tt)) k.if-j-p-eq1.false),
+        (λ q b h o. refl),
+      )
+    ] in (
       omega arith,
       step.0 ∙ l.invariant.1,
       done_more g a.planes.now l.planes c.if-j-p-eq1.planes w l.p step.1 step.2 l.invariant.3 l.invariant.2,

@@ -1,18 +1,11 @@
 -- `trees::absorb` meets its contract. The invariant: the planes below p are done, the others are as they were.
 -- Assumes nothing.
-use borrow.Author.Rules.{rules}
-use Prim.Native.Nat.{ℕ, ◌+◌, ◌*◌, ◌-◌, ◌≤◌, ◌<◌}
-use mathlib.Core.Path.{◌≡◌, refl, ◌∙◌}
-use mathlib.Core.Logic.{⊎_elim}
+use Prim.Native.Nat.{ℕ, ◌*◌, ◌-◌, ◌≤◌}
+use mathlib.Core.Path.{◌≡◌}
 use lib.ListN.{length}
 use lib.Bits.{bit_xor}
-use native.Mathlib.Omega.{arith}
 use Rattle.strings.specs.Sums.{byte_at, bit_of}
-use native.Mathlib.Nat.{mod-lt}
-use lib.Dec.{lit<}
-use Rattle.strings.proofs.Rows.{row-end}
-use Rattle.trees.proofs.PlaneLaws.{Done, Left, done_more, left_less}
-use Rattle.strings.proofs.SumLaws.{bit_added, bit-left}
+use Rattle.trees.proofs.PlaneLaws.{Done, Left}
 use Rattle.trees.proofs.absorb.Given as goal
 
 abbrev pub invariant-loop-p : goal.invariant-loop-p

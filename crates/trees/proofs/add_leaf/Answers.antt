@@ -10,7 +10,6 @@ use lib.ListN.{length}
 use Rattle.protocol.specs.Leaves.{opened_leaf}
 use Rattle.theorems.proofs.TestLaws.{eqb_same, eqb-other}
 use Rattle.strings.specs.Sums.{byte_at}
-use borrow.Author.Rules.{rules}
 use Rattle.trees.proofs.add_leaf.Goals as goal
 
 pub opened_leaf-requires : goal.opened_leaf-requires

@@ -3,7 +3,6 @@
 use mathlib.Core.Path.{ap, ◌∙◌}
 use Rattle.protocol.specs.Lists.{block_at}
 use Rattle.protocol.specs.Leaves.{opened_leaf}
-use borrow.Author.Rules.{rules}
 use Rattle.trees.proofs.opened_leaf.Goals as goal
 
 pub row_at-requires : goal.row_at-requires

@@ -3,7 +3,6 @@
 use mathlib.Core.Path.{sym}
 use native.Mathlib.Omega.{arith}
 use Rattle.theorems.proofs.LeafLaws.{place-below, place-above}
-use borrow.Author.Rules.{rules}
 use Rattle.trees.proofs.place_of.Goals as goal
 
 pub returns-then-j-delta : goal.returns-then-j-delta

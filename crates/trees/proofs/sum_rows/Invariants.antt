@@ -1,16 +1,12 @@
 -- `trees::sum_rows` meets its contract. The invariant: plane p is its sum of the j leaves passed, plus their whole sum
 -- where bit p of j is 1.
 -- Assumes nothing.
-use borrow.Author.Rules.{rules}
-use Prim.Native.Nat.{ℕ, ◌+◌, ◌*◌, ◌-◌, ◌≤◌}
-use mathlib.Core.Path.{◌≡◌, ◌∙◌}
+use Prim.Native.Nat.{◌+◌, ◌*◌, ◌-◌, ◌≤◌}
+use mathlib.Core.Path.{◌≡◌}
 use lib.ListN.{length}
-use native.Mathlib.Omega.{arith}
 use Rattle.strings.specs.Sums.{byte_at}
-use Rattle.strings.proofs.Rows.{row-end}
 use Rattle.trees.specs.Trees.{leaf_byte}
 use Rattle.trees.specs.Partial.{Running}
-use Rattle.trees.proofs.PartialLaws.{running_none, running_more, running_all}
 use Rattle.trees.proofs.sum_rows.Given as goal
 
 abbrev pub invariant-loop-j : goal.invariant-loop-j

@@ -1,7 +1,6 @@
 -- `verifier::ask_checks` meets its contract: the space begins with the table of the W_e. The answer to 14, and where
 -- that is accepted, the answer to 15.
 -- Assumes nothing.
-use borrow.Author.Rules.{rules}
 use Prim.Native.Nat.{ℕ, ◌*◌, ◌≤◌}
 use mathlib.Core.Path.{◌≡◌, sym, ap, ◌∙◌}
 use mathlib.Core.Bool.{Bool}
@@ -56,7 +55,7 @@ check_consistency-inconsistent-requires c =
     record {
       s_value = (facts.of-key.in-range, facts.of_hash, (facts.of-proof, c.requires.verify_facts.1), facts.of_challenge);
       table_len = ap length ((let front' : let n = 8 * c.leaf_bytes-w.result * lanes in take n (c.load_opened.new.table ++ drop n c.args.space.now) ≡ c.load_opened.new.table = let n = 8 * c.leaf_bytes-w.result * lanes in
-    take_at c.load_opened.new.table (drop n c.args.space.now) n ((let table-long' : length c.load_opened.new.table ≡ 8 * c.leaf_bytes-w.result * lanes = c.load_opened.auto.table ∙ take-length (8 * c.leaf_bytes-w.result * lanes) c.args.space.now ((let begins' : let a = c.args in 8 * c.leaf_bytes-w.result * lanes ≤ length a.space.now = rw c.leaf_bytes-w.ensures c.requires.space_room.0 in begins')) in table-long')) in front')) ∙ (let table-long' : length c.load_opened.new.table ≡ 8 * c.leaf_bytes-w.result * lanes = c.load_opened.auto.table ∙ take-length (8 * c.leaf_bytes-w.result * lanes) c.args.space.now ((let begins' : let a = c.args in 8 * c.leaf_bytes-w.result * lanes ≤ length a.space.now = rw c.leaf_bytes-w.ensures c.requires.space_room.0 in begins')) in table-long') ∙ ap (λ (w : ℕ). 8 * w * lanes) c.leaf_bytes-w.ensures;
+          take_at c.load_opened.new.table (drop n c.args.space.now) n ((let table-long' : length c.load_opened.new.table ≡ 8 * c.leaf_bytes-w.result * lanes = c.load_opened.auto.table ∙ take-length (8 * c.leaf_bytes-w.result * lanes) c.args.space.now ((let begins' : let a = c.args in 8 * c.leaf_bytes-w.result * lanes ≤ length a.space.now = rw c.leaf_bytes-w.ensures c.requires.space_room.0 in begins')) in table-long')) in front')) ∙ (let table-long' : length c.load_opened.new.table ≡ 8 * c.leaf_bytes-w.result * lanes = c.load_opened.auto.table ∙ take-length (8 * c.leaf_bytes-w.result * lanes) c.args.space.now ((let begins' : let a = c.args in 8 * c.leaf_bytes-w.result * lanes ≤ length a.space.now = rw c.leaf_bytes-w.ensures c.requires.space_room.0 in begins')) in table-long') ∙ ap (λ (w : ℕ). 8 * w * lanes) c.leaf_bytes-w.ensures;
       delta_value = (facts.of_elements, (sent_elements (alphabet_for c.args.s) (shape_for c.args.s) _ facts.proof-elements).0);
     }
 
@@ -82,13 +81,18 @@ check_product-differing-requires c =
     let sent = sent_elements (alphabet_for c.args.s) (shape_for c.args.s) _ facts.proof-elements in record {
       key_facts = (facts.of-key, (facts.of-proof, c.requires.verify_facts.1), facts.of_challenge);
       batching_len = (facts.of_batching, (omega (arith, long, c.requires.space_room.0), omega (arith, long, c.requires.space_room.1)));
-      delta_value = (facts.of_elements, facts.χ_elements, sent.1, opened-narrow (setting_for c.args.s) (shape_for c.args.s) c.args.delta.now c.args.opened.now c.args.proof.now _ ((let begun' : let a = c.args in Opened (alphabet_for a.s) (shape_for a.s) a.delta.now a.opened.now a.proof.now (c.load_opened.new.table ++ drop (8 * c.leaf_bytes-w.result * lanes) a.space.now) = let a = c.args in
-    opened_begins (alphabet_for a.s) (shape_for a.s) a.delta.now a.opened.now a.proof.now c.load_opened.new.table _ (in-limits (shape_for a.s) c.requires.verify_facts.0.of-key.in-range).τ_most ((let loaded' : let a = c.args in Opened (alphabet_for a.s) (shape_for a.s) a.delta.now a.opened.now a.proof.now c.load_opened.new.table = let a = c.args in
-    let degree = c.degree_of in
-    let section = c.proof_section in
-    let width = c.leaf_bytes-w in
-    opened_is (alphabet_for a.s) (shape_for a.s) a.delta.now a.opened.now a.proof.now c.load_opened.new.table section.result.now width.result degree.result width.ensures
-    (section.ensures a.s c.requires.verify_facts.0.of-proof).0 degree.ensures.0 (omega (arith, (let table-long' : length c.load_opened.new.table ≡ 8 * c.leaf_bytes-w.result * lanes = c.load_opened.auto.table ∙ take-length (8 * c.leaf_bytes-w.result * lanes) c.args.space.now ((let begins' : let a = c.args in 8 * c.leaf_bytes-w.result * lanes ≤ length a.space.now = rw c.leaf_bytes-w.ensures c.requires.space_room.0 in begins')) in table-long'), width.ensures)) c.load_opened.ensures in loaded')) in begun')) facts.of_elements);
+      delta_value = (
+        facts.of_elements,
+        facts.χ_elements,
+        sent.1,
+        opened-narrow (setting_for c.args.s) (shape_for c.args.s) c.args.delta.now c.args.opened.now c.args.proof.now _ ((let begun' : let a = c.args in Opened (alphabet_for a.s) (shape_for a.s) a.delta.now a.opened.now a.proof.now (c.load_opened.new.table ++ drop (8 * c.leaf_bytes-w.result * lanes) a.space.now) = let a = c.args in
+            opened_begins (alphabet_for a.s) (shape_for a.s) a.delta.now a.opened.now a.proof.now c.load_opened.new.table _ (in-limits (shape_for a.s) c.requires.verify_facts.0.of-key.in-range).τ_most ((let loaded' : let a = c.args in Opened (alphabet_for a.s) (shape_for a.s) a.delta.now a.opened.now a.proof.now c.load_opened.new.table = let a = c.args in
+            let degree = c.degree_of in
+            let section = c.proof_section in
+            let width = c.leaf_bytes-w in
+            opened_is (alphabet_for a.s) (shape_for a.s) a.delta.now a.opened.now a.proof.now c.load_opened.new.table section.result.now width.result degree.result width.ensures
+            (section.ensures a.s c.requires.verify_facts.0.of-proof).0 degree.ensures.0 (omega (arith, (let table-long' : length c.load_opened.new.table ≡ 8 * c.leaf_bytes-w.result * lanes = c.load_opened.auto.table ∙ take-length (8 * c.leaf_bytes-w.result * lanes) c.args.space.now ((let begins' : let a = c.args in 8 * c.leaf_bytes-w.result * lanes ≤ length a.space.now = rw c.leaf_bytes-w.ensures c.requires.space_room.0 in begins')) in table-long'), width.ensures)) c.load_opened.ensures in loaded')) in begun')) facts.of_elements,
+      );
     }
 
 pub answer-requires : goal.answer-requires

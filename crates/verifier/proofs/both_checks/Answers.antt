@@ -1,7 +1,6 @@
 -- `verifier::both_checks` meets its contract: the space holds the largest key's table, and so this one's, and the
 -- cells.
 -- Assumes nothing.
-use borrow.Author.Rules.{rules}
 use native.Mathlib.Omega.{arith}
 use Rattle.format.specs.Sizes.{setting_for, shape_for}
 use Rattle.format.proofs.FitLaws.{room}

@@ -1,7 +1,6 @@
 -- `verifier::verify` meets its contract: a refusal on the key, the other inputs or the proof is its answer, and else
 -- the two checks give it.
 -- Assumes nothing.
-use borrow.Author.Rules.{rules}
 use mathlib.Core.Path.{refl, sym, ap, ◌∙◌}
 use Rattle.format.specs.Sizes.{alphabet_for, shape_for}
 use Rattle.format.specs.Verdict.{answer_of}

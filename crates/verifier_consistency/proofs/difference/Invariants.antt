@@ -1,15 +1,12 @@
 -- `verifier_consistency::difference` meets its contract. The invariant: what was found is 0 exactly where the entries
 -- passed are as they must be.
 -- Assumes nothing.
-use borrow.Author.Rules.{rules}
 use Prim.Native.Nat.{ℕ, ◌-◌, ◌≤◌}
-use mathlib.Core.Path.{◌≡◌, ap, ◌∙◌}
+use mathlib.Core.Path.{◌≡◌}
 use mathlib.Core.List.{List}
-use native.Mathlib.Omega.{arith}
 use lib.Dec.{eqb}
 use lib.ListN.{length}
 use Rattle.verifier_consistency.specs.Consistency.{BitMasks, row_consistent}
-use Rattle.verifier_consistency.proofs.RowLaws.{row-none, row_more}
 use Rattle.verifier_consistency.proofs.difference.Given as goal
 
 abbrev pub invariant-loop-rho : goal.invariant-loop-rho

@@ -1,12 +1,10 @@
 -- `verifier_consistency::fill_masks` meets its contract. Each element is changed once (`Elementwise`).
 -- Assumes nothing.
 use borrow.Author.Rules.{rules}
-use Prim.Native.Nat.{ℕ, ◌*◌, ◌-◌, ◌≤◌, ◌<◌}
-use mathlib.Core.Path.{refl, ap, ◌≡◌}
-use mathlib.Core.List.{List}
+use Prim.Native.Nat.{◌*◌, ◌<◌}
+use mathlib.Core.Path.{refl, ap}
 use native.Mathlib.Omega.{arith}
-use lib.ListN.{length, length-set}
-use Rattle.protocol.specs.Strings.{bit}
+use lib.ListN.{length-set}
 use Rattle.theorems.proofs.StringLaws.{bit_lt}
 use Rattle.strings.proofs.Elementwise.{changed, changed_more, changed-all}
 use Rattle.verifier_consistency.proofs.fill_masks.Invariants.{change}

@@ -1,14 +1,11 @@
 -- `verifier_consistency::fill_masks` meets its contract. Each element is changed once (`Elementwise`).
 -- Assumes nothing.
-use borrow.Author.Rules.{rules}
-use Prim.Native.Nat.{ℕ, ◌*◌, ◌-◌, ◌≤◌, ◌<◌}
-use mathlib.Core.Path.{refl, ap, ◌≡◌}
+use Prim.Native.Nat.{ℕ, ◌*◌, ◌-◌, ◌≤◌}
+use mathlib.Core.Path.{◌≡◌}
 use mathlib.Core.List.{List}
-use native.Mathlib.Omega.{arith}
-use lib.ListN.{length, length-set}
+use lib.ListN.{length}
 use Rattle.protocol.specs.Strings.{bit}
-use Rattle.theorems.proofs.StringLaws.{bit_lt}
-use Rattle.strings.proofs.Elementwise.{changed, changed_more, changed-all}
+use Rattle.strings.proofs.Elementwise.{changed}
 use Rattle.verifier_consistency.proofs.fill_masks.Given as goal
 
 abbrev pub change : List ℕ → ℕ → ℕ → ℕ

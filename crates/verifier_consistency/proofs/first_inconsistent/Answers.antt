@@ -2,7 +2,6 @@
 -- Assumes nothing.
 use mathlib.Core.Path.{sym}
 use Rattle.protocol.specs.Shape.{most_hash_rows}
-use borrow.Author.Rules.{rules}
 use Rattle.sections.proofs.Writes.{prefix_length}
 use Rattle.verifier_consistency.proofs.first_inconsistent.Goals as goal
 

@@ -1,6 +1,5 @@
 -- `verifier_consistency::first_masked` meets its contract: the masks are those of ũ.
 -- Assumes nothing.
-use borrow.Author.Rules.{rules}
 use Rattle.verifier_consistency.proofs.first_masked.Goals as goal
 
 pub returns : goal.returns

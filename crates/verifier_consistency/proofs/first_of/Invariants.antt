@@ -1,20 +1,13 @@
 -- `verifier_consistency::first_of` meets its contract. The invariant: the repetitions passed are consistent.
 -- Assumes nothing.
-use borrow.Author.Rules.{rules}
-use borrow.Author.Count.{below_more}
 use Prim.Native.Nat.{ℕ, ◌-◌, ◌≤◌, ◌<◌}
-use mathlib.Core.Path.{◌≡◌, sym, ◌∙◌}
-use mathlib.Core.Bool.{Bool, true, false}
+use mathlib.Core.Path.{◌≡◌}
+use mathlib.Core.Bool.{true}
 use mathlib.Core.List.{List}
-use native.Mathlib.Omega.{arith}
-use lib.Dec.{eqb}
 use lib.ListN.{length}
 use Rattle.protocol.specs.Lists.{block_at}
 use Rattle.strings.specs.Sums.{byte_at}
-use Rattle.strings.proofs.Rows.{row-end}
 use Rattle.verifier_consistency.specs.Consistency.{BitMasks, row_consistent}
-use Rattle.theorems.proofs.TestLaws.{eqb_same, eqb-other, first-at}
-use Rattle.questions.proofs.FirstLaws.{first-none}
 use Rattle.verifier_consistency.proofs.first_of.Given as goal
 
 abbrev pub invariant-loop-e : goal.invariant-loop-e

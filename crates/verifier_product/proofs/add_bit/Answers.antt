@@ -1,6 +1,5 @@
 -- `verifier_product::add_bit` meets its contract. The part that was lent is row c, and the others stand outside it.
 -- Assumes nothing.
-use borrow.Author.Rules.{rules}
 use Prim.Native.Nat.{ℕ, ◌+◌, ◌*◌, ◌-◌, ◌≤◌, ◌<◌}
 use mathlib.Core.Path.{◌≡◌, ap, ◌∙◌}
 use native.Mathlib.Nat.{add-sub_cancel_left}

@@ -1,19 +1,12 @@
 -- `verifier_product::add_difference` meets its contract. The invariant: the coordinates passed are changed, and no
 -- other.
 -- Assumes nothing.
-use borrow.Author.Rules.{rules}
 use Prim.Native.Nat.{ℕ, ◌*◌, ◌-◌, ◌≤◌, ◌<◌}
-use mathlib.Core.Path.{◌≡◌, refl, ap₂, ◌∙◌}
-use mathlib.Core.Logic.{⊎_elim}
-use native.Mathlib.Nat.{eq-or-lt_of_le, le_of_suc-le-suc}
-use native.Mathlib.Numerals.{add-one}
-use native.Mathlib.Omega.{arith}
+use mathlib.Core.Path.{◌≡◌}
 use lib.ListN.{length}
 use lib.Bits.{bit_xor}
 use Rattle.protocol.specs.Strings.{bit}
-use Rattle.theorems.proofs.StringLaws.{bit_lt}
 use Rattle.strings.specs.Sums.{byte_at}
-use Rattle.strings.proofs.Rows.{row-end}
 use Rattle.lanes.specs.Lanes.{lanes, lane_at}
 use Rattle.verifier_product.proofs.add_difference.Given as goal
 

@@ -1,17 +1,9 @@
 -- `verifier_product::batch_values` meets its contract. Each element is changed once (`Elementwise`).
 -- Assumes nothing.
-use borrow.Author.Rules.{rules}
-use Prim.Native.Nat.{ℕ, ◌*◌, ◌-◌, ◌≤◌}
-use mathlib.Core.Path.{◌≡◌, refl, ap, ◌∙◌}
-use mathlib.Core.List.{List}
-use native.Mathlib.Omega.{arith}
-use lib.ListN.{length, length-set}
-use Rattle.protocol.specs.Lists.{block_at}
-use Rattle.protocol.specs.Strings.{bit}
-use Rattle.strings.specs.Sums.{byte_at, xor_sum}
-use Rattle.strings.proofs.Elementwise.{changed, changed_more, changed-at}
-use Rattle.strings.proofs.Rows.{row-end, row-byte}
-use Rattle.strings.proofs.SumLaws.{sum_same}
+use Prim.Native.Nat.{◌-◌, ◌≤◌}
+use mathlib.Core.Path.{◌≡◌}
+use lib.ListN.{length}
+use Rattle.strings.proofs.Elementwise.{changed}
 use Rattle.verifier_product.specs.Product.{value_byte}
 use Rattle.verifier_product.proofs.batch_values.Given as goal
 

@@ -1,7 +1,6 @@
 -- `verifier_product::check_product` meets its contract: the space begins with the K_e, the vectors are taken from
 -- it before it is lent as cells, and the left sides are those of the product check.
 -- Assumes nothing.
-use borrow.Author.Rules.{rules}
 use Prim.Native.Nat.{ℕ, ◌*◌, ◌<◌}
 use mathlib.Core.Path.{refl, sym, ap, ap₂, ◌∙◌}
 use mathlib.Core.List.{List}

@@ -2,15 +2,10 @@
 -- Assumes nothing.
 use borrow.Author.Rules.{rules}
 use borrow.Author.Count.{below_more}
-use Prim.Native.Nat.{ℕ, ◌-◌, ◌≤◌, ◌<◌}
 use mathlib.Core.Path.{◌≡◌, sym, ap, ◌∙◌}
-use mathlib.Core.Bool.{true}
 use native.Mathlib.Omega.{arith}
-use lib.Dec.{eqb}
 use lib.ListN.{length}
 use lib.Bits.{bit_xor}
-use Rattle.algebra.specs.Coded.{mul_byte}
-use Rattle.galois.specs.Degrees.{field_of}
 use Rattle.theorems.proofs.TestLaws.{eqb_same, eqb-other, first-at}
 use Rattle.strings.specs.Sums.{byte_at}
 use Rattle.questions.proofs.FirstLaws.{first-none}

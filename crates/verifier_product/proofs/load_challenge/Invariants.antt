@@ -1,12 +1,10 @@
 -- `verifier_product::load_challenge` meets its contract. Each element is changed once (`Elementwise`).
 -- Assumes nothing.
-use borrow.Author.Rules.{rules}
 use Prim.Native.Nat.{◌-◌, ◌≤◌}
-use mathlib.Core.Path.{◌≡◌, refl}
-use native.Mathlib.Omega.{arith}
-use lib.ListN.{length, length-set}
+use mathlib.Core.Path.{◌≡◌}
+use lib.ListN.{length}
 use Rattle.strings.specs.Sums.{byte_at}
-use Rattle.strings.proofs.Elementwise.{changed, changed_more, changed-at}
+use Rattle.strings.proofs.Elementwise.{changed}
 use Rattle.verifier_product.proofs.load_challenge.Given as goal
 
 abbrev pub invariant-loop-e : goal.invariant-loop-e

@@ -1,7 +1,6 @@
 -- `verifier_product::product_lanes` meets its contract: without the bits of a witness the middle coefficients are the
 -- linear parts.
 -- Assumes nothing.
-use borrow.Author.Rules.{rules}
 use Prim.Native.Nat.{ℕ, ◌+◌, ◌*◌, ◌<◌}
 use mathlib.Core.Path.{◌≡◌, refl, ap, ap₂, ◌∙◌}
 use native.Mathlib.Omega.{arith}

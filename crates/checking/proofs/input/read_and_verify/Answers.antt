@@ -5,7 +5,6 @@ use native.Mathlib.Omega.{arith}
 use Rattle.protocol.specs.Frames.{framed_length}
 use Rattle.protocol.specs.Check.{answered, lengths_in}
 use Rattle.sections.proofs.SectionLaws.{framed-length}
-use borrow.Author.Rules.{rules}
 use Rattle.checking.specs.Checked.{verify_parts}
 use Rattle.checking.proofs.OutcomeLaws.{too_long, not-framed, read_whole, was_no, was_yes}
 use mathlib.Core.Bool.{not}

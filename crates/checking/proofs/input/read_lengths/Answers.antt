@@ -3,12 +3,12 @@
 -- Assumes nothing.
 use mathlib.Core.Path.{◌≡◌, refl, sym, ap, ◌∙◌}
 use mathlib.Core.Bool.{false≢true}
-use Prim.Native.Nat.{◌-◌, ◌≤◌}
+use Prim.Native.Nat.{◌≤◌}
 use native.Mathlib.Omega.{arith}
 use borrow.Author.Rules.{rules}
-use lib.ListN.{length, take, drop, length-set}
+use lib.ListN.{length, length-set}
 use lib.Seq.{take_all}
-use Rattle.protocol.specs.Frames.{framed, framed_length}
+use Rattle.protocol.specs.Frames.{framed_length}
 use Rattle.protocol.specs.Check.{lengths_in}
 use Rattle.sections.proofs.SpanLaws.{found, not_found, found_inside}
 use Rattle.checking.proofs.LengthLaws.{turn_first, turn_missing, turn_next, turn_end, lengths_more, end_more}

@@ -1,17 +1,11 @@
 -- `checking::input::read_lengths` meets its contract. The loop's invariant: the lengths so far are those of the
 -- sections before `next`, and from there on the others have still to follow.
 -- Assumes nothing.
-use mathlib.Core.Path.{◌≡◌, refl, sym, ap, ◌∙◌}
-use mathlib.Core.Bool.{false≢true}
+use mathlib.Core.Path.{◌≡◌}
 use Prim.Native.Nat.{◌-◌, ◌≤◌}
-use native.Mathlib.Omega.{arith}
-use borrow.Author.Rules.{rules}
-use lib.ListN.{length, take, drop, length-set}
-use lib.Seq.{take_all}
+use lib.ListN.{length, take, drop}
 use Rattle.protocol.specs.Frames.{framed, framed_length}
 use Rattle.protocol.specs.Check.{lengths_in}
-use Rattle.sections.proofs.SpanLaws.{found, not_found, found_inside}
-use Rattle.checking.proofs.LengthLaws.{turn_first, turn_missing, turn_next, turn_end, lengths_more, end_more}
 use Rattle.checking.proofs.input.read_lengths.Given as goal
 
 abbrev pub invariant-loop-i : goal.invariant-loop-i

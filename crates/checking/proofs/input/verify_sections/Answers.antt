@@ -1,7 +1,6 @@
 -- `checking::input::verify_sections` meets its contract: each section is that of the definition.
 -- Assumes nothing.
 use mathlib.Core.Path.{◌∙◌}
-use borrow.Author.Rules.{rules}
 use Rattle.checking.proofs.OutcomeLaws.{same_answer}
 use Rattle.checking.proofs.input.verify_sections.Goals as goal
 

@@ -6,7 +6,6 @@ use native.Mathlib.Omega.{arith}
 use lib.Seq.{sets}
 use Rattle.protocol.specs.Check.{decimal}
 use Rattle.checking.proofs.LineLaws.{five-digits}
-use borrow.Author.Rules.{rules}
 use Rattle.checking.proofs.line.put_number.Goals as goal
 
 pub put_decimal-requires : goal.put_decimal-requires

@@ -5,7 +5,6 @@ use mathlib.Core.List.{◌++◌}
 use native.Mathlib.Omega.{arith}
 use lib.ListN.{length, drop, length-take}
 use Rattle.checking.proofs.LineLaws.{sets_first}
-use borrow.Author.Rules.{rules}
 use Rattle.checking.proofs.line.put_word.Goals as goal
 
 pub slice_bounds-copy_into-end-2 : goal.slice_bounds-copy_into-end-2

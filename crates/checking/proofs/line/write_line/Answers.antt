@@ -1,7 +1,6 @@
 -- `checking::line::write_line` meets its contract, case by case.
 -- Assumes nothing.
 use Rattle.protocol.specs.Check.{line_of}
-use borrow.Author.Rules.{rules}
 use Rattle.checking.proofs.line.write_line.Goals as goal
 
 pub returns-in-Unread : goal.returns-in-Unread

@@ -1,12 +1,11 @@
 -- `chunks::cells::copy_apart` meets its contract. The invariant: the parts below z are copied.
 -- Assumes nothing.
 use borrow.Author.Rules.{rules}
-use Prim.Native.Nat.{◌+◌, ◌*◌, ◌-◌, ◌≤◌}
+use Prim.Native.Nat.{◌+◌, ◌*◌}
 use mathlib.Core.Path.{◌≡◌, refl, ◌∙◌}
 use native.Mathlib.Omega.{arith}
-use lib.ListN.{length}
 use Rattle.strings.specs.Sums.{byte_at}
-use Rattle.strings.proofs.Rows.{RowsAre, rows_more, row-end}
+use Rattle.strings.proofs.Rows.{rows_more, row-end}
 use Rattle.chunks.proofs.cells.copy_apart.Goals as goal
 
 pub loop-z-init : goal.loop-z-init

@@ -1,12 +1,10 @@
 -- `chunks::cells::copy_apart` meets its contract. The invariant: the parts below z are copied.
 -- Assumes nothing.
-use borrow.Author.Rules.{rules}
 use Prim.Native.Nat.{◌+◌, ◌*◌, ◌-◌, ◌≤◌}
-use mathlib.Core.Path.{◌≡◌, refl, ◌∙◌}
-use native.Mathlib.Omega.{arith}
+use mathlib.Core.Path.{◌≡◌}
 use lib.ListN.{length}
 use Rattle.strings.specs.Sums.{byte_at}
-use Rattle.strings.proofs.Rows.{RowsAre, rows_more, row-end}
+use Rattle.strings.proofs.Rows.{RowsAre}
 use Rattle.chunks.proofs.cells.copy_apart.Given as goal
 
 abbrev pub invariant-loop-z : goal.invariant-loop-z

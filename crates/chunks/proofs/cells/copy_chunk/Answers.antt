@@ -1,13 +1,11 @@
 -- `chunks::cells::copy_chunk` meets its contract. Each element is changed once (`Elementwise`).
 -- Assumes nothing.
 use borrow.Author.Rules.{rules}
-use Prim.Native.Nat.{◌≤◌, ◌-◌}
-use mathlib.Core.Path.{◌≡◌, refl}
-use lib.ListN.{length, length-set}
+use mathlib.Core.Path.{refl}
+use lib.ListN.{length-set}
 use native.Mathlib.Omega.{arith}
 use Rattle.strings.specs.Sums.{byte_at}
 use Rattle.strings.proofs.Elementwise.{changed, changed_more, changed-all}
-use Rattle.chunks.specs.Chunks.{chunk}
 use Rattle.chunks.proofs.cells.copy_chunk.Goals as goal
 
 pub loop-e-init : goal.loop-e-init

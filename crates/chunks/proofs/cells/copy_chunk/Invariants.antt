@@ -1,12 +1,10 @@
 -- `chunks::cells::copy_chunk` meets its contract. Each element is changed once (`Elementwise`).
 -- Assumes nothing.
-use borrow.Author.Rules.{rules}
 use Prim.Native.Nat.{◌≤◌, ◌-◌}
-use mathlib.Core.Path.{◌≡◌, refl}
-use lib.ListN.{length, length-set}
-use native.Mathlib.Omega.{arith}
+use mathlib.Core.Path.{◌≡◌}
+use lib.ListN.{length}
 use Rattle.strings.specs.Sums.{byte_at}
-use Rattle.strings.proofs.Elementwise.{changed, changed_more, changed-all}
+use Rattle.strings.proofs.Elementwise.{changed}
 use Rattle.chunks.specs.Chunks.{chunk}
 use Rattle.chunks.proofs.cells.copy_chunk.Given as goal
 

@@ -1,13 +1,11 @@
 -- `chunks::cells::copy_front` meets its contract. Each element is changed once (`Elementwise`).
 -- Assumes nothing.
-use borrow.Author.Rules.{rules}
 use Prim.Native.Nat.{ℕ, ◌+◌, ◌≤◌, ◌-◌}
 use mathlib.Core.List.{List}
-use mathlib.Core.Path.{◌≡◌, refl, ap, ◌∙◌}
-use lib.ListN.{length, length-set}
-use native.Mathlib.Omega.{arith}
+use mathlib.Core.Path.{◌≡◌}
+use lib.ListN.{length}
 use Rattle.strings.specs.Sums.{byte_at}
-use Rattle.strings.proofs.Elementwise.{changed, changed_more, changed-at, changed-past}
+use Rattle.strings.proofs.Elementwise.{changed}
 use Rattle.chunks.proofs.cells.copy_front.Given as goal
 
 abbrev pub change : List ℕ → ℕ → ℕ → ℕ → ℕ

@@ -1,11 +1,9 @@
 -- `chunks::masks::fill` meets its contract. Each element is changed once (`Elementwise`).
 -- Assumes nothing.
-use borrow.Author.Rules.{rules}
 use Prim.Native.Nat.{ℕ, ◌≤◌, ◌-◌}
-use mathlib.Core.Path.{◌≡◌, refl}
-use lib.ListN.{length, length-set}
-use native.Mathlib.Omega.{arith}
-use Rattle.strings.proofs.Elementwise.{changed, changed_more, changed-all}
+use mathlib.Core.Path.{◌≡◌}
+use lib.ListN.{length}
+use Rattle.strings.proofs.Elementwise.{changed}
 use Rattle.chunks.proofs.masks.fill.Given as goal
 
 abbrev pub invariant-loop-f : goal.invariant-loop-f

@@ -1,14 +1,11 @@
 -- `chunks::masks::fill_mask` meets its contract. Each element is changed once (`Elementwise`).
 -- Assumes nothing.
 use borrow.Author.Rules.{rules}
-use Prim.Native.Nat.{ℕ, ◌*◌, ◌≤◌, ◌-◌}
-use mathlib.Core.List.{List}
-use mathlib.Core.Path.{◌≡◌, refl}
-use lib.ListN.{length, length-set}
+use mathlib.Core.Path.{refl}
+use lib.ListN.{length-set}
 use native.Mathlib.Omega.{arith}
-use Rattle.strings.specs.Sums.{byte_at, bit_of}
+use Rattle.strings.specs.Sums.{bit_of}
 use Rattle.strings.proofs.Elementwise.{changed, changed_more, changed-all}
-use Rattle.chunks.specs.Chunks.{chunk}
 use Rattle.chunks.proofs.masks.fill_mask.Invariants.{change}
 use Rattle.chunks.proofs.masks.fill_mask.Goals as goal
 

@@ -1,12 +1,10 @@
 -- `chunks::masks::fill_masks` meets its contract. The invariant: the masks below b are filled.
 -- Assumes nothing.
-use borrow.Author.Rules.{rules}
 use Prim.Native.Nat.{◌*◌, ◌-◌, ◌≤◌}
-use mathlib.Core.Path.{◌≡◌, ◌∙◌}
-use native.Mathlib.Omega.{arith}
+use mathlib.Core.Path.{◌≡◌}
 use lib.ListN.{length}
 use Rattle.strings.specs.Sums.{byte_at, bit_of}
-use Rattle.strings.proofs.Rows.{RowsAre, rows_more}
+use Rattle.strings.proofs.Rows.{RowsAre}
 use Rattle.chunks.specs.Chunks.{chunk}
 use Rattle.chunks.proofs.masks.fill_masks.Given as goal
 

@@ -12,7 +12,7 @@ use lib.ListN.{length, take, drop, length-take, get_or-replicate, get_or-append}
 use lib.Seq.{length-take-le, get_or-take}
 use lib.Bits.{bit_xor, xor_zero_l}
 use lib.Pow.{pow-add, pow_mono, pow_pos}
-use Rattle.strings.specs.Sums.{byte_at, bit_of, xor_sum}
+use Rattle.strings.specs.Sums.{byte_at}
 use Rattle.strings.proofs.Rows.{row-end}
 use Rattle.strings.proofs.SumLaws.{sum_same, sum-none}
 use Rattle.strings.proofs.Meaning.{bitOf_zero}

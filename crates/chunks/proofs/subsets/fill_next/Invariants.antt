@@ -1,18 +1,11 @@
 -- `chunks::subsets::fill_next` meets its contract. The invariant: the entries below v are made, and what they are made
 -- of is as it was.
 -- Assumes nothing.
-use borrow.Author.Rules.{rules}
 use Prim.Native.Nat.{ℕ, ◌+◌, ◌*◌, ◌-◌, ◌≤◌, ◌<◌}
-use mathlib.Core.Logic.{⊎_elim}
-use mathlib.Core.Path.{◌≡◌, refl, sym, ap, ◌∙◌}
-use native.Mathlib.Nat.{eq-or-lt_of_le, le_of_suc-le-suc}
-use native.Mathlib.Numerals.{add-one}
-use native.Mathlib.Omega.{arith}
+use mathlib.Core.Path.{◌≡◌}
 use lib.ListN.{length}
 use lib.Bits.{bit_xor}
 use Rattle.strings.specs.Sums.{byte_at}
-use Rattle.strings.proofs.Rows.{row-end}
-use Rattle.chunks.proofs.PrefixLaws.{rows_le}
 use Rattle.chunks.proofs.subsets.fill_next.Given as goal
 
 abbrev pub invariant-loop-v : goal.invariant-loop-v

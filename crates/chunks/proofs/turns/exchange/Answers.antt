@@ -1,11 +1,9 @@
 -- `chunks::turns::exchange` meets its contract. The invariant: the first j bytes of each half are exchanged.
 -- Assumes nothing.
 use borrow.Author.Rules.{rules}
-use Prim.Native.Nat.{◌-◌, ◌≤◌}
 use mathlib.Core.Path.{◌≡◌, refl}
 use native.Mathlib.Omega.{arith}
-use lib.ListN.{length, length-set}
-use Rattle.chunks.specs.Turns.{Exchanged}
+use lib.ListN.{length-set}
 use Rattle.chunks.proofs.PassLaws.{exchanged_more}
 use Rattle.chunks.proofs.turns.exchange.Goals as goal
 

@@ -1,12 +1,9 @@
 -- `chunks::turns::exchange` meets its contract. The invariant: the first j bytes of each half are exchanged.
 -- Assumes nothing.
-use borrow.Author.Rules.{rules}
 use Prim.Native.Nat.{◌-◌, ◌≤◌}
-use mathlib.Core.Path.{◌≡◌, refl}
-use native.Mathlib.Omega.{arith}
-use lib.ListN.{length, length-set}
+use mathlib.Core.Path.{◌≡◌}
+use lib.ListN.{length}
 use Rattle.chunks.specs.Turns.{Exchanged}
-use Rattle.chunks.proofs.PassLaws.{exchanged_more}
 use Rattle.chunks.proofs.turns.exchange.Given as goal
 
 abbrev pub invariant-loop-j : goal.invariant-loop-j

@@ -1,11 +1,9 @@
 -- `chunks::turns::merge` meets its contract. The invariant: the first 2j bytes are merged.
 -- Assumes nothing.
 use borrow.Author.Rules.{rules}
-use Prim.Native.Nat.{ℕ, ◌+◌, ◌*◌, ◌-◌, ◌/◌, ◌%◌, ◌≤◌, ◌<◌}
 use mathlib.Core.Path.{◌≡◌, refl}
 use native.Mathlib.Omega.{arith}
-use lib.ListN.{length, length-set}
-use Rattle.strings.specs.Sums.{byte_at}
+use lib.ListN.{length-set}
 use Rattle.chunks.proofs.PassLaws.{merged_more}
 use Rattle.chunks.proofs.turns.merge.Goals as goal
 

@@ -1,6 +1,5 @@
 -- `chunks::turns::one_pass` meets its contract: an exchange, merged.
 -- Assumes nothing.
-use borrow.Author.Rules.{rules}
 use Rattle.chunks.proofs.PassLaws.{pass_is}
 use Rattle.chunks.proofs.turns.one_pass.Goals as goal
 

@@ -1,6 +1,5 @@
 -- `chunks::turns::part` meets its contract, by the law of four merges.
 -- Assumes nothing.
-use borrow.Author.Rules.{rules}
 use Rattle.chunks.proofs.TurnLaws.{four_merges}
 use Rattle.chunks.proofs.turns.part.Goals as goal
 

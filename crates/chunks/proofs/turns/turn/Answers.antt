@@ -1,6 +1,5 @@
 -- `chunks::turns::turn` meets its contract by its three passes.
 -- Assumes nothing.
-use borrow.Author.Rules.{rules}
 use mathlib.Core.Path.{refl}
 use mathlib.Core.Logic.{inl, inr}
 use native.Mathlib.Omega.{arith}

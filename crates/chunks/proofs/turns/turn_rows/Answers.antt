@@ -1,6 +1,5 @@
 -- `chunks::turns::turn_rows` meets its contract: what is turned is a copy of the rows.
 -- Assumes nothing.
-use borrow.Author.Rules.{rules}
 use Rattle.chunks.proofs.TurnLaws.{turned-at}
 use Rattle.chunks.proofs.turns.turn_rows.Goals as goal
 

@@ -1,11 +1,8 @@
 -- `field::Gf256::multiply` meets its contract. The invariant: the sum and what the turns that are left still add are
 -- the product.
 -- Assumes nothing.
-use borrow.Author.Rules.{rules}
 use mathlib.Core.Path.{subst}
 use native.Mathlib.Nat.{mod-eq_of_lt}
-use Rattle.algebra.specs.Bits.{Bits, elem}
-use Rattle.galois.specs.Gf256.{modulus}
 use Rattle.field.proofs.ProductLaws.{Product, product_start, product-step, product-end}
 use Rattle.field.proofs.Gf256.multiply.Invariants.{m}
 use Rattle.field.proofs.Gf256.multiply.Goals as goal

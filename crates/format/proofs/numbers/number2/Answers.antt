@@ -1,7 +1,6 @@
 -- `format::numbers::number2` meets its contract. The bytes are read as the definition adds them.
 -- Assumes nothing.
 use native.Mathlib.Omega.{arith}
-use borrow.Author.Rules.{rules}
 use Rattle.protocol.specs.Frames.{num2}
 use Rattle.format.proofs.numbers.number2.Goals as goal
 

@@ -1,7 +1,6 @@
 -- `format::numbers::number4` meets its contract. Two numbers of two bytes.
 -- Assumes nothing.
 use native.Mathlib.Omega.{arith}
-use borrow.Author.Rules.{rules}
 use Rattle.protocol.specs.Frames.{num4}
 use Rattle.format.proofs.numbers.number4.Goals as goal
 

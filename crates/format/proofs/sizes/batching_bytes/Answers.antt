@@ -1,7 +1,6 @@
 -- `format::sizes::batching_bytes` meets its contract. The product fits by the limits.
 -- Assumes nothing.
 use native.Mathlib.Omega.{arith}
-use borrow.Author.Rules.{rules}
 use Rattle.format.specs.Sizes.{shape_for}
 use Rattle.format.proofs.SizeLaws.{batching_most}
 use Rattle.format.proofs.sizes.batching_bytes.Goals as goal

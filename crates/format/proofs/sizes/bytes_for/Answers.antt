@@ -1,7 +1,6 @@
 -- `format::sizes::bytes_for` meets its contract. It is the definition.
 -- Assumes nothing.
 use mathlib.Core.Path.{refl}
-use borrow.Author.Rules.{rules}
 use Rattle.protocol.specs.Strings.{bytes_for}
 use Rattle.format.proofs.sizes.bytes_for.Goals as goal
 

@@ -1,7 +1,6 @@
 -- `format::sizes::commit_lengths` meets its contract. The product fits by the limits.
 -- Assumes nothing.
 use native.Mathlib.Omega.{arith}
-use borrow.Author.Rules.{rules}
 use Rattle.protocol.specs.Sections.{commit_lengths}
 use Rattle.format.specs.Sizes.{setting_for, shape_for}
 use Rattle.format.proofs.SizeLaws.{in-limits, corrections_most}

@@ -1,6 +1,5 @@
 -- `format::sizes::degree_of` meets its contract.
 -- Assumes nothing.
-use borrow.Author.Rules.{rules}
 use Rattle.galois.specs.Degrees.{degree_of}
 use Rattle.galois.proofs.DegreeLaws.{degree-most}
 use Rattle.format.proofs.sizes.degree_of.Goals as goal

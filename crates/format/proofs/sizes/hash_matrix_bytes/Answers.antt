@@ -1,7 +1,6 @@
 -- `format::sizes::hash_matrix_bytes` meets its contract. The product fits by the limits.
 -- Assumes nothing.
 use native.Mathlib.Omega.{arith}
-use borrow.Author.Rules.{rules}
 use Rattle.format.specs.Sizes.{setting_for, shape_for}
 use Rattle.format.proofs.SizeLaws.{k-most, hash_matrix_most}
 use Rattle.format.proofs.sizes.hash_matrix_bytes.Goals as goal

@@ -1,7 +1,6 @@
 -- `format::sizes::hashed_bits` meets its contract. Product and sum fit by the limits.
 -- Assumes nothing.
 use native.Mathlib.Omega.{arith}
-use borrow.Author.Rules.{rules}
 use Rattle.protocol.specs.Shape.{k_of}
 use Rattle.format.specs.Sizes.{setting_for, shape_for}
 use Rattle.format.proofs.SizeLaws.{in-limits, masks-most}

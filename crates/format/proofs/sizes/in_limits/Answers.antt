@@ -1,6 +1,5 @@
 -- `format::sizes::in_limits` meets its contract. Each size is tested against its own limit.
 -- Assumes nothing.
-use borrow.Author.Rules.{rules}
 use Rattle.protocol.specs.Shape.{limits}
 use Rattle.format.proofs.AllLaws.{all-four}
 use Rattle.format.proofs.sizes.in_limits.Goals as goal

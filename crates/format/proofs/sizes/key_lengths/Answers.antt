@@ -1,7 +1,6 @@
 -- `format::sizes::key_lengths` meets its contract. The products fit by the limits.
 -- Assumes nothing.
 use native.Mathlib.Omega.{arith}
-use borrow.Author.Rules.{rules}
 use Rattle.protocol.specs.Key.{key_lengths}
 use Rattle.format.specs.Sizes.{shape_for}
 use Rattle.format.proofs.SizeLaws.{in-limits, matrix_rows_most, matrices-most, linear-most}

@@ -1,7 +1,6 @@
 -- `format::sizes::leaf_bits` meets its contract. The sum fits by the limits.
 -- Assumes nothing.
 use native.Mathlib.Omega.{arith}
-use borrow.Author.Rules.{rules}
 use Rattle.protocol.specs.Shape.{l_of}
 use Rattle.format.specs.Sizes.{setting_for, shape_for}
 use Rattle.format.proofs.SizeLaws.{in-limits, k-most}

@@ -1,7 +1,6 @@
 -- `format::sizes::leaf_bytes` meets its contract. The bits fit by the limits.
 -- Assumes nothing.
 use native.Mathlib.Omega.{arith}
-use borrow.Author.Rules.{rules}
 use Rattle.protocol.specs.Shape.{w_of}
 use Rattle.format.specs.Sizes.{setting_for, shape_for}
 use Rattle.format.proofs.SizeLaws.{l_most}

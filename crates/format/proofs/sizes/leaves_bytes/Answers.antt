@@ -1,7 +1,6 @@
 -- `format::sizes::leaves_bytes` meets its contract. The products fit by the limits.
 -- Assumes nothing.
 use native.Mathlib.Omega.{arith}
-use borrow.Author.Rules.{rules}
 use Rattle.format.specs.Sizes.{setting_for, shape_for}
 use Rattle.format.proofs.SizeLaws.{trees_most, leaves-most}
 use Rattle.format.proofs.sizes.leaves_bytes.Goals as goal

@@ -1,7 +1,6 @@
 -- `format::sizes::mask_at` meets its contract. Product and sum fit, as what is asked for does.
 -- Assumes nothing.
 use native.Mathlib.Omega.{arith}
-use borrow.Author.Rules.{rules}
 use Rattle.protocol.specs.Shape.{mask_at}
 use Rattle.format.proofs.sizes.mask_at.Goals as goal
 

@@ -1,6 +1,5 @@
 -- `format::sizes::proof_lengths` meets its contract. Those of the three steps, one after the other.
 -- Assumes nothing.
-use borrow.Author.Rules.{rules}
 use Rattle.protocol.specs.Sections.{lengths, commit_lengths, hash_lengths}
 use Rattle.format.proofs.sizes.proof_lengths.Goals as goal
 

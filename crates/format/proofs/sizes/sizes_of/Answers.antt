@@ -2,7 +2,6 @@
 -- Assumes nothing.
 use mathlib.Core.Path.{refl}
 use native.Mathlib.Omega.{arith}
-use borrow.Author.Rules.{rules}
 use Rattle.format.proofs.sizes.sizes_of.Goals as goal
 
 pub returns-then-key-lt-HEADER : goal.returns-then-key-lt-HEADER

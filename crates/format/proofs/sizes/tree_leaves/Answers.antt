@@ -1,9 +1,6 @@
 -- `format::sizes::tree_leaves` meets its contract.
 -- Assumes nothing.
 use native.Mathlib.Omega.{arith}
-use borrow.Author.Rules.{rules}
-use Rattle.algebra.specs.Field.{Field}
-use Rattle.algebra.specs.Coded.{Coded}
 use Rattle.galois.specs.Degrees.{field_of, size_of}
 use Rattle.galois.proofs.DegreeLaws.{size-most}
 use Rattle.protocol.specs.Shape.{per_tree}

@@ -1,7 +1,6 @@
 -- `format::sizes::witness_bytes` meets its contract. The bits fit by the limits.
 -- Assumes nothing.
 use native.Mathlib.Omega.{arith}
-use borrow.Author.Rules.{rules}
 use Rattle.format.specs.Sizes.{shape_for}
 use Rattle.format.proofs.SizeLaws.{in-limits}
 use Rattle.format.proofs.sizes.witness_bytes.Goals as goal

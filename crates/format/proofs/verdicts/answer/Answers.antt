@@ -1,6 +1,5 @@
 -- `format::verdicts::answer` meets its contract: the question gets a no where a repetition fails, and else a yes.
 -- Assumes nothing.
-use borrow.Author.Rules.{rules}
 use mathlib.Core.List.{[]}
 use native.Mathlib.Omega.{arith}
 use lib.Dec.{leb}

@@ -1,9 +1,6 @@
 -- `format::words::word_of` meets its contract, case by case.
 -- Assumes nothing.
-use mathlib.Core.Path.{sym, ap}
-use borrow.Author.Rules.{rules}
 use Rattle.protocol.specs.Answers.{word}
-use Rattle.format.specs.Verdict.{answer_of}
 use Rattle.format.proofs.words.word_of.Goals as goal
 
 pub returns-in-Accepted : goal.returns-in-Accepted

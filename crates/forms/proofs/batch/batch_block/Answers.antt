@@ -1,7 +1,6 @@
 -- `forms::batch::batch_block` meets its contract: the words of what the batching bytes choose, the lines, and the forms
 -- of the batched matrix with the lines (`BatchLaws`).
 -- Assumes nothing.
-use borrow.Author.Rules.{rules}
 use Prim.Native.Nat.{ℕ, ◌+◌, ◌*◌, ◌^◌, ◌<◌}
 use mathlib.Core.Path.{refl, ap, ap₂, ◌∙◌}
 use native.Mathlib.Omega.{arith}

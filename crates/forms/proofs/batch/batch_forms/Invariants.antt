@@ -1,25 +1,17 @@
 -- `forms::batch::batch_forms` meets its contract. The invariant: the equations below `from` are added (`BlockSums`).
 -- Assumes nothing.
-use borrow.Author.Rules.{rules}
-use Prim.Native.Nat.{ℕ, ◌+◌, ◌*◌, ◌-◌, ◌/◌, ◌≤◌, ◌<◌}
+use Prim.Native.Nat.{ℕ, ◌+◌, ◌*◌, ◌-◌, ◌≤◌, ◌<◌}
 use mathlib.Core.List.{List}
-use mathlib.Core.Path.{◌≡◌, refl, sym, ap, ap₂, ◌∙◌}
-use native.Mathlib.Nat.{mul-le-mul}
-use native.Mathlib.Omega.{arith}
+use mathlib.Core.Path.{◌≡◌}
 use lib.ListN.{length}
-use lib.Bits.{bit_xor, xor_zero_r}
+use lib.Bits.{bit_xor}
 use Rattle.algebra.specs.Coded.{mul_byte}
 use Rattle.galois.specs.Degrees.{field_of}
-use Rattle.protocol.specs.Strings.{bytes_for}
 use Rattle.strings.specs.Sums.{byte_at, xor_sum}
 use Rattle.lanes.specs.Lanes.{lanes}
 use Rattle.forms_columns.specs.Stacks.{coordinate_of}
-use Rattle.strings.proofs.LeastLaws.{under_least}
-use Rattle.chunks.specs.Chunks.{most_block}
 use Rattle.equations.specs.Equations.{row_of, matrix_of}
 use Rattle.forms.specs.Forms.{form_byte, middle_byte}
-use Rattle.forms.specs.Batch.{block_forms, block_middles}
-use Rattle.forms.proofs.BlockSums.{part-inside, sums_more, forms-part, middles_part}
 use Rattle.forms.proofs.batch.batch_forms.Given as goal
 
 -- what equation i adds in repetition e

@@ -1,17 +1,12 @@
 -- `forms::batch::put_lines` meets its contract. The invariant: the bytes of the first g tables are there.
 -- Assumes nothing.
-use borrow.Author.Rules.{rules}
-use Prim.Native.Nat.{ℕ, ◌+◌, ◌*◌, ◌-◌, ◌/◌, ◌%◌, ◌≤◌, ◌<◌}
+use Prim.Native.Nat.{ℕ, ◌+◌, ◌*◌, ◌-◌, ◌<◌}
 use mathlib.Core.List.{List}
-use mathlib.Core.Path.{◌≡◌, refl, ap, ◌∙◌}
-use native.Mathlib.Nat.{mul_assoc}
-use native.Mathlib.Decide.{dec_lt}
-use native.Mathlib.Omega.{arith}
+use mathlib.Core.Path.{◌≡◌}
 use lib.ListN.{length}
 use Rattle.strings.specs.Sums.{byte_at}
-use Rattle.strings.proofs.Rows.{row-end}
-use Rattle.chunks.specs.Chunks.{chunk, cell_at}
-use Rattle.forms_batching.specs.Lines.{lines_tables, line_byte}
+use Rattle.chunks.specs.Chunks.{chunk}
+use Rattle.forms_batching.specs.Lines.{line_byte}
 use Rattle.forms.proofs.batch.put_lines.Given as goal
 
 -- the lines have the bytes of their first g tables

@@ -2,16 +2,16 @@
 -- columns, and all else is as it was.
 -- Assumes nothing.
 use borrow.Author.Rules.{rules}
-use Prim.Native.Nat.{ℕ, ◌+◌, ◌*◌, ◌-◌, ◌/◌, ◌%◌, ◌≤◌}
+use Prim.Native.Nat.{ℕ, ◌+◌, ◌*◌, ◌/◌, ◌%◌}
 use mathlib.Core.List.{List}
 use mathlib.Core.Path.{◌≡◌, refl, ap, ap₂, ◌∙◌}
 use native.Mathlib.Omega.{arith}
-use lib.ListN.{length, set, length-set}
+use lib.ListN.{set, length-set}
 use lib.Bits.{bit_xor}
 use Rattle.strings.specs.Sums.{byte_at, xor_sum}
 use Rattle.strings.proofs.SumLaws.{sum_same}
-use Rattle.chunks.specs.Chunks.{chunk, cell_at}
-use Rattle.forms_batching.proofs.LineLaws.{table-end, PanelAdded, panel_more}
+use Rattle.chunks.specs.Chunks.{chunk}
+use Rattle.forms_batching.proofs.LineLaws.{table-end, panel_more}
 use Rattle.forms_batching.proofs.lines.add_each.Invariants.{half}
 use Rattle.forms_batching.proofs.lines.add_each.Goals as goal
 

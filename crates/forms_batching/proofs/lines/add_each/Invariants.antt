@@ -1,17 +1,13 @@
 -- `forms_batching::lines::add_each` meets its contract. The invariant: the lines below i are added to at the panel's
 -- columns, and all else is as it was.
 -- Assumes nothing.
-use borrow.Author.Rules.{rules}
-use Prim.Native.Nat.{ℕ, ◌+◌, ◌*◌, ◌-◌, ◌/◌, ◌%◌, ◌≤◌}
+use Prim.Native.Nat.{ℕ, ◌+◌, ◌*◌, ◌-◌, ◌≤◌}
 use mathlib.Core.List.{List}
-use mathlib.Core.Path.{◌≡◌, refl, ap, ap₂, ◌∙◌}
-use native.Mathlib.Omega.{arith}
-use lib.ListN.{length, set, length-set}
-use lib.Bits.{bit_xor}
-use Rattle.strings.specs.Sums.{byte_at, xor_sum}
-use Rattle.strings.proofs.SumLaws.{sum_same}
-use Rattle.chunks.specs.Chunks.{chunk, cell_at}
-use Rattle.forms_batching.proofs.LineLaws.{table-end, PanelAdded, panel_more}
+use mathlib.Core.Path.{◌≡◌}
+use lib.ListN.{length}
+use Rattle.strings.specs.Sums.{xor_sum}
+use Rattle.chunks.specs.Chunks.{cell_at}
+use Rattle.forms_batching.proofs.LineLaws.{PanelAdded}
 use Rattle.forms_batching.proofs.lines.add_each.Given as goal
 
 -- the sum of half h of chunk i

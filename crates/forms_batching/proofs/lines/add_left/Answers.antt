@@ -1,7 +1,6 @@
 -- `forms_batching::lines::add_left` meets its contract: where the polar form is not asked for, nothing is added. What
 -- is added is `LineLaws`.
 -- Assumes nothing.
-use borrow.Author.Rules.{rules}
 use Prim.Native.Nat.{ℕ, ◌+◌, ◌*◌}
 use mathlib.Core.Bool.{true≢false}
 use mathlib.Core.Path.{refl, sym, ap, ◌∙◌}

@@ -2,8 +2,7 @@
 -- tables are added, those from the n-th on as 0.
 -- Assumes nothing.
 use borrow.Author.Rules.{rules}
-use Prim.Native.Nat.{ℕ, ◌+◌, ◌*◌, ◌-◌, ◌≤◌, ◌<◌}
-use mathlib.Core.List.{List}
+use Prim.Native.Nat.{ℕ, ◌+◌, ◌*◌, ◌≤◌, ◌<◌}
 use mathlib.Core.Path.{◌≡◌, sym, ap, ap₂, ◌∙◌}
 use native.Mathlib.Omega.{arith}
 use lib.ListN.{length}
@@ -14,12 +13,10 @@ use Rattle.strings.specs.Sums.{byte_at, xor_sum}
 use Rattle.strings.proofs.Rows.{row-end}
 use Rattle.strings.proofs.XorLaws.{xor_assoc}
 use Rattle.strings.proofs.SumLaws.{sum_same, sum_parts}
-use Rattle.lanes.specs.Lanes.{lanes}
 use Rattle.chunks.specs.Chunks.{chunk}
-use Rattle.forms_choices.specs.Entries.{Tabled, up_to, IsBytes, ChosenAll}
+use Rattle.forms_choices.specs.Entries.{Tabled, up_to}
 use Rattle.forms_columns.specs.Stacks.{byte_product}
 use Rattle.forms_columns.proofs.ProductLaws.{product-zero}
-use Rattle.forms_batching.specs.Batched.{SumsRoom}
 use Rattle.forms_batching.specs.Lines.{chunk_bits, lines_tables, line_sum}
 use Rattle.forms_batching.proofs.LineLaws.{weighed-rows, line-sum, products-table, products-all}
 use Rattle.forms_batching.proofs.lines.add_lines.Invariants.{term}

@@ -1,27 +1,18 @@
 -- `forms_batching::lines::add_lines` meets its contract. The invariant: the products of the coordinates of the first g
 -- tables are added, those from the n-th on as 0.
 -- Assumes nothing.
-use borrow.Author.Rules.{rules}
-use Prim.Native.Nat.{ℕ, ◌+◌, ◌*◌, ◌-◌, ◌≤◌, ◌<◌}
+use Prim.Native.Nat.{ℕ, ◌+◌, ◌*◌, ◌-◌, ◌<◌}
 use mathlib.Core.List.{List}
-use mathlib.Core.Path.{◌≡◌, sym, ap, ap₂, ◌∙◌}
-use native.Mathlib.Omega.{arith}
+use mathlib.Core.Path.{◌≡◌}
 use lib.ListN.{length}
-use lib.Bits.{bit_xor, xor_zero_r}
-use Rattle.protocol.specs.Lists.{block_at}
+use lib.Bits.{bit_xor}
 use Rattle.protocol.specs.Shape.{most_variables}
 use Rattle.strings.specs.Sums.{byte_at, xor_sum}
-use Rattle.strings.proofs.Rows.{row-end}
-use Rattle.strings.proofs.XorLaws.{xor_assoc}
-use Rattle.strings.proofs.SumLaws.{sum_same, sum_parts}
 use Rattle.lanes.specs.Lanes.{lanes}
-use Rattle.chunks.specs.Chunks.{chunk}
-use Rattle.forms_choices.specs.Entries.{Tabled, up_to, IsBytes, ChosenAll}
+use Rattle.forms_choices.specs.Entries.{up_to, IsBytes, ChosenAll}
 use Rattle.forms_columns.specs.Stacks.{byte_product}
-use Rattle.forms_columns.proofs.ProductLaws.{product-zero}
 use Rattle.forms_batching.specs.Batched.{SumsRoom}
-use Rattle.forms_batching.specs.Lines.{chunk_bits, lines_tables, line_sum}
-use Rattle.forms_batching.proofs.LineLaws.{weighed-rows, line-sum, products-table, products-all}
+use Rattle.forms_batching.specs.Lines.{chunk_bits, line_sum}
 use Rattle.forms_batching.proofs.lines.add_lines.Given as goal
 
 -- what coordinate c gives

@@ -1,16 +1,13 @@
 -- `forms_batching::lines::add_masked` meets its contract. The invariant: the first f bytes of each half are added.
 -- Assumes nothing.
-use borrow.Author.Rules.{rules}
 use Prim.Native.Nat.{ℕ, ◌+◌, ◌-◌, ◌%◌, ◌≤◌}
 use mathlib.Core.List.{List}
-use mathlib.Core.Path.{◌≡◌, refl, sym, ap, ap₂}
-use native.Mathlib.Nat.{add_assoc}
-use native.Mathlib.Omega.{arith}
-use lib.ListN.{length, set, length-set}
-use lib.Bits.{bit_xor, bit_and}
+use mathlib.Core.Path.{◌≡◌}
+use lib.ListN.{length}
+use lib.Bits.{bit_and}
 use Rattle.strings.specs.Sums.{byte_at}
 use Rattle.chunks.specs.Chunks.{chunk}
-use Rattle.chunks.proofs.HalfLaws.{Halves, halves_more}
+use Rattle.chunks.proofs.HalfLaws.{Halves}
 use Rattle.forms_batching.proofs.lines.add_masked.Given as goal
 
 -- what is added to byte k

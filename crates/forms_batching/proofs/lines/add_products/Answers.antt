@@ -2,21 +2,16 @@
 -- added, and the other places are as they were.
 -- Assumes nothing.
 use borrow.Author.Rules.{rules}
-use Prim.Native.Nat.{ℕ, ◌*◌, ◌-◌, ◌≤◌, ◌<◌}
-use mathlib.Core.List.{List}
+use Prim.Native.Nat.{◌<◌}
 use mathlib.Core.Logic.{⊎_elim}
 use mathlib.Core.Path.{◌≡◌, refl, ap₂, ◌∙◌}
 use native.Mathlib.Nat.{eq-or-lt_of_le, le_of_suc-le-suc}
 use native.Mathlib.Numerals.{add-one}
 use native.Mathlib.Omega.{arith}
-use lib.ListN.{length, length-set}
+use lib.ListN.{length-set}
 use lib.Seq.{get_or-set_same, get_or-set_other}
 use lib.Bits.{bit_xor}
 use Rattle.strings.specs.Sums.{byte_at}
-use Rattle.lanes.specs.Lanes.{lanes}
-use Rattle.forms_choices.specs.Entries.{Weighed}
-use Rattle.forms_batching.specs.Lines.{weighed_line, line_product}
-use Rattle.forms_batching.proofs.lines.add_products.Invariants.{term}
 use Rattle.forms_batching.proofs.lines.add_products.Goals as goal
 
 pub loop-e-init : goal.loop-e-init

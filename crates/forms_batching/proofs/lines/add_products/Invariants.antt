@@ -1,16 +1,10 @@
 -- `forms_batching::lines::add_products` meets its contract. The invariant: the products of the repetitions below e are
 -- added, and the other places are as they were.
 -- Assumes nothing.
-use borrow.Author.Rules.{rules}
 use Prim.Native.Nat.{ℕ, ◌*◌, ◌-◌, ◌≤◌, ◌<◌}
 use mathlib.Core.List.{List}
-use mathlib.Core.Logic.{⊎_elim}
-use mathlib.Core.Path.{◌≡◌, refl, ap₂, ◌∙◌}
-use native.Mathlib.Nat.{eq-or-lt_of_le, le_of_suc-le-suc}
-use native.Mathlib.Numerals.{add-one}
-use native.Mathlib.Omega.{arith}
-use lib.ListN.{length, length-set}
-use lib.Seq.{get_or-set_same, get_or-set_other}
+use mathlib.Core.Path.{◌≡◌}
+use lib.ListN.{length}
 use lib.Bits.{bit_xor}
 use Rattle.strings.specs.Sums.{byte_at}
 use Rattle.lanes.specs.Lanes.{lanes}

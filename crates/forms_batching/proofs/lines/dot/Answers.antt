@@ -1,6 +1,5 @@
 -- `forms_batching::lines::dot` meets its contract: the field is that of the branch.
 -- Assumes nothing.
-use borrow.Author.Rules.{rules}
 use mathlib.Core.Path.{sym, ap, ◌∙◌}
 use Rattle.algebra.specs.Coded.{Coded}
 use Rattle.galois.proofs.DegreeLaws.{field_four, field_other}

@@ -2,14 +2,10 @@
 -- added.
 -- Assumes nothing.
 use borrow.Author.Rules.{rules}
-use Prim.Native.Nat.{ℕ, ◌-◌, ◌≤◌}
-use mathlib.Core.List.{List}
 use mathlib.Core.Path.{◌≡◌, refl, sym, ap₂, ◌∙◌}
 use native.Mathlib.Omega.{arith}
 use lib.Bits.{bit_xor}
-use Rattle.algebra.specs.Coded.{mul_byte}
-use Rattle.galois.specs.Gf256.{gf256}
-use Rattle.strings.specs.Sums.{byte_at, xor_sum}
+use Rattle.strings.specs.Sums.{xor_sum}
 use Rattle.strings.proofs.SumLaws.{sum_more}
 use Rattle.forms_batching.proofs.lines.dot_bytes.Invariants.{term}
 use Rattle.forms_batching.proofs.lines.dot_bytes.Goals as goal

@@ -1,16 +1,12 @@
 -- `forms_batching::lines::dot_bytes` meets its contract. The invariant: the products of the coordinates below c are
 -- added.
 -- Assumes nothing.
-use borrow.Author.Rules.{rules}
 use Prim.Native.Nat.{ℕ, ◌-◌, ◌≤◌}
 use mathlib.Core.List.{List}
-use mathlib.Core.Path.{◌≡◌, refl, sym, ap₂, ◌∙◌}
-use native.Mathlib.Omega.{arith}
-use lib.Bits.{bit_xor}
+use mathlib.Core.Path.{◌≡◌}
 use Rattle.algebra.specs.Coded.{mul_byte}
 use Rattle.galois.specs.Gf256.{gf256}
 use Rattle.strings.specs.Sums.{byte_at, xor_sum}
-use Rattle.strings.proofs.SumLaws.{sum_more}
 use Rattle.forms_batching.proofs.lines.dot_bytes.Given as goal
 
 abbrev pub term : List ℕ → List ℕ → ℕ → ℕ

@@ -1,7 +1,6 @@
 -- `forms_batching::lines::look_up_plane` meets its contract. The part that was lent is plane p, and the others stand
 -- outside it.
 -- Assumes nothing.
-use borrow.Author.Rules.{rules}
 use Prim.Native.Nat.{◌+◌, ◌*◌, ◌-◌, ◌≤◌}
 use mathlib.Core.Path.{◌≡◌, ◌∙◌}
 use native.Mathlib.Nat.{add-sub_cancel_left}

@@ -1,14 +1,10 @@
 -- `forms_batching::lines::look_up_planes` meets its contract. The invariant: the planes below p are looked up.
 -- Assumes nothing.
 use borrow.Author.Rules.{rules}
-use Prim.Native.Nat.{ℕ, ◌+◌, ◌-◌, ◌≤◌}
-use mathlib.Core.List.{List}
 use mathlib.Core.Path.{◌≡◌, refl, ◌∙◌}
 use native.Mathlib.Omega.{arith}
-use lib.ListN.{length}
-use Rattle.strings.proofs.Rows.{RowsAre, rows_more}
+use Rattle.strings.proofs.Rows.{rows_more}
 use Rattle.chunks.specs.Chunks.{chunk}
-use Rattle.forms_choices.specs.Entries.{looked_up}
 use Rattle.forms_batching.proofs.lines.look_up_planes.Invariants.{looked}
 use Rattle.forms_batching.proofs.lines.look_up_planes.Goals as goal
 

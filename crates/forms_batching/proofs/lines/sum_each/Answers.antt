@@ -1,11 +1,9 @@
 -- `forms_batching::lines::sum_each` meets its contract. The invariant: the chunks below i are summed.
 -- Assumes nothing.
 use borrow.Author.Rules.{rules}
-use Prim.Native.Nat.{◌-◌, ◌≤◌}
 use mathlib.Core.Path.{◌≡◌, refl, ◌∙◌}
 use native.Mathlib.Omega.{arith}
-use lib.ListN.{length}
-use Rattle.strings.proofs.Rows.{RowsAre, rows_more}
+use Rattle.strings.proofs.Rows.{rows_more}
 use Rattle.chunks.specs.Chunks.{chunk}
 use Rattle.forms_batching.specs.Lines.{left_byte}
 use Rattle.forms_batching.proofs.lines.sum_each.Goals as goal

@@ -1,14 +1,13 @@
 -- `forms_batching::lines::sum_left` meets its contract. The invariant: the rows of the first q sixteens are added.
 -- Assumes nothing.
 use borrow.Author.Rules.{rules}
-use Prim.Native.Nat.{ℕ, ◌+◌, ◌*◌, ◌-◌, ◌%◌, ◌≤◌, ◌<◌}
-use mathlib.Core.List.{List}
+use Prim.Native.Nat.{ℕ, ◌+◌, ◌*◌, ◌≤◌, ◌<◌}
 use mathlib.Core.Path.{◌≡◌, refl, sym, ap, ◌∙◌}
 use native.Mathlib.Nat.{mul_assoc, zero-add}
 use native.Mathlib.Omega.{arith}
-use lib.ListN.{length, get_or-replicate}
-use lib.Bits.{bit_xor, bit_and}
-use Rattle.strings.specs.Sums.{byte_at, xor_sum}
+use lib.ListN.{get_or-replicate}
+use lib.Bits.{bit_xor}
+use Rattle.strings.specs.Sums.{xor_sum}
 use Rattle.strings.proofs.Rows.{row-end}
 use Rattle.strings.proofs.SumLaws.{sum_more}
 use Rattle.chunks.specs.Chunks.{chunk}

@@ -1,16 +1,11 @@
 -- `forms_batching::lines::sum_left` meets its contract. The invariant: the rows of the first q sixteens are added.
 -- Assumes nothing.
-use borrow.Author.Rules.{rules}
 use Prim.Native.Nat.{ℕ, ◌+◌, ◌*◌, ◌-◌, ◌%◌, ◌≤◌, ◌<◌}
 use mathlib.Core.List.{List}
-use mathlib.Core.Path.{◌≡◌, refl, sym, ap, ◌∙◌}
-use native.Mathlib.Nat.{mul_assoc, zero-add}
-use native.Mathlib.Omega.{arith}
-use lib.ListN.{length, get_or-replicate}
-use lib.Bits.{bit_xor, bit_and}
+use mathlib.Core.Path.{◌≡◌}
+use lib.ListN.{length}
+use lib.Bits.{bit_and}
 use Rattle.strings.specs.Sums.{byte_at, xor_sum}
-use Rattle.strings.proofs.Rows.{row-end}
-use Rattle.strings.proofs.SumLaws.{sum_more}
 use Rattle.chunks.specs.Chunks.{chunk}
 use Rattle.forms_batching.proofs.lines.sum_left.Given as goal
 

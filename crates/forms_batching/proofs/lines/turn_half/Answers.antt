@@ -1,7 +1,6 @@
 -- `forms_batching::lines::turn_half` meets its contract. The part that was lent is half h, and the other stands outside
 -- it.
 -- Assumes nothing.
-use borrow.Author.Rules.{rules}
 use Prim.Native.Nat.{ℕ, ◌+◌, ◌*◌, ◌-◌, ◌/◌, ◌%◌, ◌≤◌}
 use mathlib.Core.Path.{◌≡◌, ap, ◌∙◌}
 use native.Mathlib.Nat.{add-sub_cancel_left}

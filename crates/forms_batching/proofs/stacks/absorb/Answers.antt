@@ -2,10 +2,9 @@
 -- are added, each times its power. What they come to is `StackLaws`.
 -- Assumes nothing.
 use borrow.Author.Rules.{rules}
-use Prim.Native.Nat.{ℕ, ◌+◌, ◌*◌, ◌-◌, ◌^◌, ◌≤◌, ◌<◌}
+use Prim.Native.Nat.{ℕ, ◌+◌, ◌*◌, ◌^◌, ◌<◌}
 use mathlib.Core.List.{List}
 use mathlib.Core.Path.{◌≡◌, refl, sym, ap, ◌∙◌}
-use mathlib.Core.Logic.{⊎_elim}
 use native.Mathlib.Omega.{arith}
 use lib.ListN.{length}
 use lib.Bits.{bit_xor, xor_zero_r}
@@ -13,7 +12,7 @@ use Rattle.galois.specs.Degrees.{degree_of}
 use Rattle.strings.specs.Sums.{byte_at, xor_sum}
 use Rattle.chunks.specs.Chunks.{chunk, Masks}
 use Rattle.forms_choices.specs.Entries.{up_to, Weighed}
-use Rattle.forms_columns.specs.Stacks.{planes, stack_at}
+use Rattle.forms_columns.specs.Stacks.{stack_at}
 use Rattle.forms_batching.specs.Batched.{plane_times}
 use Rattle.forms_batching.proofs.StackLaws.{all-planes, two-more, none_more}
 use Rattle.forms_batching.proofs.stacks.absorb.Goals as goal
@@ -35,16 +34,17 @@ loop-k-preserved c =
     → stack_at d t f z ≡ bit_xor (stack_at d a.t.now f z) (xor_sum (2 * (l.k + 1)) (up_to (degree_of d) (plane_times d v S χ m f z))) in
     let step : (length c.if-k-r.t ≡ length l.t) × Added c.if-k-r.t =
     elim c.if-k-r.branch [
-      then-k-r w ↦ rw w.t-is (
+      | then-k-r w ↦ rw w.t-is (
         w.absorb_two.auto.t,
         (λ d S v χ m f z is weighed masks narrow h.
             two-more d (stack_at d a.t.now f z) (stack_at d l.t f z) l.k (plane_times d v S χ m f z) (l.invariant.2 d S v χ m f z is weighed masks narrow h) _ (omega (arith, is, w.if-k-r.true)) (w.absorb_two.ensures d S v χ m f z weighed masks narrow h)),
       )
-    | else-k-r w ↦ rw w.t-is (
+      | else-k-r w ↦ rw w.t-is (
         refl,
         (λ d S v χ m f z is weighed masks narrow h.
             none_more d (stack_at d a.t.now f z) (stack_at d l.t f z) l.k (plane_times d v S χ m f z) (l.invariant.2 d S v χ m f z is weighed masks narrow h) (omega (arith, is, w.if-k-r.false))),
-      )] in
+      )
+    ] in
     (omega (arith, c.loop-k-test.true), step.0 ∙ l.invariant.1, step.1)
 
 pub returns : goal.returns

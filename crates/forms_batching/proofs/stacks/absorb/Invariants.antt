@@ -1,21 +1,17 @@
 -- `forms_batching::stacks::absorb` meets its contract. The invariant: of the planes below the degree, those below 2·k
 -- are added, each times its power. What they come to is `StackLaws`.
 -- Assumes nothing.
-use borrow.Author.Rules.{rules}
-use Prim.Native.Nat.{ℕ, ◌+◌, ◌*◌, ◌-◌, ◌^◌, ◌≤◌, ◌<◌}
+use Prim.Native.Nat.{ℕ, ◌*◌, ◌-◌, ◌^◌, ◌≤◌, ◌<◌}
 use mathlib.Core.List.{List}
-use mathlib.Core.Path.{◌≡◌, refl, sym, ap, ◌∙◌}
-use mathlib.Core.Logic.{⊎_elim}
-use native.Mathlib.Omega.{arith}
+use mathlib.Core.Path.{◌≡◌}
 use lib.ListN.{length}
-use lib.Bits.{bit_xor, xor_zero_r}
+use lib.Bits.{bit_xor}
 use Rattle.galois.specs.Degrees.{degree_of}
 use Rattle.strings.specs.Sums.{byte_at, xor_sum}
 use Rattle.chunks.specs.Chunks.{chunk, Masks}
 use Rattle.forms_choices.specs.Entries.{up_to, Weighed}
 use Rattle.forms_columns.specs.Stacks.{planes, stack_at}
 use Rattle.forms_batching.specs.Batched.{plane_times}
-use Rattle.forms_batching.proofs.StackLaws.{all-planes, two-more, none_more}
 use Rattle.forms_batching.proofs.stacks.absorb.Given as goal
 
 abbrev pub invariant-loop-k : goal.invariant-loop-k

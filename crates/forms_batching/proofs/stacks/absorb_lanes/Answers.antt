@@ -2,22 +2,17 @@
 -- others are as they were.
 -- Assumes nothing.
 use borrow.Author.Rules.{rules}
-use Prim.Native.Nat.{ℕ, ◌+◌, ◌*◌, ◌-◌, ◌≤◌, ◌<◌}
-use mathlib.Core.List.{List}
+use Prim.Native.Nat.{ℕ, ◌+◌, ◌*◌, ◌<◌}
 use mathlib.Core.Path.{◌≡◌, refl, ap, ◌∙◌}
 use mathlib.Core.Logic.{⊎_elim}
 use native.Mathlib.Nat.{eq-or-lt_of_le, le_of_suc-le-suc}
 use native.Mathlib.Numerals.{add-one}
 use native.Mathlib.Omega.{arith}
-use lib.ListN.{length}
 use lib.Bits.{bit_xor}
-use Rattle.galois.specs.Degrees.{degree_of}
-use Rattle.strings.specs.Sums.{byte_at, bit_of, xor_sum}
-use Rattle.chunks.specs.Chunks.{chunk, cell_at}
-use Rattle.forms_choices.specs.Entries.{Weighed}
-use Rattle.forms_columns.specs.Stacks.{byte_product, planes, stack_of}
+use Rattle.strings.specs.Sums.{byte_at}
+use Rattle.chunks.specs.Chunks.{chunk}
+use Rattle.forms_columns.specs.Stacks.{byte_product}
 use Rattle.protocol.specs.Shape.{most_variables}
-use Rattle.forms_batching.specs.Batched.{VectorsNarrow}
 use Rattle.forms_batching.proofs.StackLaws.{stack_same}
 use Rattle.forms_batching.proofs.stacks.absorb_lanes.Invariants.{weight}
 use Rattle.forms_batching.proofs.stacks.absorb_lanes.Goals as goal

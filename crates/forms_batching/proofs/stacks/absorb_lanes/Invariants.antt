@@ -1,14 +1,9 @@
 -- `forms_batching::stacks::absorb_lanes` meets its contract. The invariant: the stacks below e are changed, and the
 -- others are as they were.
 -- Assumes nothing.
-use borrow.Author.Rules.{rules}
 use Prim.Native.Nat.{ℕ, ◌+◌, ◌*◌, ◌-◌, ◌≤◌, ◌<◌}
 use mathlib.Core.List.{List}
-use mathlib.Core.Path.{◌≡◌, refl, ap, ◌∙◌}
-use mathlib.Core.Logic.{⊎_elim}
-use native.Mathlib.Nat.{eq-or-lt_of_le, le_of_suc-le-suc}
-use native.Mathlib.Numerals.{add-one}
-use native.Mathlib.Omega.{arith}
+use mathlib.Core.Path.{◌≡◌}
 use lib.ListN.{length}
 use lib.Bits.{bit_xor}
 use Rattle.galois.specs.Degrees.{degree_of}
@@ -18,7 +13,6 @@ use Rattle.forms_choices.specs.Entries.{Weighed}
 use Rattle.forms_columns.specs.Stacks.{byte_product, planes, stack_of}
 use Rattle.protocol.specs.Shape.{most_variables}
 use Rattle.forms_batching.specs.Batched.{VectorsNarrow}
-use Rattle.forms_batching.proofs.StackLaws.{stack_same}
 use Rattle.forms_batching.proofs.stacks.absorb_lanes.Given as goal
 
 -- the sum that repetition e weighs

@@ -1,6 +1,5 @@
 -- `forms_batching::stacks::absorb_two` meets its contract: the planes that are looked up are those of the sum.
 -- Assumes nothing.
-use borrow.Author.Rules.{rules}
 use Prim.Native.Nat.{ℕ, ◌+◌, ◌*◌, ◌<◌}
 use mathlib.Core.List.{List}
 use mathlib.Core.Path.{◌≡◌, ap, ap₂, ◌∙◌}

@@ -2,7 +2,7 @@
 -- times its coordinate.
 -- Assumes nothing.
 use borrow.Author.Rules.{rules}
-use Prim.Native.Nat.{ℕ, ◌+◌, ◌*◌, ◌-◌, ◌/◌, ◌≤◌, ◌<◌}
+use Prim.Native.Nat.{ℕ, ◌+◌, ◌*◌, ◌/◌, ◌≤◌, ◌<◌}
 use mathlib.Core.List.{List}
 use mathlib.Core.Path.{◌≡◌, refl, sym, ap, ap₂, ◌∙◌}
 use native.Mathlib.Nat.{add_assoc, add-mul, mul_assoc, zero-mul}
@@ -11,7 +11,6 @@ use native.Mathlib.Omega.{arith}
 use lib.ListN.{length}
 use lib.Bits.{bit_xor, xor_zero_r}
 use Rattle.protocol.specs.Lists.{block_at}
-use Rattle.galois.specs.Degrees.{degree_of}
 use Rattle.strings.specs.Sums.{byte_at, bit_of, xor_sum}
 use Rattle.strings.proofs.Rows.{row-end, row-byte}
 use Rattle.strings.proofs.SumLaws.{sum_same, sum-none, sum_step}
@@ -21,7 +20,7 @@ use Rattle.forms_choices.specs.Entries.{Tabled, up_to, IsBytes, ChosenAll, Weigh
 use Rattle.forms_choices.proofs.ChoiceLaws.{up-to-first}
 use Rattle.forms_columns.specs.Stacks.{coordinate_of, byte_product, planes, stack_of}
 use Rattle.protocol.specs.Shape.{most_variables}
-use Rattle.forms_batching.specs.Batched.{cell_sum, VectorsNarrow, SumsRoom}
+use Rattle.forms_batching.specs.Batched.{cell_sum}
 use Rattle.forms_batching.proofs.StackLaws.{stack_same}
 use Rattle.forms_batching.proofs.LineLaws.{weighed-rows}
 use Rattle.forms_batching.proofs.stacks.collect.Invariants.{term}

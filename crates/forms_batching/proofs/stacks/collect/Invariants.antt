@@ -1,29 +1,16 @@
 -- `forms_batching::stacks::collect` meets its contract. The invariant: the rows of the first q sixteens are added, each
 -- times its coordinate.
 -- Assumes nothing.
-use borrow.Author.Rules.{rules}
-use Prim.Native.Nat.{ℕ, ◌+◌, ◌*◌, ◌-◌, ◌/◌, ◌≤◌, ◌<◌}
+use Prim.Native.Nat.{ℕ, ◌+◌, ◌*◌, ◌-◌, ◌≤◌, ◌<◌}
 use mathlib.Core.List.{List}
-use mathlib.Core.Path.{◌≡◌, refl, sym, ap, ap₂, ◌∙◌}
-use native.Mathlib.Nat.{add_assoc, add-mul, mul_assoc, zero-mul}
-use native.Mathlib.Decide.{dec_lt}
-use native.Mathlib.Omega.{arith}
+use mathlib.Core.Path.{◌≡◌}
 use lib.ListN.{length}
-use lib.Bits.{bit_xor, xor_zero_r}
-use Rattle.protocol.specs.Lists.{block_at}
+use lib.Bits.{bit_xor}
 use Rattle.galois.specs.Degrees.{degree_of}
-use Rattle.strings.specs.Sums.{byte_at, bit_of, xor_sum}
-use Rattle.strings.proofs.Rows.{row-end, row-byte}
-use Rattle.strings.proofs.SumLaws.{sum_same, sum-none, sum_step}
-use Rattle.strings.proofs.Meaning.{bitOf_zero}
-use Rattle.chunks.specs.Chunks.{chunk, cell_at}
-use Rattle.forms_choices.specs.Entries.{Tabled, up_to, IsBytes, ChosenAll, Weighed}
-use Rattle.forms_choices.proofs.ChoiceLaws.{up-to-first}
-use Rattle.forms_columns.specs.Stacks.{coordinate_of, byte_product, planes, stack_of}
-use Rattle.protocol.specs.Shape.{most_variables}
+use Rattle.strings.specs.Sums.{xor_sum}
+use Rattle.forms_choices.specs.Entries.{IsBytes, ChosenAll}
+use Rattle.forms_columns.specs.Stacks.{coordinate_of, byte_product, stack_of}
 use Rattle.forms_batching.specs.Batched.{cell_sum, VectorsNarrow, SumsRoom}
-use Rattle.forms_batching.proofs.StackLaws.{stack_same}
-use Rattle.forms_batching.proofs.LineLaws.{weighed-rows}
 use Rattle.forms_batching.proofs.stacks.collect.Given as goal
 
 -- what the sixteen rows q add to a byte of the stack of repetition e

@@ -1,6 +1,5 @@
 -- `forms_batching::stacks::fill_halves` meets its contract: one half after the other.
 -- Assumes nothing.
-use borrow.Author.Rules.{rules}
 use Prim.Native.Nat.{zero, suc}
 use mathlib.Core.Path.{◌∙◌}
 use native.Mathlib.Omega.{arith}

@@ -1,7 +1,7 @@
 -- `forms_batching::stacks::fill_rest` meets its contract. The invariant: the ends of the first e vectors are there.
 -- Assumes nothing.
 use borrow.Author.Rules.{rules}
-use Prim.Native.Nat.{ℕ, ◌+◌, ◌-◌, ◌≤◌, ◌<◌}
+use Prim.Native.Nat.{ℕ, ◌+◌, ◌≤◌, ◌<◌}
 use mathlib.Core.Path.{◌≡◌, refl, ◌∙◌}
 use mathlib.Core.List.{List}
 use native.Mathlib.Decide.{dec_lt}
@@ -9,7 +9,7 @@ use native.Mathlib.Omega.{arith}
 use Rattle.protocol.specs.Shape.{most_variables}
 use Rattle.lanes.specs.Lanes.{lane_at}
 use Rattle.forms_choices.specs.Entries.{up_to}
-use Rattle.forms_columns.specs.Stacks.{coordinate_of, VectorsRoom}
+use Rattle.forms_columns.specs.Stacks.{coordinate_of}
 use Rattle.forms_batching.proofs.stacks.fill_rest.Invariants.{Rests}
 use Rattle.forms_batching.proofs.stacks.fill_rest.Goals as goal
 

@@ -1,11 +1,8 @@
 -- `forms_batching::stacks::fill_rest` meets its contract. The invariant: the ends of the first e vectors are there.
 -- Assumes nothing.
-use borrow.Author.Rules.{rules}
-use Prim.Native.Nat.{ℕ, ◌+◌, ◌-◌, ◌≤◌, ◌<◌}
-use mathlib.Core.Path.{◌≡◌, refl, ◌∙◌}
+use Prim.Native.Nat.{ℕ, ◌-◌, ◌≤◌, ◌<◌}
+use mathlib.Core.Path.{◌≡◌}
 use mathlib.Core.List.{List}
-use native.Mathlib.Decide.{dec_lt}
-use native.Mathlib.Omega.{arith}
 use Rattle.protocol.specs.Shape.{most_variables}
 use Rattle.lanes.specs.Lanes.{lane_at}
 use Rattle.forms_choices.specs.Entries.{up_to}

@@ -1,14 +1,10 @@
 -- `forms_batching::stacks::fill_vector` meets its contract. Each element is changed once (`Elementwise`).
 -- Assumes nothing.
 use borrow.Author.Rules.{rules}
-use Prim.Native.Nat.{ℕ, ◌+◌, ◌-◌, ◌≤◌}
-use mathlib.Core.List.{List}
-use mathlib.Core.Path.{◌≡◌, refl}
+use mathlib.Core.Path.{refl}
 use native.Mathlib.Omega.{arith}
-use lib.ListN.{length, length-set}
+use lib.ListN.{length-set}
 use Rattle.strings.proofs.Elementwise.{changed, changed_more, changed-all}
-use Rattle.lanes.specs.Lanes.{lane_at}
-use Rattle.forms_choices.specs.Entries.{up_to}
 use Rattle.forms_batching.proofs.stacks.fill_vector.Invariants.{change}
 use Rattle.forms_batching.proofs.stacks.fill_vector.Goals as goal
 

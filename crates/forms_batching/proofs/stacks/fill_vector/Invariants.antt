@@ -1,12 +1,10 @@
 -- `forms_batching::stacks::fill_vector` meets its contract. Each element is changed once (`Elementwise`).
 -- Assumes nothing.
-use borrow.Author.Rules.{rules}
 use Prim.Native.Nat.{ℕ, ◌+◌, ◌-◌, ◌≤◌}
 use mathlib.Core.List.{List}
-use mathlib.Core.Path.{◌≡◌, refl}
-use native.Mathlib.Omega.{arith}
-use lib.ListN.{length, length-set}
-use Rattle.strings.proofs.Elementwise.{changed, changed_more, changed-all}
+use mathlib.Core.Path.{◌≡◌}
+use lib.ListN.{length}
+use Rattle.strings.proofs.Elementwise.{changed}
 use Rattle.lanes.specs.Lanes.{lane_at}
 use Rattle.forms_choices.specs.Entries.{up_to}
 use Rattle.forms_batching.proofs.stacks.fill_vector.Given as goal

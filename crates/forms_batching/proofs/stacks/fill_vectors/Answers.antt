@@ -1,6 +1,5 @@
 -- `forms_batching::stacks::fill_vectors` meets its contract.
 -- Assumes nothing.
-use borrow.Author.Rules.{rules}
 use Prim.Native.Nat.{◌/◌}
 use native.Mathlib.Omega.{arith}
 use Rattle.forms_batching.specs.Batched.{VectorsAre}

@@ -1,6 +1,5 @@
 -- `forms_batching::stacks::lane_byte` meets its contract.
 -- Assumes nothing.
-use borrow.Author.Rules.{rules}
 use mathlib.Core.Path.{sym}
 use native.Mathlib.Omega.{arith}
 use Rattle.lanes.specs.Lanes.{lane_at}

@@ -1,12 +1,8 @@
 -- `forms_batching::stacks::turn_sixteen` meets its contract. The invariant: the first eights of repetitions are turned.
 -- Assumes nothing.
-use borrow.Author.Rules.{rules}
 use Prim.Native.Nat.{◌+◌, ◌*◌, ◌-◌, ◌<◌}
-use mathlib.Core.Path.{refl, ◌∙◌}
-use native.Mathlib.Omega.{arith}
 use Rattle.forms_columns.specs.Stacks.{VectorsRoom}
 use Rattle.forms_batching.specs.Batched.{SixteenTurned, BesideSixteen}
-use Rattle.forms_batching.proofs.VectorLaws.{eight-turned, eight_beside}
 use Rattle.forms_batching.proofs.stacks.turn_sixteen.Given as goal
 
 abbrev pub invariant-loop-b : goal.invariant-loop-b

@@ -2,11 +2,8 @@
 -- are there.
 -- Assumes nothing.
 use borrow.Author.Rules.{rules}
-use Prim.Native.Nat.{ℕ, ◌*◌, ◌-◌, ◌≤◌, ◌<◌}
-use mathlib.Core.Path.{◌≡◌, ◌∙◌}
+use mathlib.Core.Path.{◌∙◌}
 use native.Mathlib.Omega.{arith}
-use Rattle.lanes.specs.Lanes.{lane_at}
-use Rattle.forms_columns.specs.Stacks.{coordinate_of, VectorsRoom}
 use Rattle.forms_batching.proofs.VectorLaws.{sixteen_more}
 use Rattle.forms_batching.proofs.stacks.turn_sixteens.Goals as goal
 

@@ -1,13 +1,10 @@
 -- `forms_batching::stacks::turn_sixteens` meets its contract. The invariant: the coordinates of the first c sixteens
 -- are there.
 -- Assumes nothing.
-use borrow.Author.Rules.{rules}
 use Prim.Native.Nat.{ℕ, ◌*◌, ◌-◌, ◌≤◌, ◌<◌}
-use mathlib.Core.Path.{◌≡◌, ◌∙◌}
-use native.Mathlib.Omega.{arith}
+use mathlib.Core.Path.{◌≡◌}
 use Rattle.lanes.specs.Lanes.{lane_at}
 use Rattle.forms_columns.specs.Stacks.{coordinate_of, VectorsRoom}
-use Rattle.forms_batching.proofs.VectorLaws.{sixteen_more}
 use Rattle.forms_batching.proofs.stacks.turn_sixteens.Given as goal
 
 abbrev pub invariant-loop-c : goal.invariant-loop-c

@@ -1,7 +1,6 @@
 -- `forms_choices::fives::fill_repetition` meets its contract. The bytes of the repetition are taken with zeros past
 -- them, as `up_to` has them.
 -- Assumes nothing.
-use borrow.Author.Rules.{rules}
 use Prim.Native.Nat.{ℕ, ◌+◌, ◌*◌, ◌/◌, ◌%◌, ◌≤◌, ◌<◌}
 use mathlib.Core.List.{List}
 use mathlib.Core.Path.{◌≡◌, sym, ap, ◌∙◌}

@@ -1,14 +1,10 @@
 -- `forms_choices::fives::fill_words` meets its contract. The invariant: the rows of the repetitions below e are filled.
 -- Assumes nothing.
-use borrow.Author.Rules.{rules}
 use Prim.Native.Nat.{ℕ, ◌+◌, ◌*◌, ◌-◌, ◌≤◌, ◌<◌}
-use mathlib.Core.Path.{◌≡◌, refl, ◌∙◌}
-use native.Mathlib.Omega.{arith}
+use mathlib.Core.Path.{◌≡◌}
 use lib.ListN.{length}
 use Rattle.strings.specs.Sums.{byte_at}
-use Rattle.strings.proofs.Rows.{row-end}
 use Rattle.forms_choices.specs.Entries.{Chosen}
-use Rattle.forms_choices.proofs.ChoiceLaws.{chosen-next}
 use Rattle.forms_choices.proofs.fives.fill_words.Given as goal
 
 abbrev pub invariant-loop-e : goal.invariant-loop-e

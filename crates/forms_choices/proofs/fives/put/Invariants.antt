@@ -1,13 +1,10 @@
 -- `forms_choices::fives::put` meets its contract. Each word is written once (`Elementwise`).
 -- Assumes nothing.
-use borrow.Author.Rules.{rules}
 use Prim.Native.Nat.{ℕ, ◌+◌, ◌*◌, ◌-◌, ◌≤◌}
 use mathlib.Core.List.{List}
-use mathlib.Core.Path.{◌≡◌, refl, ap₂}
-use native.Mathlib.Omega.{arith}
-use lib.ListN.{length, length-set}
-use Rattle.strings.specs.Sums.{byte_at}
-use Rattle.strings.proofs.Elementwise.{changed, changed_more, changed-all}
+use mathlib.Core.Path.{◌≡◌}
+use lib.ListN.{length}
+use Rattle.strings.proofs.Elementwise.{changed}
 use Rattle.forms_choices.specs.Entries.{fives_word}
 use Rattle.forms_choices.proofs.fives.put.Given as goal
 

@@ -2,15 +2,12 @@
 -- those of earlier repetitions are as they were.
 -- Assumes nothing.
 use borrow.Author.Rules.{rules}
-use Prim.Native.Nat.{ℕ, ◌+◌, ◌*◌, ◌-◌, ◌≤◌, ◌<◌}
+use Prim.Native.Nat.{◌+◌, ◌*◌, ◌<◌}
 use mathlib.Core.Logic.{⊎_elim}
 use mathlib.Core.Path.{◌≡◌, refl, ◌∙◌}
 use native.Mathlib.Nat.{eq-or-lt_of_le, le_of_suc-le-suc}
 use native.Mathlib.Numerals.{add-one}
 use native.Mathlib.Omega.{arith}
-use lib.ListN.{length}
-use Rattle.strings.specs.Sums.{byte_at}
-use Rattle.forms_choices.specs.Entries.{fives_word}
 use Rattle.forms_choices.proofs.fives.put_rows.Goals as goal
 
 pub loop-p-init : goal.loop-p-init

@@ -1,11 +1,9 @@
 -- `forms_choices::picks::choose_all` meets its contract. The invariant: the numbers of the bits below p are chosen.
 -- Assumes nothing.
-use borrow.Author.Rules.{rules}
 use Prim.Native.Nat.{◌-◌, ◌≤◌}
-use mathlib.Core.Path.{◌≡◌, refl, ◌∙◌}
-use native.Mathlib.Omega.{arith}
+use mathlib.Core.Path.{◌≡◌}
 use lib.ListN.{length}
-use Rattle.strings.proofs.Rows.{RowsAre, rows_more}
+use Rattle.strings.proofs.Rows.{RowsAre}
 use Rattle.forms_choices.specs.Entries.{choice, in_rows}
 use Rattle.forms_choices.proofs.picks.choose_all.Given as goal
 

@@ -1,7 +1,6 @@
 -- `forms_choices::picks::choose_at` meets its contract. The part that was lent is for bit p, and the others stand
 -- outside it.
 -- Assumes nothing.
-use borrow.Author.Rules.{rules}
 use Prim.Native.Nat.{◌+◌, ◌*◌, ◌-◌, ◌≤◌}
 use mathlib.Core.Path.{◌≡◌, ◌∙◌}
 use native.Mathlib.Nat.{add-sub_cancel_left}

@@ -1,11 +1,10 @@
 -- `forms_choices::picks::choose_both` meets its contract. The invariant: the fives below g of both sixteens are chosen.
 -- Assumes nothing.
 use borrow.Author.Rules.{rules}
-use Prim.Native.Nat.{ℕ, ◌+◌, ◌*◌, ◌-◌, ◌≤◌, ◌<◌}
+use Prim.Native.Nat.{◌+◌, ◌*◌}
 use mathlib.Core.Path.{◌≡◌, refl}
 use native.Mathlib.Omega.{arith}
-use lib.ListN.{length, length-set}
-use Rattle.strings.specs.Sums.{byte_at}
+use lib.ListN.{length-set}
 use Rattle.forms_choices.specs.Entries.{choice, in_rows}
 use Rattle.forms_choices.proofs.PickLaws.{both_more, both-all}
 use Rattle.forms_choices.proofs.picks.choose_both.Goals as goal

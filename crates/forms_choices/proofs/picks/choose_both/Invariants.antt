@@ -1,13 +1,10 @@
 -- `forms_choices::picks::choose_both` meets its contract. The invariant: the fives below g of both sixteens are chosen.
 -- Assumes nothing.
-use borrow.Author.Rules.{rules}
 use Prim.Native.Nat.{ℕ, ◌+◌, ◌*◌, ◌-◌, ◌≤◌, ◌<◌}
-use mathlib.Core.Path.{◌≡◌, refl}
-use native.Mathlib.Omega.{arith}
-use lib.ListN.{length, length-set}
+use mathlib.Core.Path.{◌≡◌}
+use lib.ListN.{length}
 use Rattle.strings.specs.Sums.{byte_at}
 use Rattle.forms_choices.specs.Entries.{choice, in_rows}
-use Rattle.forms_choices.proofs.PickLaws.{both_more, both-all}
 use Rattle.forms_choices.proofs.picks.choose_both.Given as goal
 
 abbrev pub invariant-loop-g : goal.invariant-loop-g

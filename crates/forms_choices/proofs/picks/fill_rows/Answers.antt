@@ -1,7 +1,6 @@
 -- `forms_choices::picks::fill_rows` meets its contract. The part that was lent is for the sixteen fives h, and the
 -- other stands outside it.
 -- Assumes nothing.
-use borrow.Author.Rules.{rules}
 use Prim.Native.Nat.{◌+◌, ◌*◌, ◌-◌, ◌/◌, ◌%◌, ◌≤◌}
 use mathlib.Core.Path.{◌≡◌, ◌∙◌}
 use native.Mathlib.Nat.{add-sub_cancel_left}

@@ -1,12 +1,8 @@
 -- `forms_columns::fronts::fill_front` meets its contract. The invariant: the first sixteens of repetitions are filled.
 -- Assumes nothing.
 use borrow.Author.Rules.{rules}
-use Prim.Native.Nat.{◌+◌, ◌*◌, ◌-◌, ◌<◌}
-use mathlib.Core.Path.{◌≡◌, ◌∙◌}
+use mathlib.Core.Path.{◌∙◌}
 use native.Mathlib.Omega.{arith}
-use lib.ListN.{length}
-use Rattle.lanes.specs.Lanes.{lanes}
-use Rattle.forms_columns.specs.Stacks.{FrontIs}
 use Rattle.forms_columns.proofs.FrontLaws.{front_more}
 use Rattle.forms_columns.proofs.fronts.fill_front.Goals as goal
 

@@ -1,6 +1,5 @@
 -- `forms_columns::fronts::fill_sixteen` meets its contract: the coordinates go by eights.
 -- Assumes nothing.
-use borrow.Author.Rules.{rules}
 use Rattle.forms_columns.proofs.FrontLaws.{sixteen_is, sixteen_kept}
 use Rattle.forms_columns.proofs.fronts.fill_sixteen.Goals as goal
 

@@ -2,12 +2,9 @@
 -- beside them are as they were.
 -- Assumes nothing.
 use borrow.Author.Rules.{rules}
-use Prim.Native.Nat.{◌-◌, ◌≤◌}
 use mathlib.Core.Path.{◌≡◌, refl, ◌∙◌}
 use native.Mathlib.Omega.{arith}
-use lib.ListN.{length}
-use Rattle.forms_columns.specs.Stacks.{BesideBlock}
-use Rattle.forms_columns.proofs.FrontLaws.{Columns, last-column, columns_more, beside_more}
+use Rattle.forms_columns.proofs.FrontLaws.{last-column, columns_more, beside_more}
 use Rattle.forms_columns.proofs.fronts.put_columns.Goals as goal
 
 pub loop-k-init : goal.loop-k-init

@@ -1,13 +1,11 @@
 -- `forms_columns::fronts::put_columns` meets its contract. The invariant: the columns below k are put, and the parts
 -- beside them are as they were.
 -- Assumes nothing.
-use borrow.Author.Rules.{rules}
 use Prim.Native.Nat.{◌-◌, ◌≤◌}
-use mathlib.Core.Path.{◌≡◌, refl, ◌∙◌}
-use native.Mathlib.Omega.{arith}
+use mathlib.Core.Path.{◌≡◌}
 use lib.ListN.{length}
 use Rattle.forms_columns.specs.Stacks.{BesideBlock}
-use Rattle.forms_columns.proofs.FrontLaws.{Columns, last-column, columns_more, beside_more}
+use Rattle.forms_columns.proofs.FrontLaws.{Columns}
 use Rattle.forms_columns.proofs.fronts.put_columns.Given as goal
 
 abbrev pub invariant-loop-k : goal.invariant-loop-k

@@ -1,6 +1,5 @@
 -- `forms_columns::fronts::turn_block` meets its contract: the rows are parted, and the columns put.
 -- Assumes nothing.
-use borrow.Author.Rules.{rules}
 use Prim.Native.Nat.{◌+◌, ◌*◌, ◌/◌, ◌%◌}
 use mathlib.Core.Path.{◌≡◌, ap, ◌∙◌}
 use native.Mathlib.Omega.{arith}

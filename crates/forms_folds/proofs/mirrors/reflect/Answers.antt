@@ -1,6 +1,5 @@
 -- `forms_folds::mirrors::reflect` meets its contract: the mirror image above the column's own sixteen, and 0 in that.
 -- Assumes nothing.
-use borrow.Author.Rules.{rules}
 use lib.ListN.{drop}
 use Rattle.forms_folds.proofs.MirrorLaws.{reflected, reflected-kept}
 use Rattle.forms_folds.proofs.mirrors.reflect.Goals as goal

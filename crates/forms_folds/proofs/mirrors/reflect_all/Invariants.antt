@@ -1,15 +1,9 @@
 -- `forms_folds::mirrors::reflect_all` meets its contract. The invariant: the columns below k are reflected.
 -- Assumes nothing.
-use borrow.Author.Rules.{rules}
-use Prim.Native.Nat.{ℕ, suc, ◌+◌, ◌*◌, ◌-◌, ◌≤◌, ◌<◌}
-use mathlib.Core.Path.{◌≡◌, ◌∙◌}
-use native.Mathlib.Nat.{mul-le-mul_right}
-use native.Mathlib.Omega.{arith}
+use Prim.Native.Nat.{ℕ, ◌+◌, ◌*◌, ◌-◌, ◌≤◌, ◌<◌}
+use mathlib.Core.Path.{◌≡◌}
 use lib.ListN.{length, drop}
-use Rattle.strings.proofs.LeastLaws.{under_least}
 use Rattle.forms_folds.specs.Sets.{Reflected}
-use Rattle.forms_folds.proofs.MirrorLaws.{reflected_stays}
-use Rattle.forms_folds.proofs.SetLaws.{below_next}
 use Rattle.forms_folds.proofs.mirrors.reflect_all.Given as goal
 
 abbrev pub invariant-loop-k : goal.invariant-loop-k

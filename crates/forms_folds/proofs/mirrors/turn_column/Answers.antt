@@ -1,7 +1,6 @@
 -- `forms_folds::mirrors::turn_column` meets its contract: eight rows stand together, and sixteen bytes of each are the
 -- columns below 128.
 -- Assumes nothing.
-use borrow.Author.Rules.{rules}
 use mathlib.Core.Path.{◌∙◌}
 use native.Mathlib.Omega.{arith}
 use Rattle.forms_folds.proofs.MirrorLaws.{mirrored, mirrored_few, mirrored-end, part-kept}

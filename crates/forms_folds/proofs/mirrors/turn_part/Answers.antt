@@ -1,6 +1,5 @@
 -- `forms_folds::mirrors::turn_part` meets its contract. The part that was lent starts at byte `at` of row k.
 -- Assumes nothing.
-use borrow.Author.Rules.{rules}
 use Prim.Native.Nat.{◌+◌, ◌*◌, ◌-◌, ◌≤◌}
 use mathlib.Core.Path.{◌≡◌, ap, ◌∙◌}
 use native.Mathlib.Nat.{add-sub_cancel_left}

@@ -1,15 +1,13 @@
 -- `forms_folds::rows::add_turned` meets its contract. The invariant: the first f bytes of each half are added.
 -- Assumes nothing.
 use borrow.Author.Rules.{rules}
-use Prim.Native.Nat.{ℕ, ◌+◌, ◌*◌, ◌-◌, ◌/◌, ◌%◌, ◌≤◌}
-use mathlib.Core.List.{List}
+use Prim.Native.Nat.{◌+◌, ◌*◌, ◌/◌, ◌%◌}
 use mathlib.Core.Path.{◌≡◌, refl, ap}
 use native.Mathlib.Omega.{arith}
-use lib.ListN.{length, set, length-set}
+use lib.ListN.{set, length-set}
 use lib.Bits.{bit_xor}
 use Rattle.strings.specs.Sums.{byte_at}
-use Rattle.chunks.specs.Chunks.{chunk}
-use Rattle.chunks.proofs.HalfLaws.{Halves, halves_more}
+use Rattle.chunks.proofs.HalfLaws.{halves_more}
 use Rattle.forms_folds.proofs.rows.add_turned.Invariants.{added}
 use Rattle.forms_folds.proofs.rows.add_turned.Goals as goal
 

@@ -1,15 +1,12 @@
 -- `forms_folds::rows::add_turned` meets its contract. The invariant: the first f bytes of each half are added.
 -- Assumes nothing.
-use borrow.Author.Rules.{rules}
 use Prim.Native.Nat.{ℕ, ◌+◌, ◌*◌, ◌-◌, ◌/◌, ◌%◌, ◌≤◌}
 use mathlib.Core.List.{List}
-use mathlib.Core.Path.{◌≡◌, refl, ap}
-use native.Mathlib.Omega.{arith}
-use lib.ListN.{length, set, length-set}
-use lib.Bits.{bit_xor}
+use mathlib.Core.Path.{◌≡◌}
+use lib.ListN.{length}
 use Rattle.strings.specs.Sums.{byte_at}
 use Rattle.chunks.specs.Chunks.{chunk}
-use Rattle.chunks.proofs.HalfLaws.{Halves, halves_more}
+use Rattle.chunks.proofs.HalfLaws.{Halves}
 use Rattle.forms_folds.proofs.rows.add_turned.Given as goal
 
 -- what is added to byte e

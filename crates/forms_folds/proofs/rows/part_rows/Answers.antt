@@ -1,9 +1,7 @@
 -- `forms_folds::rows::part_rows` meets its contract.
 -- Assumes nothing.
-use borrow.Author.Rules.{rules}
 use mathlib.Core.Path.{refl, sym}
 use native.Mathlib.Omega.{arith}
-use lib.ListN.{length-append}
 use Rattle.forms_folds.proofs.ArrayLaws.{halves_long}
 use Rattle.forms_folds.proofs.SetLaws.{parted}
 use Rattle.forms_folds.proofs.rows.part_rows.Goals as goal

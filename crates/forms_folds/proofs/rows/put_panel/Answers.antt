@@ -1,6 +1,5 @@
 -- `forms_folds::rows::put_panel` meets its contract: the chunk stands among the sixteens of rows that the cells hold.
 -- Assumes nothing.
-use borrow.Author.Rules.{rules}
 use Prim.Native.Nat.{ℕ, ◌+◌, ◌*◌, ◌/◌, ◌%◌, ◌≤◌, ◌<◌}
 use mathlib.Core.Path.{◌≡◌, ap, ap₂, ◌∙◌}
 use native.Mathlib.Nat.{zero-add}

@@ -2,11 +2,8 @@
 -- them are as they were.
 -- Assumes nothing.
 use borrow.Author.Rules.{rules}
-use Prim.Native.Nat.{◌-◌, ◌≤◌}
 use mathlib.Core.Path.{◌≡◌, refl, ◌∙◌}
 use native.Mathlib.Omega.{arith}
-use lib.ListN.{length}
-use Rattle.forms_folds.specs.Sets.{Put, ChunksKept}
 use Rattle.forms_folds.proofs.SetLaws.{put_more, chunks_more}
 use Rattle.forms_folds.proofs.rows.put_rows.Goals as goal
 

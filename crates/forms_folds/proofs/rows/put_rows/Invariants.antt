@@ -1,13 +1,10 @@
 -- `forms_folds::rows::put_rows` meets its contract. The invariant: the panels below p are put, and the cells beside
 -- them are as they were.
 -- Assumes nothing.
-use borrow.Author.Rules.{rules}
 use Prim.Native.Nat.{◌-◌, ◌≤◌}
-use mathlib.Core.Path.{◌≡◌, refl, ◌∙◌}
-use native.Mathlib.Omega.{arith}
+use mathlib.Core.Path.{◌≡◌}
 use lib.ListN.{length}
 use Rattle.forms_folds.specs.Sets.{Put, ChunksKept}
-use Rattle.forms_folds.proofs.SetLaws.{put_more, chunks_more}
 use Rattle.forms_folds.proofs.rows.put_rows.Given as goal
 
 abbrev pub invariant-loop-p : goal.invariant-loop-p

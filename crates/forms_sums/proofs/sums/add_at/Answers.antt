@@ -1,15 +1,10 @@
 -- `forms_choices::sums::add_at` meets its contract. Each element is changed once (`Elementwise`).
 -- Assumes nothing.
 use borrow.Author.Rules.{rules}
-use Prim.Native.Nat.{ℕ, ◌+◌, ◌≤◌, ◌<◌, ◌-◌}
-use mathlib.Core.List.{List}
-use mathlib.Core.Path.{◌≡◌, refl}
-use lib.ListN.{length, length-set}
-use lib.Bits.{bit_xor}
+use mathlib.Core.Path.{refl}
+use lib.ListN.{length-set}
 use native.Mathlib.Omega.{arith}
-use Rattle.strings.specs.Sums.{byte_at}
 use Rattle.strings.proofs.Elementwise.{changed, changed_more, changed-all}
-use Rattle.chunks.specs.Chunks.{chunk}
 use Rattle.forms_sums.proofs.sums.add_at.Invariants.{change}
 use Rattle.forms_sums.proofs.sums.add_at.Goals as goal
 

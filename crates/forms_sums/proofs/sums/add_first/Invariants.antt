@@ -1,14 +1,12 @@
 -- `forms_choices::sums::add_first` meets its contract. Each element of a chunk is changed once (`Elementwise`).
 -- Assumes nothing.
-use borrow.Author.Rules.{rules}
-use Prim.Native.Nat.{ℕ, ◌≤◌, ◌<◌, ◌-◌}
+use Prim.Native.Nat.{ℕ, ◌≤◌, ◌-◌}
 use mathlib.Core.List.{List}
-use mathlib.Core.Path.{◌≡◌, refl, ap, ◌∙◌}
-use lib.ListN.{length, length-set}
+use mathlib.Core.Path.{◌≡◌}
+use lib.ListN.{length}
 use lib.Bits.{bit_xor}
-use native.Mathlib.Omega.{arith}
 use Rattle.strings.specs.Sums.{byte_at}
-use Rattle.strings.proofs.Elementwise.{changed, changed_more, changed-at, changed-past}
+use Rattle.strings.proofs.Elementwise.{changed}
 use Rattle.chunks.specs.Chunks.{chunk}
 use Rattle.forms_sums.proofs.sums.add_first.Given as goal
 

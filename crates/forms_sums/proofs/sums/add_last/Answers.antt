@@ -1,7 +1,6 @@
 -- `forms_choices::sums::add_last` meets its contract. Where there are at most 30 groups, no five of the last word is
 -- among them.
 -- Assumes nothing.
-use borrow.Author.Rules.{rules}
 use Prim.Native.Nat.{◌-◌}
 use mathlib.Core.Path.{◌≡◌, sym}
 use native.Mathlib.Omega.{arith}

@@ -2,16 +2,12 @@
 -- added.
 -- Assumes nothing.
 use borrow.Author.Rules.{rules}
-use Prim.Native.Nat.{ℕ, ◌+◌, ◌*◌, ◌-◌, ◌≤◌, ◌<◌}
-use mathlib.Core.List.{List}
+use Prim.Native.Nat.{ℕ, ◌+◌}
 use mathlib.Core.Path.{◌≡◌, sym, ap, ◌∙◌}
 use native.Mathlib.Omega.{arith}
-use lib.ListN.{length}
 use lib.Bits.{bit_xor, xor_zero_r}
 use Rattle.strings.specs.Sums.{byte_at, xor_sum}
 use Rattle.strings.proofs.SumLaws.{sum_step}
-use Rattle.chunks.specs.Chunks.{chunk, cell_at}
-use Rattle.forms_choices.specs.Entries.{five}
 use Rattle.forms_sums.proofs.sums.add_two.Invariants.{entry}
 use Rattle.forms_sums.proofs.sums.add_two.Goals as goal
 

@@ -1,15 +1,12 @@
 -- `forms_choices::sums::add_two` meets its contract. The invariant: of both, the entries of the fives below j are
 -- added.
 -- Assumes nothing.
-use borrow.Author.Rules.{rules}
 use Prim.Native.Nat.{ℕ, ◌+◌, ◌*◌, ◌-◌, ◌≤◌, ◌<◌}
 use mathlib.Core.List.{List}
-use mathlib.Core.Path.{◌≡◌, sym, ap, ◌∙◌}
-use native.Mathlib.Omega.{arith}
+use mathlib.Core.Path.{◌≡◌}
 use lib.ListN.{length}
-use lib.Bits.{bit_xor, xor_zero_r}
+use lib.Bits.{bit_xor}
 use Rattle.strings.specs.Sums.{byte_at, xor_sum}
-use Rattle.strings.proofs.SumLaws.{sum_step}
 use Rattle.chunks.specs.Chunks.{chunk, cell_at}
 use Rattle.forms_choices.specs.Entries.{five}
 use Rattle.forms_sums.proofs.sums.add_two.Given as goal

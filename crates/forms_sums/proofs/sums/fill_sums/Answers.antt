@@ -1,12 +1,11 @@
 -- `forms_choices::sums::fill_sums` meets its contract. The invariant: the groups below g are filled.
 -- Assumes nothing.
 use borrow.Author.Rules.{rules}
-use Prim.Native.Nat.{ℕ, ◌+◌, ◌*◌, ◌-◌, ◌≤◌, ◌<◌}
+use Prim.Native.Nat.{ℕ, ◌+◌, ◌*◌, ◌-◌, ◌<◌}
 use mathlib.Core.List.{List}
 use mathlib.Core.Path.{◌≡◌, refl, ◌∙◌}
 use native.Mathlib.Decide.{dec_lt}
 use native.Mathlib.Omega.{arith}
-use lib.ListN.{length}
 use Rattle.chunks.specs.Chunks.{chunk, cell_at}
 use Rattle.forms_choices.specs.Entries.{entry_byte, Tabled}
 use Rattle.forms_sums.proofs.EntryLaws.{entry_is}

@@ -1,15 +1,9 @@
 -- `forms_choices::sums::fill_sums` meets its contract. The invariant: the groups below g are filled.
 -- Assumes nothing.
-use borrow.Author.Rules.{rules}
-use Prim.Native.Nat.{ℕ, ◌+◌, ◌*◌, ◌-◌, ◌≤◌, ◌<◌}
-use mathlib.Core.List.{List}
-use mathlib.Core.Path.{◌≡◌, refl, ◌∙◌}
-use native.Mathlib.Decide.{dec_lt}
-use native.Mathlib.Omega.{arith}
+use Prim.Native.Nat.{◌*◌, ◌-◌, ◌≤◌}
+use mathlib.Core.Path.{◌≡◌}
 use lib.ListN.{length}
-use Rattle.chunks.specs.Chunks.{chunk, cell_at}
-use Rattle.forms_choices.specs.Entries.{entry_byte, Tabled}
-use Rattle.forms_sums.proofs.EntryLaws.{entry_is}
+use Rattle.forms_choices.specs.Entries.{Tabled}
 use Rattle.forms_sums.proofs.sums.fill_sums.Given as goal
 
 abbrev pub invariant-loop-g : goal.invariant-loop-g

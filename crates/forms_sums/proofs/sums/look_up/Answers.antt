@@ -2,14 +2,14 @@
 -- added.
 -- Assumes nothing.
 use borrow.Author.Rules.{rules}
-use Prim.Native.Nat.{ℕ, ◌+◌, ◌*◌, ◌/◌, ◌-◌, ◌≤◌, ◌<◌}
+use Prim.Native.Nat.{ℕ, ◌+◌, ◌*◌, ◌/◌, ◌-◌}
 use mathlib.Core.Path.{◌≡◌, refl, sym, ap, ◌∙◌}
 use native.Mathlib.Omega.{arith}
-use lib.ListN.{length, get_or-replicate}
+use lib.ListN.{get_or-replicate}
 use lib.Bits.{bit_xor}
 use Rattle.strings.specs.Sums.{byte_at, xor_sum}
 use Rattle.chunks.specs.Chunks.{chunk}
-use Rattle.forms_choices.specs.Entries.{word_byte, looked_up}
+use Rattle.forms_choices.specs.Entries.{word_byte}
 use Rattle.forms_choices.proofs.ChoiceLaws.{looked_more, looked_last}
 use Rattle.forms_sums.proofs.sums.look_up.Goals as goal
 

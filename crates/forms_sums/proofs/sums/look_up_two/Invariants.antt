@@ -1,16 +1,12 @@
 -- `forms_choices::sums::look_up_two` meets its contract. The invariant: of both rows, the entries that the words below
 -- k choose are added.
 -- Assumes nothing.
-use borrow.Author.Rules.{rules}
 use Prim.Native.Nat.{ℕ, ◌+◌, ◌*◌, ◌/◌, ◌-◌, ◌≤◌, ◌<◌}
-use mathlib.Core.Path.{◌≡◌, refl, sym, ap, ap₂, ◌∙◌}
-use native.Mathlib.Omega.{arith}
-use lib.ListN.{length, get_or-replicate}
-use lib.Bits.{bit_xor}
-use Rattle.strings.specs.Sums.{byte_at, xor_sum}
+use mathlib.Core.Path.{◌≡◌}
+use lib.ListN.{length}
+use Rattle.strings.specs.Sums.{byte_at}
 use Rattle.chunks.specs.Chunks.{chunk}
-use Rattle.forms_choices.specs.Entries.{word_byte, looked_up}
-use Rattle.forms_choices.proofs.ChoiceLaws.{looked_more, looked_last}
+use Rattle.forms_choices.specs.Entries.{looked_up}
 use Rattle.forms_sums.proofs.sums.look_up_two.Given as goal
 
 abbrev pub invariant-loop-k : goal.invariant-loop-k

@@ -1,12 +1,10 @@
 -- `forms_choices::sums::store` meets its contract. The part that was lent is row k, and the others stand outside it.
 -- Assumes nothing.
-use borrow.Author.Rules.{rules}
-use Prim.Native.Nat.{ℕ, ◌+◌, ◌*◌, ◌-◌, ◌≤◌, ◌<◌}
+use Prim.Native.Nat.{◌+◌, ◌*◌, ◌-◌, ◌≤◌}
 use mathlib.Core.Path.{◌≡◌, ◌∙◌}
 use native.Mathlib.Nat.{add-sub_cancel_left}
 use native.Mathlib.Omega.{arith}
 use lib.ListN.{length, take, drop, length-take, length-drop}
-use Rattle.strings.specs.Sums.{byte_at}
 use Rattle.strings.proofs.Rows.{put_in, put_other}
 use Rattle.chunks.specs.Chunks.{chunk}
 use Rattle.forms_sums.proofs.sums.store.Goals as goal

@@ -1,6 +1,5 @@
 -- `hash::lookups::add_chosen` meets its contract. The two entries are those of the half-bytes.
 -- Assumes nothing.
-use borrow.Author.Rules.{rules}
 use Prim.Native.Nat.{ℕ, ◌+◌, ◌*◌, ◌/◌}
 use mathlib.Core.Path.{ap, ◌∙◌}
 use lib.Bits.{bit_xor}

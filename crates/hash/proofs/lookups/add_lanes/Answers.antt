@@ -1,14 +1,10 @@
 -- `hash::lookups::add_lanes` meets its contract. Each element is changed once (`Elementwise`).
 -- Assumes nothing.
 use borrow.Author.Rules.{rules}
-use Prim.Native.Nat.{ℕ, ◌≤◌, ◌-◌}
-use mathlib.Core.List.{List}
-use mathlib.Core.Path.{◌≡◌, refl}
-use lib.ListN.{length, length-set}
-use lib.Bits.{bit_xor}
+use mathlib.Core.Path.{refl}
+use lib.ListN.{length-set}
 use native.Mathlib.Omega.{arith}
 use Rattle.strings.proofs.Elementwise.{changed, changed_more, changed-all}
-use Rattle.lanes.specs.Lanes.{lanes, lane_at}
 use Rattle.hash.proofs.lookups.add_lanes.Invariants.{change}
 use Rattle.hash.proofs.lookups.add_lanes.Goals as goal
 

@@ -1,13 +1,11 @@
 -- `hash::lookups::add_lanes` meets its contract. Each element is changed once (`Elementwise`).
 -- Assumes nothing.
-use borrow.Author.Rules.{rules}
 use Prim.Native.Nat.{ℕ, ◌≤◌, ◌-◌}
 use mathlib.Core.List.{List}
-use mathlib.Core.Path.{◌≡◌, refl}
-use lib.ListN.{length, length-set}
+use mathlib.Core.Path.{◌≡◌}
+use lib.ListN.{length}
 use lib.Bits.{bit_xor}
-use native.Mathlib.Omega.{arith}
-use Rattle.strings.proofs.Elementwise.{changed, changed_more, changed-all}
+use Rattle.strings.proofs.Elementwise.{changed}
 use Rattle.lanes.specs.Lanes.{lanes, lane_at}
 use Rattle.hash.proofs.lookups.add_lanes.Given as goal
 

@@ -1,15 +1,9 @@
 -- `hash::lookups::fill_sums` meets its contract. The invariant: the groups below g are filled.
 -- Assumes nothing.
-use borrow.Author.Rules.{rules}
-use Prim.Native.Nat.{ℕ, ◌+◌, ◌*◌, ◌-◌, ◌≤◌, ◌<◌}
-use mathlib.Core.List.{List}
-use mathlib.Core.Path.{◌≡◌, refl, ◌∙◌}
-use native.Mathlib.Decide.{dec_lt}
-use native.Mathlib.Omega.{arith}
+use Prim.Native.Nat.{◌*◌, ◌-◌, ◌≤◌}
+use mathlib.Core.Path.{◌≡◌}
 use lib.ListN.{length}
-use Rattle.lanes.specs.Lanes.{lanes, lane_at}
-use Rattle.hash.specs.Entries.{entry_lane, LanesTabled}
-use Rattle.hash.proofs.EntryLaws.{entry_is}
+use Rattle.hash.specs.Entries.{LanesTabled}
 use Rattle.hash.proofs.lookups.fill_sums.Given as goal
 
 abbrev pub invariant-loop-g : goal.invariant-loop-g

@@ -2,7 +2,7 @@
 -- sum to is `SelectLaws`.
 -- Assumes nothing.
 use borrow.Author.Rules.{rules}
-use Prim.Native.Nat.{ℕ, ◌+◌, ◌*◌, ◌-◌, ◌%◌, ◌/◌, ◌≤◌, ◌<◌}
+use Prim.Native.Nat.{ℕ, ◌+◌, ◌*◌, ◌%◌, ◌/◌}
 use mathlib.Core.List.{List}
 use mathlib.Core.Path.{◌≡◌, refl, sym, ap, ◌∙◌}
 use native.Mathlib.Omega.{arith}
@@ -11,7 +11,6 @@ use lib.Bits.{bit_xor}
 use Rattle.strings.specs.Sums.{byte_at, xor_sum}
 use Rattle.strings.proofs.SumLaws.{sum_more}
 use Rattle.lanes.specs.Lanes.{lanes, lane_at}
-use Rattle.hash.specs.Entries.{row_looked_up}
 use Rattle.hash.proofs.SelectLaws.{look_up_selects}
 use Rattle.hash.proofs.lookups.look_up_row.Goals as goal
 

@@ -4,7 +4,6 @@ use mathlib.Core.Path.{ap, ◌∙◌}
 use mathlib.Core.List.{List}
 use Prim.Native.Nat.{ℕ}
 use Rattle.hash.specs.Entries.{entry_lane}
-use borrow.Author.Rules.{rules}
 use Rattle.hash.proofs.vectors.fill_entries.Goals as goal
 
 pub returns : goal.returns

@@ -13,7 +13,6 @@ use Rattle.strings.proofs.Rows.{row-byte}
 use Rattle.lanes.specs.Lanes.{lanes, lane_at}
 use Rattle.hash.specs.Hashed.{front_lane}
 use Rattle.hash.proofs.FrontLaws.{front_start, front_more}
-use borrow.Author.Rules.{rules}
 use Rattle.hash.proofs.vectors.hash_row.Goals as goal
 
 pub overflow_mul-at : goal.overflow_mul-at

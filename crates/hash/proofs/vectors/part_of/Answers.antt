@@ -6,7 +6,6 @@ use native.Mathlib.Nat.{add-sub_cancel_left}
 use native.Mathlib.Omega.{arith}
 use lib.ListN.{length-take, length-drop}
 use Rattle.protocol.specs.Lists.{part}
-use borrow.Author.Rules.{rules}
 use Rattle.hash.proofs.vectors.part_of.Goals as goal
 
 pub returns : goal.returns

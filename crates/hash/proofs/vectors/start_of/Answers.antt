@@ -2,7 +2,6 @@
 -- Assumes nothing.
 use mathlib.Core.Path.{refl}
 use native.Mathlib.Omega.{arith}
-use borrow.Author.Rules.{rules}
 use Rattle.hash.proofs.vectors.start_of.Goals as goal
 
 pub returns-then-from-eq0 : goal.returns-then-from-eq0

@@ -5,16 +5,6 @@ use Rattle.sponge.specs.Keccak.{θ, ρ, π}
 use Rattle.keccak.specs.Planes.{moved, joined, held_round}
 use Rattle.keccak.proofs.ChiLaws.{joined_is, chi_flips}
 use Rattle.keccak.proofs.LinearLaws.{linear_lt, round_held}
-use borrow.Author.Rules.{rules}
-use Rattle.keccak.proofs.odd.round.Reads as reads
-use Rattle.keccak.proofs.odd.round.Lts as lts
-use Rattle.keccak.proofs.known.Reads as known-reads
-use Rattle.keccak.proofs.planes.effects.Reads as effects-reads
-use Rattle.keccak.proofs.planes.plane0.Reads as plane0-reads
-use Rattle.keccak.proofs.planes.plane1.Reads as plane1-reads
-use Rattle.keccak.proofs.planes.plane2.Reads as plane2-reads
-use Rattle.keccak.proofs.planes.plane3.Reads as plane3-reads
-use Rattle.keccak.proofs.planes.plane4.Reads as plane4-reads
 use Rattle.keccak.proofs.odd.round.Goals as goal
 
 pub returns : goal.returns

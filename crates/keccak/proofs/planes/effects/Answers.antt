@@ -2,9 +2,6 @@
 use mathlib.Core.Path.{refl}
 use Rattle.sponge.specs.Lanes.{rotated, lane, listed}
 use Rattle.sponge.specs.Keccak.{column, effects}
-use borrow.Author.Rules.{rules}
-use Rattle.keccak.proofs.planes.effects.Reads as reads
-use Rattle.keccak.proofs.planes.effects.Lts as lts
 use Rattle.keccak.proofs.planes.effects.Goals as goal
 
 pub returns : goal.returns

@@ -4,9 +4,6 @@ use Rattle.sponge.specs.Lanes.{rotated, lane, state_of}
 use Rattle.sponge.specs.Tables.{offset, offsets}
 use Rattle.sponge.specs.Keccak.{with_effects, ρ, π}
 use Rattle.keccak.specs.Planes.{moved, plane₃}
-use borrow.Author.Rules.{rules}
-use Rattle.keccak.proofs.planes.plane3.Reads as reads
-use Rattle.keccak.proofs.planes.plane3.Lts as lts
 use Rattle.keccak.proofs.planes.plane3.Goals as goal
 
 pub returns : goal.returns

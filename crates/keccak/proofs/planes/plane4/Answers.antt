@@ -4,9 +4,6 @@ use Rattle.sponge.specs.Lanes.{rotated, lane, state_of}
 use Rattle.sponge.specs.Tables.{offset, offsets}
 use Rattle.sponge.specs.Keccak.{with_effects, ρ, π}
 use Rattle.keccak.specs.Planes.{moved, plane₄}
-use borrow.Author.Rules.{rules}
-use Rattle.keccak.proofs.planes.plane4.Reads as reads
-use Rattle.keccak.proofs.planes.plane4.Lts as lts
 use Rattle.keccak.proofs.planes.plane4.Goals as goal
 
 pub returns : goal.returns

@@ -2,7 +2,7 @@
 -- Assumes nothing.
 use mathlib.Core.Path.{◌≡◌, ap, ap₂, ◌∙◌}
 use mathlib.Core.List.{List}
-use Prim.Native.Nat.{ℕ, ◌*◌, ◌≤◌, ◌<◌}
+use Prim.Native.Nat.{ℕ}
 use native.Mathlib.Nat.{mul_assoc}
 use lib.Bits.{bit_xor}
 use Rattle.protocol.specs.Strings.{bytes_for, bit}
@@ -14,7 +14,6 @@ use Rattle.forms_columns.specs.Stacks.{coordinate_of}
 use Rattle.forms.specs.Batch.{forms_byte, middles_byte}
 use Rattle.forms.proofs.NarrowLaws.{element_bits}
 use Rattle.prover.proofs.LoadedLaws.{key-form}
-use borrow.Author.Rules.{rules}
 use Rattle.prover.proofs.steps.add_forms.Goals as goal
 
 pub section_a-requires : goal.section_a-requires

@@ -2,7 +2,7 @@
 -- Assumes nothing.
 use mathlib.Core.Path.{◌≡◌, ap, ◌∙◌}
 use mathlib.Core.List.{List}
-use Prim.Native.Nat.{ℕ, ◌+◌, ◌*◌, ◌≤◌, ◌<◌}
+use Prim.Native.Nat.{ℕ}
 use native.Mathlib.Omega.{arith}
 use lib.ListN.{length}
 use lib.Bits.{bit_xor}
@@ -15,7 +15,6 @@ use Rattle.lanes.specs.Lanes.{mask_bits, first_mask}
 use Rattle.format.specs.Sizes.{setting_for, alphabet_for, shape_for}
 use Rattle.format.proofs.SizeLaws.{in-limits, k-most}
 use Rattle.format.proofs.FitLaws.{mask_below, l_fits}
-use borrow.Author.Rules.{rules}
 use Rattle.prover.proofs.steps.add_masks.Goals as goal
 
 pub leaf_bytes-w-requires : goal.leaf_bytes-w-requires

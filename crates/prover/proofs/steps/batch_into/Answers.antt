@@ -1,22 +1,18 @@
 -- `prover::steps::batch_into` meets its contract: the masks, and the batched forms added to them, framed.
 -- Assumes nothing.
-use mathlib.Core.Path.{◌≡◌, refl, sym, ap, ap₂, ◌∙◌, subst}
-use mathlib.Core.List.{List, [], ◌∷◌, ◌++◌}
-use mathlib.Core.Bool.{true}
-use Prim.Native.Nat.{ℕ, ◌+◌, ◌*◌, ◌-◌, ◌≤◌, ◌<◌}
+use mathlib.Core.Path.{◌≡◌, refl, sym, ap, ap₂, ◌∙◌}
+use mathlib.Core.List.{List, [], ◌∷◌}
+use Prim.Native.Nat.{ℕ, ◌≤◌, ◌<◌}
 use native.Mathlib.Omega.{arith}
-use lib.ListN.{length, take, get_or-replicate}
+use lib.ListN.{length, get_or-replicate}
 use lib.Bits.{bit_xor, xor_zero_l}
 use Rattle.protocol.specs.Lists.{block_at}
-use Rattle.protocol.specs.Strings.{bytes_for, bit, pack}
-use Rattle.protocol.specs.Frames.{frame, framed_length}
-use Rattle.protocol.specs.Shape.{Shape, limits, k_of, w_of}
-use Rattle.protocol.specs.Sections.{commit_lengths, hash_lengths}
-use Rattle.protocol.specs.Prover.{c_section, d_section, ũSection, ṼSection, qs0_section, qs1_section}
-use Rattle.theorems.proofs.ListLaws.{row-end}
+use Rattle.protocol.specs.Strings.{bit}
+use Rattle.protocol.specs.Frames.{frame}
+use Rattle.protocol.specs.Shape.{w_of}
 use Rattle.format.specs.Sizes.{setting_for, alphabet_for, shape_for}
-use Rattle.format.proofs.SizeLaws.{in-limits, k-most, w_most, bytes_most, corrections_most, hashed_most, row-most}
-use Rattle.format.proofs.FitLaws.{n_fits, l_fits, variables_fit}
+use Rattle.format.proofs.SizeLaws.{in-limits}
+use Rattle.format.proofs.FitLaws.{variables_fit}
 use Rattle.protocol.specs.Key.{section_a, section_b}
 use Rattle.lanes.specs.Lanes.{lanes, lane_at, mask_lane, mask_bits, first_mask}
 use Rattle.forms_choices.proofs.ChoiceLaws.{up-to-first}
@@ -25,8 +21,7 @@ use Rattle.forms.specs.Batch.{forms_byte, middles_byte}
 use Rattle.forms_batching.proofs.VectorLaws.{vectors_below}
 use Rattle.prover_sections.proofs.SumSections.{first_is_u}
 use Rattle.prover.proofs.BatchSections.{qs0_are, qs1_are}
-use Rattle.sections.proofs.Writes.{framed-one, framed-two, rest-length, part_starts, take-length}
-use borrow.Author.Rules.{rules}
+use Rattle.sections.proofs.Writes.{take-length}
 use Rattle.prover.proofs.steps.batch_into.Goals as goal
 
 pub fill_vectors-requires : goal.fill_vectors-requires

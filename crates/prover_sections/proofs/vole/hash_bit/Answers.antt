@@ -10,7 +10,6 @@ use Rattle.protocol.specs.Strings.{bytes_for, bit}
 use Rattle.strings.specs.Products.{bit_product}
 use Rattle.strings.proofs.SumLaws.{sum_same}
 use Rattle.strings.proofs.BitLaws.{take-bit}
-use borrow.Author.Rules.{rules}
 use Rattle.prover_sections.proofs.vole.hash_bit.Goals as goal
 
 pub row_at-row-requires : goal.row_at-row-requires

@@ -11,7 +11,6 @@ use lib.ListN.{length, length-take, length-drop}
 use Rattle.protocol.specs.Lists.{part, block_at}
 use Rattle.strings.specs.Sums.{byte_at}
 use Rattle.strings.proofs.Rows.{row-byte, put_in, put_other}
-use borrow.Author.Rules.{rules}
 use Rattle.prover_sections.proofs.vole.write_correction.Goals as goal
 
 pub returns : goal.returns

@@ -1,14 +1,12 @@
 -- `prover_sections::vole::write_corrections` meets its contract. The invariant: the rows below e are done.
 -- Assumes nothing.
 use borrow.Author.Rules.{rules}
-use Prim.Native.Nat.{◌+◌, ◌*◌, ◌-◌, ◌≤◌}
-use mathlib.Core.Path.{◌≡◌, refl, ◌∙◌}
+use Prim.Native.Nat.{◌+◌, ◌*◌, ◌-◌}
+use mathlib.Core.Path.{refl, ◌∙◌}
 use native.Mathlib.Omega.{arith}
 use lib.Bits.{bit_xor}
-use lib.ListN.{length}
 use Rattle.strings.specs.Sums.{byte_at}
 use Rattle.strings.proofs.Rows.{row-end, rows_more}
-use Rattle.tables.specs.Sums.{CorrectionsAre}
 use Rattle.prover_sections.proofs.vole.write_corrections.Goals as goal
 
 pub loop-e-init : goal.loop-e-init

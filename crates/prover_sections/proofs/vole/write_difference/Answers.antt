@@ -8,7 +8,6 @@ use lib.ListN.{length, take, length-take}
 use Rattle.protocol.specs.Strings.{bytes_for, bit}
 use Rattle.strings.proofs.BitLaws.{xor_bits, take-bit}
 use Rattle.strings.proofs.Packed.{packed}
-use borrow.Author.Rules.{rules}
 use Rattle.prover_sections.proofs.vole.write_difference.Goals as goal
 
 pub slice_bounds-xor_of-end : goal.slice_bounds-xor_of-end

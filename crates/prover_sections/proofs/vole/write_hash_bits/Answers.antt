@@ -3,13 +3,12 @@
 -- Assumes nothing.
 use borrow.Author.Rules.{rules}
 use borrow.Author.Count.{below_more}
-use Prim.Native.Nat.{ℕ, ◌*◌, ◌-◌, ◌/◌, ◌%◌, ◌≤◌, ◌<◌}
+use Prim.Native.Nat.{◌/◌, ◌%◌}
 use mathlib.Core.Path.{◌≡◌, refl, ap, ◌∙◌}
 use native.Mathlib.Omega.{arith}
 use lib.Bits.{bit_xor}
-use lib.ListN.{length}
 use Rattle.protocol.specs.Strings.{bytes_for, bit}
-use Rattle.strings.specs.Sums.{byte_at, bit_of}
+use Rattle.strings.specs.Sums.{bit_of}
 use Rattle.strings.proofs.Rows.{row-end}
 use Rattle.strings.proofs.Meaning.{bit_is, bitOf_zero}
 use Rattle.strings.proofs.Packed.{packed}

@@ -2,7 +2,6 @@
 -- sizes that the key has.
 -- Assumes nothing.
 use mathlib.Core.Path.{sym, ap, ◌∙◌}
-use borrow.Author.Rules.{rules}
 use lib.ListN.{length}
 use Rattle.protocol.specs.Answers.{ask}
 use Rattle.protocol.specs.Shape.{shape_of}

@@ -1,7 +1,6 @@
 -- `questions::calls::commit_inputs` meets its contract. The questions on each input, one after the other.
 -- Assumes nothing.
 use mathlib.Core.Path.{ap}
-use borrow.Author.Rules.{rules}
 use lib.Dec.{eqb}
 use Rattle.format.proofs.AskLaws.{says_all, then_ask, same_also}
 use Rattle.questions.proofs.calls.commit_inputs.Goals as goal

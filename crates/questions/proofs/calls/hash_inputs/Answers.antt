@@ -1,7 +1,6 @@
 -- `questions::calls::hash_inputs` meets its contract. The questions on each input, one after the other.
 -- Assumes nothing.
 use mathlib.Core.Path.{ap, sym, ◌∙◌}
-use borrow.Author.Rules.{rules}
 use lib.Dec.{eqb}
 use Rattle.format.proofs.AllLaws.{all_one}
 use Rattle.format.proofs.AskLaws.{same_first, then_ask, same_also}

@@ -1,7 +1,6 @@
 -- `questions::calls::prove_inputs` meets its contract. The questions on each input, one after the other.
 -- Assumes nothing.
 use mathlib.Core.Path.{ap, sym, ◌∙◌}
-use borrow.Author.Rules.{rules}
 use lib.Dec.{eqb}
 use Rattle.algebra.proofs.CountLaws.{and_left}
 use Rattle.format.proofs.AllLaws.{all_two}

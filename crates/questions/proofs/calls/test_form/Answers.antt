@@ -2,7 +2,6 @@
 -- Assumes nothing.
 use mathlib.Core.Path.{sym, ap, ◌∙◌}
 use mathlib.Core.List.{[], ◌∷◌}
-use borrow.Author.Rules.{rules}
 use Rattle.protocol.specs.Answers.{ask}
 use Rattle.protocol.specs.Questions.{q9}
 use Rattle.questions.specs.Facts.{KeyFacts}

@@ -2,7 +2,6 @@
 -- Assumes nothing.
 use mathlib.Core.Path.{sym, ◌∙◌}
 use mathlib.Core.Bool.{◌&&◌}
-use borrow.Author.Rules.{rules}
 use Rattle.algebra.proofs.CountLaws.{and_left, and_right}
 use Rattle.format.proofs.AllLaws.{all_three}
 use Rattle.format.proofs.AskLaws.{same_first, then_ask}

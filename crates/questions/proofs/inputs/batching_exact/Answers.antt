@@ -1,6 +1,5 @@
 -- `questions::inputs::batching_exact` meets its contract. The length compared is the definition's.
 -- Assumes nothing.
-use borrow.Author.Rules.{rules}
 use Rattle.protocol.specs.Questions.{χExact}
 use Rattle.questions.proofs.inputs.batching_exact.Goals as goal
 

@@ -1,6 +1,5 @@
 -- `questions::inputs::batching_form` meets its contract. It returns the answer so far, or puts its question.
 -- Assumes nothing.
-use borrow.Author.Rules.{rules}
 use Rattle.format.proofs.AllLaws.{all_one}
 use Rattle.format.proofs.AskLaws.{stop_at, same_also}
 use Rattle.questions.proofs.inputs.batching_form.Goals as goal

@@ -1,6 +1,5 @@
 -- `questions::inputs::challenge_form` meets its contract. It returns the answer so far, or puts its question.
 -- Assumes nothing.
-use borrow.Author.Rules.{rules}
 use Rattle.format.proofs.AllLaws.{all_two}
 use Rattle.format.proofs.AskLaws.{stop_at, same_also}
 use Rattle.questions.proofs.inputs.challenge_form.Goals as goal

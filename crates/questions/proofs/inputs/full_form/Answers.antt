@@ -1,7 +1,6 @@
 -- `questions::inputs::full_form` meets its contract: the leaves of a tree are as many as the field has elements.
 -- Assumes nothing.
 use mathlib.Core.Path.{ap, ◌∙◌}
-use borrow.Author.Rules.{rules}
 use Rattle.protocol.specs.Answers.{ask}
 use Rattle.format.specs.Sizes.{alphabet_for, shape_for}
 use Rattle.format.specs.Verdict.{answer_of, and_then}

@@ -1,6 +1,5 @@
 -- `questions::inputs::hash_matrix_exact` meets its contract. The length compared is the definition's.
 -- Assumes nothing.
-use borrow.Author.Rules.{rules}
 use Rattle.protocol.specs.Questions.{h_exact}
 use Rattle.questions.proofs.inputs.hash_matrix_exact.Goals as goal
 

@@ -2,7 +2,6 @@
 -- Assumes nothing.
 use mathlib.Core.Path.{ap, ◌∙◌}
 use Prim.Native.Nat.{◌-◌}
-use borrow.Author.Rules.{rules}
 use Rattle.protocol.specs.Shape.{per_opened}
 use Rattle.protocol.specs.Answers.{ask}
 use Rattle.format.specs.Sizes.{alphabet_for, shape_for}

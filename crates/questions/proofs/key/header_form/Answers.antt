@@ -2,9 +2,8 @@
 -- Assumes nothing.
 use mathlib.Core.List.{List, [], ◌∷◌}
 use mathlib.Core.Path.{◌≡◌, sym, ap, ◌∙◌}
-use mathlib.Core.Bool.{Bool, true, false, not}
+use mathlib.Core.Bool.{Bool, true, not}
 use Prim.Native.Nat.{ℕ}
-use borrow.Author.Rules.{rules}
 use lib.ListN.{drop}
 use Rattle.protocol.specs.Frames.{framed}
 use Rattle.protocol.specs.Alphabet.{Alphabet}
@@ -14,7 +13,6 @@ use Rattle.protocol.specs.Answers.{Answer, question, ask}
 use Rattle.theorems.proofs.TestLaws.{leb_yes, leb_no}
 use Rattle.format.specs.Sizes.{alphabet_for}
 use Rattle.format.specs.Verdict.{answer_of}
-use Rattle.questions.specs.Asking.{KeyForm}
 use Rattle.format.proofs.AskLaws.{no_of, yes_of, says_no, says_yes, said_yes, stop_at, then_ask, same_first, same_also}
 use Rattle.questions.proofs.KeyLaws.{sized-key}
 use Rattle.questions.proofs.key.header_form.Goals as goal

@@ -3,7 +3,6 @@
 use mathlib.Core.Path.{◌≡◌, ap, ◌∙◌}
 use Prim.Native.Nat.{◌+◌}
 use native.Mathlib.Omega.{arith}
-use borrow.Author.Rules.{rules}
 use Rattle.protocol.specs.Frames.{framed_length}
 use Rattle.protocol.specs.Key.{key_lengths}
 use Rattle.format.specs.Sizes.{alphabet_for, setting_for, shape_for}

@@ -1,6 +1,5 @@
 -- `questions::key::key_form` meets its contract: the degree, and then the key.
 -- Assumes nothing.
-use borrow.Author.Rules.{rules}
 use Rattle.format.proofs.AskLaws.{no_of, yes_of, says_no, says_yes}
 use mathlib.Core.Bool.{not}
 use mathlib.Core.Path.{ap}

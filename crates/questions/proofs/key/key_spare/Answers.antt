@@ -3,7 +3,6 @@
 use mathlib.Core.Path.{ap, ◌∙◌}
 use Prim.Native.Nat.{◌*◌}
 use native.Mathlib.Omega.{arith}
-use borrow.Author.Rules.{rules}
 use Rattle.protocol.specs.Strings.{spare_zero}
 use Rattle.protocol.specs.Key.{rows_spare, key_spare}
 use Rattle.format.specs.Sizes.{setting_for, alphabet_for, shape_for}

@@ -1,6 +1,5 @@
 -- `questions::key::section_a` meets its contract. The first section.
 -- Assumes nothing.
-use borrow.Author.Rules.{rules}
 use Rattle.protocol.specs.Key.{key_lengths, section_a}
 use Rattle.questions.proofs.key.section_a.Goals as goal
 

@@ -1,6 +1,5 @@
 -- `questions::key::section_b` meets its contract. The second section.
 -- Assumes nothing.
-use borrow.Author.Rules.{rules}
 use Rattle.protocol.specs.Key.{key_lengths, section_b}
 use Rattle.questions.proofs.key.section_b.Goals as goal
 

@@ -1,6 +1,5 @@
 -- `questions::key::section_y` meets its contract. The third section.
 -- Assumes nothing.
-use borrow.Author.Rules.{rules}
 use Rattle.protocol.specs.Key.{key_lengths, section_y}
 use Rattle.questions.proofs.key.section_y.Goals as goal
 

@@ -1,7 +1,6 @@
 -- `questions::proof::proof_elements` meets its contract: Ṽ, then QS0, then QS1.
 -- Assumes nothing.
 use mathlib.Core.Path.{ap, ◌∙◌}
-use borrow.Author.Rules.{rules}
 use Rattle.protocol.specs.Alphabet.{elements_in}
 use Rattle.protocol.specs.Questions.{proof_elements}
 use Rattle.format.specs.Sizes.{alphabet_for}

@@ -3,7 +3,6 @@
 use mathlib.Core.Path.{sym, ap, ◌∙◌}
 use Prim.Native.Nat.{◌*◌, ◌-◌}
 use native.Mathlib.Omega.{arith}
-use borrow.Author.Rules.{rules}
 use Rattle.protocol.specs.Strings.{bytes_for, spare_zero}
 use Rattle.protocol.specs.Key.{rows_spare}
 use Rattle.protocol.specs.Shape.{l_of, w_of}

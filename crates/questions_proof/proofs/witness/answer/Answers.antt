@@ -2,7 +2,6 @@
 -- Assumes nothing.
 use mathlib.Core.Path.{refl}
 use native.Mathlib.Omega.{arith}
-use borrow.Author.Rules.{rules}
 use Rattle.questions_proof.proofs.witness.answer.Goals as goal
 
 pub overflow_cast-i : goal.overflow_cast-i

@@ -6,7 +6,6 @@ use Rattle.protocol.specs.Shape.{most_equations}
 use Rattle.format.specs.Sizes.{shape_for}
 use Rattle.format.proofs.SizeLaws.{in-limits}
 use Rattle.sections.proofs.Writes.{prefix_length}
-use borrow.Author.Rules.{rules}
 use Rattle.questions_proof.proofs.witness.solved.Goals as goal
 
 pub slice_bounds-errors-end : goal.slice_bounds-errors-end

@@ -13,7 +13,6 @@ use Rattle.format.proofs.SizeLaws.{in-limits}
 use Rattle.equations.specs.Equations.{key_error}
 use Rattle.equations.proofs.BlockLaws.{bytes-enough}
 use Rattle.questions_proof.proofs.SolvedLaws.{solved_as}
-use borrow.Author.Rules.{rules}
 use Rattle.format.specs.Sizes.{setting_for, alphabet_for, shape_for}
 use Rattle.questions.proofs.KeyLaws.{facts-sized}
 use Rattle.questions_proof.proofs.witness.test_equations.Goals as goal

@@ -2,10 +2,8 @@
 -- bytes passed are below 16.
 -- Assumes nothing.
 use mathlib.Core.Path.{◌≡◌, ap, ◌∙◌}
-use Prim.Native.Nat.{◌-◌, ◌≤◌}
 use native.Mathlib.Omega.{arith}
 use borrow.Author.Rules.{rules}
-use lib.Dec.{eqb}
 use lib.ListN.{length}
 use Rattle.rows.specs.Spare.{narrow}
 use Rattle.rows.proofs.SpareLaws.{narrow_to, narrow-none, narrow_more}

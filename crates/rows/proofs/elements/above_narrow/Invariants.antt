@@ -1,14 +1,11 @@
 -- `sections::elements::above_narrow` meets its contract. The loop's invariant: what was found is 0 exactly where the
 -- bytes passed are below 16.
 -- Assumes nothing.
-use mathlib.Core.Path.{◌≡◌, ap, ◌∙◌}
+use mathlib.Core.Path.{◌≡◌}
 use Prim.Native.Nat.{◌-◌, ◌≤◌}
-use native.Mathlib.Omega.{arith}
-use borrow.Author.Rules.{rules}
 use lib.Dec.{eqb}
 use lib.ListN.{length}
-use Rattle.rows.specs.Spare.{narrow}
-use Rattle.rows.proofs.SpareLaws.{narrow_to, narrow-none, narrow_more}
+use Rattle.rows.proofs.SpareLaws.{narrow_to}
 use Rattle.rows.proofs.elements.above_narrow.Given as goal
 
 abbrev pub invariant-loop-i : goal.invariant-loop-i

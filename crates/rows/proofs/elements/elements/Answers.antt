@@ -1,7 +1,6 @@
 -- `sections::elements::elements` meets its contract: at degree 4 the test is the definition's, and at any other every
 -- byte is an element.
 -- Assumes nothing.
-use borrow.Author.Rules.{rules}
 use Rattle.rows.proofs.ElementLaws.{tested-elements}
 use Rattle.rows.proofs.elements.elements.Goals as goal
 

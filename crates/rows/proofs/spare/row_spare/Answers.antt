@@ -1,7 +1,6 @@
 -- `sections::spare::row_spare` meets its contract. One row is a table of one row.
 -- Assumes nothing.
 use mathlib.Core.Path.{◌∙◌}
-use borrow.Author.Rules.{rules}
 use Rattle.rows.proofs.SpareLaws.{one-row}
 use Rattle.rows.proofs.spare.row_spare.Goals as goal
 

@@ -1,7 +1,6 @@
 -- `sections::spare::rows_spare` meets its contract. Rows of whole bytes have no spare bits.
 -- Assumes nothing.
 use mathlib.Core.Path.{sym}
-use borrow.Author.Rules.{rules}
 use Rattle.rows.proofs.SpareLaws.{whole-bytes}
 use Rattle.rows.proofs.spare.rows_spare.Goals as goal
 

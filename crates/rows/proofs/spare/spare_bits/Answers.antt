@@ -2,12 +2,10 @@
 -- passed have spare bits 0 (`SpareLaws`).
 -- Assumes nothing.
 use mathlib.Core.Path.{◌≡◌}
-use Prim.Native.Nat.{◌+◌, ◌*◌, ◌-◌, ◌≤◌}
+use Prim.Native.Nat.{◌+◌, ◌*◌, ◌≤◌}
 use native.Mathlib.Omega.{arith}
 use borrow.Author.Rules.{rules}
 use lib.ListN.{length}
-use lib.Dec.{eqb}
-use Rattle.rows.specs.Spare.{bits_spare}
 use Rattle.rows.proofs.SpareLaws.{no_rows, row_fits, rows_more}
 use Rattle.rows.proofs.spare.spare_bits.Goals as goal
 
@@ -33,7 +31,7 @@ overflow_sub-found c = omega (arith, turn c)
 pub bounds-s-i : goal.bounds-s-i
 bounds-s-i c =
     let at : (1 ≤ c.loop-i.i * c.bytes_for-width.result + c.bytes_for-width.result)
-        × (c.loop-i.i * c.bytes_for-width.result + c.bytes_for-width.result ≤ length c.args.s.now) =
+    × (c.loop-i.i * c.bytes_for-width.result + c.bytes_for-width.result ≤ length c.args.s.now) =
     rw c.bytes_for-width.ensures (row_fits c.args.s.now c.args.bits c.args.rows c.requires.0 c.requires.1 (λ i. (c.type_inv.s i).fits) c.loop-i.i c.loop-i-test.true) in
     omega (arith, at)
 

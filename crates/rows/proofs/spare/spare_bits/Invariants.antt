@@ -2,13 +2,9 @@
 -- passed have spare bits 0 (`SpareLaws`).
 -- Assumes nothing.
 use mathlib.Core.Path.{◌≡◌}
-use Prim.Native.Nat.{◌+◌, ◌*◌, ◌-◌, ◌≤◌}
-use native.Mathlib.Omega.{arith}
-use borrow.Author.Rules.{rules}
-use lib.ListN.{length}
+use Prim.Native.Nat.{◌-◌, ◌≤◌}
 use lib.Dec.{eqb}
 use Rattle.rows.specs.Spare.{bits_spare}
-use Rattle.rows.proofs.SpareLaws.{no_rows, row_fits, rows_more}
 use Rattle.rows.proofs.spare.spare_bits.Given as goal
 
 abbrev pub invariant-loop-i : goal.invariant-loop-i

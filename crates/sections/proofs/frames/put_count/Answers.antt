@@ -2,7 +2,6 @@
 -- Assumes nothing.
 use Rattle.protocol.specs.Frames.{count4}
 use Rattle.sections.proofs.Writes.{four}
-use borrow.Author.Rules.{rules}
 use Rattle.sections.proofs.frames.put_count.Goals as goal
 
 pub returns : goal.returns

@@ -1,11 +1,8 @@
 -- `sections::frames::put_section` meets its contract: the count, and after it the section.
 -- Assumes nothing.
-use mathlib.Core.Path.{◌≡◌, sym, ap, ap₂, ◌∙◌}
-use mathlib.Core.List.{List, ◌++◌, append-nil}
-use Prim.Native.Nat.{ℕ}
+use mathlib.Core.Path.{ap, ◌∙◌}
 use native.Mathlib.Omega.{arith}
-use lib.ListN.{length, drop, length-take}
-use Rattle.protocol.specs.Frames.{count4, frame}
+use lib.ListN.{length, length-take}
 use Rattle.sections.proofs.Writes.{framed-one}
 use borrow.Author.Rules.{rules}
 use Rattle.sections.proofs.frames.put_section.Goals as goal

@@ -1,12 +1,10 @@
 -- `sections::frames::put_two` meets its contract: a section, and after it the other.
 -- Assumes nothing.
-use mathlib.Core.Path.{◌≡◌, sym, ap, ap₂, ◌∙◌}
-use mathlib.Core.List.{List, [], ◌∷◌, ◌++◌}
-use Prim.Native.Nat.{ℕ, ◌+◌}
+use mathlib.Core.Path.{◌∙◌}
+use mathlib.Core.List.{[], ◌∷◌}
+use Prim.Native.Nat.{◌+◌}
 use native.Mathlib.Omega.{arith}
 use lib.ListN.{length, drop, length-take}
-use Rattle.protocol.specs.Frames.{frame}
-use Rattle.theorems.proofs.FrameLaws.{frame-append}
 use Rattle.sections.proofs.Writes.{framed-two}
 use borrow.Author.Rules.{rules}
 use Rattle.sections.proofs.frames.put_two.Goals as goal

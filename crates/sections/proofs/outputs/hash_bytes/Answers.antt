@@ -2,7 +2,6 @@
 -- Assumes nothing.
 use mathlib.Core.Path.{ap, ◌∙◌}
 use native.Mathlib.Omega.{arith}
-use borrow.Author.Rules.{rules}
 use Rattle.protocol.specs.Frames.{framed_length}
 use Rattle.format.specs.Sizes.{setting_for, shape_for}
 use Rattle.format.proofs.SizeLaws.{hash-most}

@@ -2,12 +2,11 @@
 -- that are left have still to follow.
 -- Assumes nothing.
 use mathlib.Core.Path.{◌≡◌, refl, ap, ◌∙◌}
-use Prim.Native.Nat.{ℕ, ◌-◌, ◌≤◌, ◌<◌}
 use native.Mathlib.Numerals.{add-one}
 use native.Mathlib.Omega.{arith}
 use borrow.Author.Rules.{rules}
 use lib.Dec.{eqb}
-use lib.ListN.{length, get_or, drop, length-set}
+use lib.ListN.{length, length-set}
 use Rattle.protocol.specs.Frames.{framed}
 use Rattle.theorems.proofs.TestLaws.{eqb_same, eqb-other}
 use Rattle.format.specs.Verdict.{answer_of}
@@ -55,7 +54,7 @@ returns-then-next-proof c =
     let a = c.args in
     let end : l.i ≡ 6 = omega arith in (
       says_yes _ 12 0 _ ((let ended' : framed c.args.lengths.now c.args.proof.now ≡ eqb c.loop-i.next (length c.args.proof.now) = let l = c.loop-i in
-    l.invariant.2 ∙ turn_end _ _ l.next l.i (omega arith) l.invariant.1 in ended') ∙ eqb_same l.next (length a.proof.now) (search rules)) says_all,
+          l.invariant.2 ∙ turn_end _ _ l.next l.i (omega arith) l.invariant.1 in ended') ∙ eqb_same l.next (length a.proof.now) (search rules)) says_all,
       λ _ i h. l.invariant.5 i (omega (arith, h, end)),
     )
 

@@ -4,16 +4,10 @@ use Rattle.sponge.specs.Lanes.{lane_count}
 use Rattle.sponge.specs.Sponge.{added_all}
 use Rattle.shake.proofs.StateLaws.{all-length}
 use Rattle.shake.proofs.MixLaws.{three_parts, where_words}
-use borrow.Author.Rules.{rules}
 use Prim.Native.Nat.{◌+◌, ◌*◌, ◌/◌, ◌-◌}
 use mathlib.Core.Path.{◌≡◌, ap, ◌∙◌}
 use native.Mathlib.Omega.{arith}
 use lib.ListN.{length, take, drop, length-take, length-drop}
-use Rattle.shake.proofs.input.mix.Reads as reads
-use Rattle.shake.proofs.input.mix.Lts as lts
-use Rattle.strings.proofs.least.Reads as least-reads
-use Rattle.shake.proofs.input.mix_bytes.Reads as mix-bytes-reads
-use Rattle.shake.proofs.input.mix_words.Reads as mix-words-reads
 use Rattle.shake.proofs.input.mix.Goals as goal
 
 pub slice_bounds-mix_bytes-end : goal.slice_bounds-mix_bytes-end

@@ -1,17 +1,10 @@
 -- `shake::input::mix_bytes` meets its contract. What is left to add, added to the lanes, gives the result.
 -- Assumes nothing.
-use borrow.Author.Rules.{rules}
-use Prim.Native.Nat.{◌+◌, ◌-◌, ◌^◌, ◌≤◌, ◌<◌}
-use mathlib.Core.Path.{◌≡◌, ap, ◌∙◌}
-use native.Mathlib.Nat.{add-zero}
-use native.Mathlib.Omega.{arith}
-use lib.ListN.{length, get_or, drop, length-set}
+use Prim.Native.Nat.{◌+◌, ◌-◌, ◌≤◌}
+use mathlib.Core.Path.{◌≡◌}
+use lib.ListN.{length, drop}
 use Rattle.sponge.specs.Lanes.{lane_count}
 use Rattle.sponge.specs.Sponge.{added_all}
-use Rattle.shake.proofs.MixLaws.{byte_step, none_left}
-use Rattle.shake.proofs.input.mix_bytes.Reads as reads
-use Rattle.shake.proofs.input.mix_bytes.Lts as lts
-use Rattle.strings.proofs.word.Reads as word-reads
 use Rattle.shake.proofs.input.mix_bytes.Given as goal
 
 abbrev pub invariant-loop-i : goal.invariant-loop-i

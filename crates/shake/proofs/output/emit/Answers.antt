@@ -6,12 +6,6 @@ use lib.ListN.{length, length-take}
 use Rattle.sponge.specs.Sponge.{byte_in}
 use Rattle.shake.proofs.MixLaws.{where_words}
 use Rattle.shake.proofs.EmitLaws.{three-given}
-use borrow.Author.Rules.{rules}
-use Rattle.shake.proofs.output.emit.Reads as reads
-use Rattle.shake.proofs.output.emit.Lts as lts
-use Rattle.shake.proofs.output.emit_bytes.Reads as emit-bytes-reads
-use Rattle.shake.proofs.output.emit_words.Reads as emit-words-reads
-use Rattle.strings.proofs.least.Reads as least-reads
 use Rattle.shake.proofs.output.emit.Goals as goal
 
 pub slice_bounds-emit_bytes-end-2 : goal.slice_bounds-emit_bytes-end-2

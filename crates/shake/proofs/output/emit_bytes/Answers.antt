@@ -8,12 +8,10 @@ use Rattle.sponge.specs.Lanes.{listed}
 use Rattle.sponge.specs.Sponge.{byte_in}
 use Rattle.shake.proofs.PieceLaws.{listed_next}
 use borrow.Author.Rules.{rules}
-use Prim.Native.Nat.{◌+◌, ◌-◌, ◌≤◌}
+use Prim.Native.Nat.{◌+◌}
 use mathlib.Core.Path.{◌≡◌, refl, sym, ap, ◌∙◌}
 use native.Mathlib.Omega.{arith}
 use lib.ListN.{length, take, length-set}
-use Rattle.shake.proofs.output.emit_bytes.Reads as reads
-use Rattle.shake.proofs.output.emit_bytes.Lts as lts
 use Rattle.shake.proofs.output.emit_bytes.Goals as goal
 
 pub loop-i-init : goal.loop-i-init

@@ -1,19 +1,10 @@
 -- `shake::output::emit_bytes` meets its contract. The bytes passed are those of the lanes.
 -- Assumes nothing.
-use mathlib.Core.List.{[], ◌∷◌, ◌++◌}
-use native.Mathlib.Numerals.{add-one}
-use lib.ListN.{set}
-use lib.Seq.{take-suc-set, take_all}
 use Rattle.sponge.specs.Lanes.{listed}
 use Rattle.sponge.specs.Sponge.{byte_in}
-use Rattle.shake.proofs.PieceLaws.{listed_next}
-use borrow.Author.Rules.{rules}
-use Prim.Native.Nat.{◌+◌, ◌-◌, ◌≤◌}
-use mathlib.Core.Path.{◌≡◌, refl, sym, ap, ◌∙◌}
-use native.Mathlib.Omega.{arith}
-use lib.ListN.{length, take, length-set}
-use Rattle.shake.proofs.output.emit_bytes.Reads as reads
-use Rattle.shake.proofs.output.emit_bytes.Lts as lts
+use Prim.Native.Nat.{◌-◌, ◌≤◌}
+use mathlib.Core.Path.{◌≡◌}
+use lib.ListN.{length, take}
 use Rattle.shake.proofs.output.emit_bytes.Given as goal
 
 abbrev pub invariant-loop-i : goal.invariant-loop-i

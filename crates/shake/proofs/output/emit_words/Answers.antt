@@ -1,7 +1,7 @@
 -- `shake::output::emit_words` meets its contract. The bytes passed are those of the lanes.
 -- Assumes nothing.
 use borrow.Author.Rules.{rules}
-use Prim.Native.Nat.{◌+◌, ◌*◌, ◌%◌, ◌-◌, ◌≤◌}
+use Prim.Native.Nat.{◌+◌, ◌*◌, ◌-◌, ◌≤◌}
 use mathlib.Core.Path.{◌≡◌, refl, sym, ap, ◌∙◌}
 use native.Mathlib.Omega.{arith}
 use lib.ListN.{length, take, drop, length-take, length-drop}
@@ -10,9 +10,6 @@ use borrow.Rule.Slice.PartMut.{same_len_mid}
 use Rattle.sponge.specs.Lanes.{listed}
 use Rattle.sponge.specs.Sponge.{byte_in}
 use Rattle.shake.proofs.EmitLaws.{words_step}
-use Rattle.shake.proofs.output.emit_words.Reads as reads
-use Rattle.shake.proofs.output.emit_words.Lts as lts
-use Rattle.shake.proofs.output.put_word.Reads as put-word-reads
 use Rattle.shake.proofs.output.emit_words.Goals as goal
 
 pub loop-i-init : goal.loop-i-init

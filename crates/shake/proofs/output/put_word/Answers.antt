@@ -2,9 +2,6 @@
 use native.Mathlib.Omega.{arith}
 use lib.ListN.{length-set}
 use Rattle.shake.proofs.EmitLaws.{word_stored}
-use borrow.Author.Rules.{rules}
-use Rattle.shake.proofs.output.put_word.Reads as reads
-use Rattle.shake.proofs.output.put_word.Lts as lts
 use Rattle.shake.proofs.output.put_word.Goals as goal
 
 pub bounds-out-4 : goal.bounds-out-4

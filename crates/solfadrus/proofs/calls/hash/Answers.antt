@@ -12,7 +12,6 @@ use Rattle.format.specs.Verdict.{answer_of}
 use Rattle.questions.specs.Facts.{KeyFacts, HashFacts}
 use Rattle.questions.proofs.KeyLaws.{by-sizes}
 use Rattle.solfadrus.proofs.FactLaws.{hash-facts}
-use borrow.Author.Rules.{rules}
 use Rattle.solfadrus.proofs.calls.hash.Goals as goal
 
 pub hash_form-form-requires : goal.hash_form-form-requires

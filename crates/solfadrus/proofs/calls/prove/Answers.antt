@@ -15,7 +15,6 @@ use Rattle.format.proofs.AskLaws.{then_ask, go_on, stop_at}
 use Rattle.questions.specs.Facts.{ProveFacts}
 use Rattle.questions.proofs.KeyLaws.{by-sizes}
 use Rattle.solfadrus.proofs.FactLaws.{prove-facts}
-use borrow.Author.Rules.{rules}
 use Rattle.solfadrus.proofs.calls.prove.Goals as goal
 
 pub prove_form-form-requires : goal.prove_form-form-requires
@@ -28,11 +27,17 @@ returns-in_default c =
     rw (← c.sizes_of-s.ensures.1) (record { result_value = then_ask (prove_questions (setting_for c.sizes_of-s.result) a.key.now a.leaves.now a.witness.now a.matrix.now a.batching.now a.out.now) (q11 (alphabet_for c.sizes_of-s.result) (shape_of a.key.now) a.key.now a.witness.now ∷ []) (c.prove_form-form.ensures a.out.now refl) (stop_at _ c.in_default.is); prove_output = rw c.in_default.is })
 
 pub solved-answer-requires : goal.solved-answer-requires
-solved-answer-requires c = (c.sizes_of-s.ensures.0, record { of-key = ((let facts' : ProveFacts (alphabet_for c.sizes_of-s.result) (shape_for c.sizes_of-s.result) c.args.key.now c.args.leaves.now c.args.witness.now c.args.matrix.now c.args.batching.now c.args.out.now = let a = c.args in
-    let f = prove-facts (setting_for c.sizes_of-s.result) a.key.now a.leaves.now a.witness.now a.matrix.now a.batching.now a.out.now ((let asked' : ask (prove_questions (setting_for c.sizes_of-s.result) c.args.key.now c.args.leaves.now c.args.witness.now c.args.matrix.now c.args.batching.now c.args.out.now) ≡ accepted = sym (c.prove_form-form.ensures c.args.out.now refl) ∙ ap answer_of c.in-Accepted.is in asked')) in
-    by-sizes (λ z. ProveFacts (alphabet_for c.sizes_of-s.result) z a.key.now a.leaves.now a.witness.now a.matrix.now a.batching.now a.out.now) c.sizes_of-s.result a.key.now c.sizes_of-s.ensures.0 f.of-key.header f in facts')).of-key; of_witness = ((let facts' : ProveFacts (alphabet_for c.sizes_of-s.result) (shape_for c.sizes_of-s.result) c.args.key.now c.args.leaves.now c.args.witness.now c.args.matrix.now c.args.batching.now c.args.out.now = let a = c.args in
-    let f = prove-facts (setting_for c.sizes_of-s.result) a.key.now a.leaves.now a.witness.now a.matrix.now a.batching.now a.out.now ((let asked' : ask (prove_questions (setting_for c.sizes_of-s.result) c.args.key.now c.args.leaves.now c.args.witness.now c.args.matrix.now c.args.batching.now c.args.out.now) ≡ accepted = sym (c.prove_form-form.ensures c.args.out.now refl) ∙ ap answer_of c.in-Accepted.is in asked')) in
-    by-sizes (λ z. ProveFacts (alphabet_for c.sizes_of-s.result) z a.key.now a.leaves.now a.witness.now a.matrix.now a.batching.now a.out.now) c.sizes_of-s.result a.key.now c.sizes_of-s.ensures.0 f.of-key.header f in facts')).of_witness })
+solved-answer-requires c = (
+  c.sizes_of-s.ensures.0,
+  record {
+    of-key = ((let facts' : ProveFacts (alphabet_for c.sizes_of-s.result) (shape_for c.sizes_of-s.result) c.args.key.now c.args.leaves.now c.args.witness.now c.args.matrix.now c.args.batching.now c.args.out.now = let a = c.args in
+        let f = prove-facts (setting_for c.sizes_of-s.result) a.key.now a.leaves.now a.witness.now a.matrix.now a.batching.now a.out.now ((let asked' : ask (prove_questions (setting_for c.sizes_of-s.result) c.args.key.now c.args.leaves.now c.args.witness.now c.args.matrix.now c.args.batching.now c.args.out.now) ≡ accepted = sym (c.prove_form-form.ensures c.args.out.now refl) ∙ ap answer_of c.in-Accepted.is in asked')) in
+        by-sizes (λ z. ProveFacts (alphabet_for c.sizes_of-s.result) z a.key.now a.leaves.now a.witness.now a.matrix.now a.batching.now a.out.now) c.sizes_of-s.result a.key.now c.sizes_of-s.ensures.0 f.of-key.header f in facts')).of-key;
+    of_witness = ((let facts' : ProveFacts (alphabet_for c.sizes_of-s.result) (shape_for c.sizes_of-s.result) c.args.key.now c.args.leaves.now c.args.witness.now c.args.matrix.now c.args.batching.now c.args.out.now = let a = c.args in
+        let f = prove-facts (setting_for c.sizes_of-s.result) a.key.now a.leaves.now a.witness.now a.matrix.now a.batching.now a.out.now ((let asked' : ask (prove_questions (setting_for c.sizes_of-s.result) c.args.key.now c.args.leaves.now c.args.witness.now c.args.matrix.now c.args.batching.now c.args.out.now) ≡ accepted = sym (c.prove_form-form.ensures c.args.out.now refl) ∙ ap answer_of c.in-Accepted.is in asked')) in
+        by-sizes (λ z. ProveFacts (alphabet_for c.sizes_of-s.result) z a.key.now a.leaves.now a.witness.now a.matrix.now a.batching.now a.out.now) c.sizes_of-s.result a.key.now c.sizes_of-s.ensures.0 f.of-key.header f in facts')).of_witness;
+  },
+)
 
 pub returns-in_default-answer : goal.returns-in_default-answer
 unfolding prove_answer

@@ -6,13 +6,12 @@ use Rattle.protocol.specs.Shape.{shape_of}
 use Rattle.protocol.specs.Answers.{accepted, ask}
 use Rattle.protocol.specs.Questions.{q11}
 use Rattle.protocol.specs.Calls.{test_questions, test_answer}
-use Rattle.format.specs.Sizes.{setting_for, alphabet_for, shape_for}
+use Rattle.format.specs.Sizes.{setting_for, alphabet_for}
 use Rattle.format.specs.Verdict.{answer_of}
 use Rattle.format.proofs.AskLaws.{then_ask, go_on, stop_at}
 use Rattle.questions.specs.Facts.{TestFacts}
 use Rattle.questions.proofs.KeyLaws.{by-sizes}
 use Rattle.solfadrus.proofs.FactLaws.{test-facts}
-use borrow.Author.Rules.{rules}
 use Rattle.solfadrus.proofs.calls.test.Goals as goal
 
 pub test_form-form-requires : goal.test_form-form-requires

@@ -1,10 +1,9 @@
 -- `solfadrus::sizes::mq_delta_size` meets its contract.
 -- Assumes nothing.
-use mathlib.Core.Path.{◌≡◌, sym, ◌∙◌}
+use mathlib.Core.Path.{sym, ◌∙◌}
 use Rattle.protocol.specs.Alphabet.{Alphabet}
 use Rattle.protocol.specs.Shape.{Shape}
-use Rattle.solfadrus.proofs.SizedLaws.{in-range, out_of_range, limits_of}
-use borrow.Author.Rules.{rules}
+use Rattle.solfadrus.proofs.SizedLaws.{in-range, out_of_range}
 use Rattle.solfadrus.proofs.sizes.mq_delta_size.Goals as goal
 
 pub returns-then-in_range : goal.returns-then-in_range

@@ -1,12 +1,11 @@
 -- `solfadrus::sizes::mq_hash_matrix_size` meets its contract.
 -- Assumes nothing.
-use mathlib.Core.Path.{◌≡◌, sym, ◌∙◌}
+use mathlib.Core.Path.{sym, ◌∙◌}
 use Prim.Native.Nat.{◌*◌}
 use Rattle.protocol.specs.Strings.{bytes_for}
 use Rattle.protocol.specs.Alphabet.{Alphabet}
 use Rattle.protocol.specs.Shape.{Shape, k_of}
 use Rattle.solfadrus.proofs.SizedLaws.{in-range, out_of_range, limits_of}
-use borrow.Author.Rules.{rules}
 use Rattle.solfadrus.proofs.sizes.mq_hash_matrix_size.Goals as goal
 
 pub hash_matrix_bytes-requires : goal.hash_matrix_bytes-requires

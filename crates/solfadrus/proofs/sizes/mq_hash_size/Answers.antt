@@ -1,12 +1,11 @@
 -- `solfadrus::sizes::mq_hash_size` meets its contract.
 -- Assumes nothing.
-use mathlib.Core.Path.{◌≡◌, sym, ◌∙◌}
+use mathlib.Core.Path.{sym, ◌∙◌}
 use Rattle.protocol.specs.Frames.{framed_length}
 use Rattle.protocol.specs.Alphabet.{Alphabet}
 use Rattle.protocol.specs.Shape.{Shape}
 use Rattle.protocol.specs.Sections.{hash_lengths}
 use Rattle.solfadrus.proofs.SizedLaws.{in-range, out_of_range, limits_of}
-use borrow.Author.Rules.{rules}
 use Rattle.solfadrus.proofs.sizes.mq_hash_size.Goals as goal
 
 pub hash_bytes-requires : goal.hash_bytes-requires

@@ -1,13 +1,12 @@
 -- `solfadrus::sizes::mq_key_size` meets its contract.
 -- Assumes nothing.
-use mathlib.Core.Path.{◌≡◌, sym, ◌∙◌}
+use mathlib.Core.Path.{sym, ◌∙◌}
 use Prim.Native.Nat.{◌+◌}
 use Rattle.protocol.specs.Frames.{framed_length}
 use Rattle.protocol.specs.Alphabet.{Alphabet}
 use Rattle.protocol.specs.Shape.{Shape}
 use Rattle.protocol.specs.Key.{key_lengths}
 use Rattle.solfadrus.proofs.SizedLaws.{in-range, out_of_range, limits_of}
-use borrow.Author.Rules.{rules}
 use Rattle.solfadrus.proofs.sizes.mq_key_size.Goals as goal
 
 pub key_bytes-requires : goal.key_bytes-requires

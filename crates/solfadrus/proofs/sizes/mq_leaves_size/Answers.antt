@@ -1,13 +1,12 @@
 -- `solfadrus::sizes::mq_leaves_size` meets its contract.
 -- Assumes nothing.
-use mathlib.Core.Path.{◌≡◌, sym, ap, ◌∙◌}
+use mathlib.Core.Path.{sym, ap, ◌∙◌}
 use Prim.Native.Nat.{ℕ, ◌*◌}
 use Rattle.protocol.specs.Alphabet.{Alphabet}
 use Rattle.protocol.specs.Setting.{setting, alphabet_of}
 use Rattle.protocol.specs.Shape.{Shape, per_tree, w_of}
 use Rattle.solfadrus.specs.Sized.{shape}
 use Rattle.solfadrus.proofs.SizedLaws.{in-range, out_of_range, limits_of}
-use borrow.Author.Rules.{rules}
 use Rattle.solfadrus.proofs.sizes.mq_leaves_size.Goals as goal
 
 pub leaves_bytes-requires : goal.leaves_bytes-requires

@@ -1,6 +1,6 @@
 -- `solfadrus::sizes::mq_opened_size` meets its contract.
 -- Assumes nothing.
-use mathlib.Core.Path.{◌≡◌, sym, ap, ◌∙◌}
+use mathlib.Core.Path.{sym, ap, ◌∙◌}
 use Prim.Native.Nat.{ℕ, ◌*◌, ◌-◌}
 use native.Mathlib.Omega.{arith}
 use Rattle.protocol.specs.Alphabet.{Alphabet}
@@ -8,7 +8,6 @@ use Rattle.protocol.specs.Setting.{setting, alphabet_of}
 use Rattle.protocol.specs.Shape.{Shape, per_opened, w_of}
 use Rattle.solfadrus.specs.Sized.{shape}
 use Rattle.solfadrus.proofs.SizedLaws.{in-range, out_of_range, limits_of}
-use borrow.Author.Rules.{rules}
 use Rattle.solfadrus.proofs.sizes.mq_opened_size.Goals as goal
 
 pub leaves_bytes-requires : goal.leaves_bytes-requires

@@ -1,12 +1,11 @@
 -- `solfadrus::sizes::mq_proof_size` meets its contract.
 -- Assumes nothing.
-use mathlib.Core.Path.{◌≡◌, sym, ◌∙◌}
+use mathlib.Core.Path.{sym, ◌∙◌}
 use Rattle.protocol.specs.Frames.{framed_length}
 use Rattle.protocol.specs.Alphabet.{Alphabet}
 use Rattle.protocol.specs.Shape.{Shape}
 use Rattle.protocol.specs.Sections.{lengths}
 use Rattle.solfadrus.proofs.SizedLaws.{in-range, out_of_range, limits_of}
-use borrow.Author.Rules.{rules}
 use Rattle.solfadrus.proofs.sizes.mq_proof_size.Goals as goal
 
 pub proof_bytes-requires : goal.proof_bytes-requires

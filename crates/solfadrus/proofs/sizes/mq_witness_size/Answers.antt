@@ -1,11 +1,10 @@
 -- `solfadrus::sizes::mq_witness_size` meets its contract.
 -- Assumes nothing.
-use mathlib.Core.Path.{◌≡◌, sym, ◌∙◌}
+use mathlib.Core.Path.{sym, ◌∙◌}
 use Rattle.protocol.specs.Strings.{bytes_for}
 use Rattle.protocol.specs.Alphabet.{Alphabet}
 use Rattle.protocol.specs.Shape.{Shape}
 use Rattle.solfadrus.proofs.SizedLaws.{in-range, out_of_range, limits_of}
-use borrow.Author.Rules.{rules}
 use Rattle.solfadrus.proofs.sizes.mq_witness_size.Goals as goal
 
 pub witness_bytes-requires : goal.witness_bytes-requires

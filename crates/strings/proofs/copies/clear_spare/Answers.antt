@@ -10,7 +10,6 @@ use lib.Pow.{pow_pos}
 use Rattle.protocol.specs.Strings.{bytes_for}
 use Rattle.strings.specs.Sums.{byte_at}
 use Rattle.strings.proofs.BitLaws.{bit_shifted, mask_is, cut_low, cut_high}
-use borrow.Author.Rules.{rules}
 use Rattle.strings.proofs.copies.clear_spare.Goals as goal
 
 pub overflow_sub-s : goal.overflow_sub-s

@@ -1,7 +1,6 @@
 -- `strings::parity::last_word` meets its contract: the bytes of the last word that are before `from` are shifted out
 -- (`WordLaws`).
 -- Assumes nothing.
-use borrow.Author.Rules.{rules}
 use Prim.Native.Nat.{◌+◌, ◌*◌, ◌/◌, ◌-◌, ◌^◌}
 use mathlib.Core.Path.{◌≡◌, sym, ap, ap₂, ◌∙◌}
 use native.Mathlib.Omega.{arith}

@@ -1,12 +1,9 @@
 -- `strings::parity::shared_bytes` meets its contract. The invariant: the count is that of the first i bytes.
 -- Assumes nothing.
-use borrow.Author.Rules.{rules}
-use Prim.Native.Nat.{◌+◌, ◌-◌, ◌≤◌}
-use mathlib.Core.Path.{◌≡◌, refl}
-use native.Mathlib.Omega.{arith}
+use Prim.Native.Nat.{◌-◌, ◌≤◌}
+use mathlib.Core.Path.{◌≡◌}
 use lib.ListN.{length}
 use Rattle.strings.specs.Shared.{shared}
-use Rattle.strings.proofs.ParityLaws.{shared_le, shared_more}
 use Rattle.strings.proofs.parity.shared_bytes.Given as goal
 
 abbrev pub invariant-loop-i : goal.invariant-loop-i

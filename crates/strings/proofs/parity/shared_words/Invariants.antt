@@ -1,16 +1,10 @@
 -- `strings::parity::shared_words` meets its contract. The invariant: the parity of the ones of the sum is that of the
 -- ones shared in the first i words.
 -- Assumes nothing.
-use borrow.Author.Rules.{rules}
-use Prim.Native.Nat.{◌+◌, ◌*◌, ◌-◌, ◌%◌, ◌≤◌}
-use mathlib.Core.Path.{◌≡◌, refl, sym, ap, ap₂, ◌∙◌}
-use native.Mathlib.Omega.{arith}
-use lib.Bits.{bit_and, bit_xor}
+use Prim.Native.Nat.{◌*◌, ◌-◌, ◌%◌, ◌≤◌}
+use mathlib.Core.Path.{◌≡◌}
 use lib.Count.{ones}
-use Rattle.strings.specs.Words.{word_of}
 use Rattle.strings.specs.Shared.{shared}
-use Rattle.strings.proofs.ParityLaws.{parity-add, ones_xor}
-use Rattle.strings.proofs.SharedLaws.{shared-word}
 use Rattle.strings.proofs.parity.shared_words.Given as goal
 
 abbrev pub invariant-loop-i : goal.invariant-loop-i

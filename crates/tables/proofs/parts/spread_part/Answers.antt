@@ -1,6 +1,5 @@
 -- `tables::parts::spread_part` meets its contract. The columns that are turned are the coordinates of the planes.
 -- Assumes nothing.
-use borrow.Author.Rules.{rules}
 use mathlib.Core.Path.{◌∙◌}
 use native.Mathlib.Omega.{arith}
 use Rattle.theorems.proofs.StringLaws.{bits_congr}

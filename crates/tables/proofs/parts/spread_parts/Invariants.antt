@@ -1,17 +1,15 @@
 -- `tables::parts::spread_parts` meets its contract. The invariant: lane e of the coordinates of the bytes before `at`
 -- is done, the other lanes are as they were.
 -- Assumes nothing.
-use borrow.Author.Rules.{rules}
 use Prim.Native.Nat.{ℕ, ◌+◌, ◌*◌, ◌-◌, ◌<◌}
-use mathlib.Core.Path.{◌≡◌, refl, ◌∙◌}
+use mathlib.Core.Path.{◌≡◌}
 use mathlib.Core.List.{List}
-use native.Mathlib.Omega.{arith}
 use lib.ListN.{length}
 use Rattle.protocol.specs.Lists.{block_at}
 use Rattle.protocol.specs.Strings.{bit, from_bits}
 use Rattle.strings.specs.Sums.{byte_at}
 use Rattle.lanes.specs.Lanes.{lanes}
-use Rattle.tables.proofs.LaneLaws.{Lane, lane-part}
+use Rattle.tables.proofs.LaneLaws.{Lane}
 use Rattle.tables.proofs.parts.spread_parts.Given as goal
 
 abbrev pub coordinate : List ℕ → ℕ → ℕ → ℕ

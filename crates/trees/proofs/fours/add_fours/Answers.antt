@@ -2,7 +2,7 @@
 -- holds of those below j.
 -- Assumes nothing.
 use borrow.Author.Rules.{rules}
-use Prim.Native.Nat.{ℕ, ◌+◌, ◌*◌, ◌-◌, ◌%◌, ◌≤◌, ◌<◌}
+use Prim.Native.Nat.{ℕ, ◌+◌, ◌-◌, ◌≤◌, ◌<◌}
 use mathlib.Core.Path.{◌≡◌, refl, sym, ap, ◌∙◌}
 use mathlib.Core.List.{List}
 use native.Mathlib.Omega.{arith}
@@ -11,9 +11,9 @@ use lib.ListN.{length}
 use Rattle.protocol.specs.Lists.{block_at}
 use Rattle.strings.specs.Sums.{byte_at}
 use Rattle.strings.proofs.Rows.{row-end}
-use Rattle.trees.specs.Partial.{Running, held_plane, with_low, Handed, Placed}
+use Rattle.trees.specs.Partial.{held_plane, Handed}
 use Rattle.trees.proofs.SixteenLaws.{held_put}
-use Rattle.trees.proofs.FourLaws.{Fits, four-fits, held_more}
+use Rattle.trees.proofs.FourLaws.{four-fits, held_more}
 use Rattle.trees.proofs.fours.add_fours.Goals as goal
 
 pub loop-j-init : goal.loop-j-init

@@ -1,19 +1,12 @@
 -- `trees::fours::add_fours` meets its contract. The invariant: where `Running` held of the leaves below `from`, it
 -- holds of those below j.
 -- Assumes nothing.
-use borrow.Author.Rules.{rules}
-use Prim.Native.Nat.{ℕ, ◌+◌, ◌*◌, ◌-◌, ◌%◌, ◌≤◌, ◌<◌}
-use mathlib.Core.Path.{◌≡◌, refl, sym, ap, ◌∙◌}
-use mathlib.Core.List.{List}
-use native.Mathlib.Omega.{arith}
-use lib.Bits.{bit_xor}
+use Prim.Native.Nat.{ℕ, ◌-◌, ◌%◌, ◌≤◌, ◌<◌}
+use mathlib.Core.Path.{◌≡◌}
 use lib.ListN.{length}
-use Rattle.protocol.specs.Lists.{block_at}
 use Rattle.strings.specs.Sums.{byte_at}
-use Rattle.strings.proofs.Rows.{row-end}
-use Rattle.trees.specs.Partial.{Running, held_plane, with_low, Handed, Placed}
-use Rattle.trees.proofs.SixteenLaws.{held_put}
-use Rattle.trees.proofs.FourLaws.{Fits, four-fits, held_more}
+use Rattle.trees.specs.Partial.{Running, held_plane, with_low, Placed}
+use Rattle.trees.proofs.FourLaws.{Fits}
 use Rattle.trees.proofs.fours.add_fours.Given as goal
 
 abbrev pub invariant-loop-j : goal.invariant-loop-j

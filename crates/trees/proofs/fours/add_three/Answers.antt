@@ -6,7 +6,6 @@ use native.Mathlib.Omega.{arith}
 use lib.Bits.{bit_xor}
 use Rattle.strings.specs.Sums.{byte_at}
 use Rattle.trees.proofs.FourLaws.{from_front, first_more, second_more}
-use borrow.Author.Rules.{rules}
 use Rattle.trees.proofs.fours.add_three.Goals as goal
 
 pub returns : goal.returns

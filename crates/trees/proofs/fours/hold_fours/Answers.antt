@@ -11,7 +11,6 @@ use Rattle.strings.specs.Sums.{byte_at, bit_of}
 use Rattle.trees.specs.Partial.{Running, held_plane, with_low}
 use Rattle.trees.proofs.SixteenLaws.{held_put}
 use Rattle.trees.proofs.FourLaws.{from_front, low-none, running_same}
-use borrow.Author.Rules.{rules}
 use Rattle.trees.proofs.fours.hold_fours.Goals as goal
 
 pub add_held-requires-2 : goal.add_held-requires-2

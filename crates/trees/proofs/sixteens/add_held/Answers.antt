@@ -2,11 +2,11 @@
 -- they were.
 -- Assumes nothing.
 use borrow.Author.Rules.{rules}
-use Prim.Native.Nat.{◌+◌, ◌*◌, ◌-◌, ◌≤◌}
+use Prim.Native.Nat.{◌+◌, ◌*◌}
 use mathlib.Core.Path.{◌≡◌, refl}
 use native.Mathlib.Omega.{arith}
 use lib.Bits.{bit_xor}
-use lib.ListN.{length, length-set}
+use lib.ListN.{length-set}
 use Rattle.strings.specs.Sums.{byte_at}
 use Rattle.trees.proofs.SixteenLaws.{Changed, changed-none, changed-next}
 use Rattle.trees.proofs.sixteens.add_held.Goals as goal

@@ -1,14 +1,12 @@
 -- `trees::sixteens::add_held` meets its contract. The invariant: i bytes of the row are changed, and the others are as
 -- they were.
 -- Assumes nothing.
-use borrow.Author.Rules.{rules}
-use Prim.Native.Nat.{◌+◌, ◌*◌, ◌-◌, ◌≤◌}
-use mathlib.Core.Path.{◌≡◌, refl}
-use native.Mathlib.Omega.{arith}
+use Prim.Native.Nat.{◌*◌, ◌-◌, ◌≤◌}
+use mathlib.Core.Path.{◌≡◌}
 use lib.Bits.{bit_xor}
-use lib.ListN.{length, length-set}
+use lib.ListN.{length}
 use Rattle.strings.specs.Sums.{byte_at}
-use Rattle.trees.proofs.SixteenLaws.{Changed, changed-none, changed-next}
+use Rattle.trees.proofs.SixteenLaws.{Changed}
 use Rattle.trees.proofs.sixteens.add_held.Given as goal
 
 abbrev pub invariant-loop-i : goal.invariant-loop-i

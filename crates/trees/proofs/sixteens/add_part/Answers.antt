@@ -1,6 +1,5 @@
 -- `trees::sixteens::add_part` meets its contract. Bytes of leaf j are added, or 0 where leaf j is left out.
 -- Assumes nothing.
-use borrow.Author.Rules.{rules}
 use Prim.Native.Nat.{ℕ, ◌+◌}
 use mathlib.Core.Path.{◌≡◌, sym, ap, ◌∙◌}
 use mathlib.Core.Bool.{cond}

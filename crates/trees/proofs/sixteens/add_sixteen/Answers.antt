@@ -1,13 +1,9 @@
 -- `trees::sixteens::add_sixteen` meets its contract. Each element is changed once (`Elementwise`).
 -- Assumes nothing.
 use borrow.Author.Rules.{rules}
-use Prim.Native.Nat.{ℕ, ◌+◌, ◌-◌, ◌≤◌}
-use mathlib.Core.Path.{◌≡◌, refl}
-use mathlib.Core.List.{List}
+use mathlib.Core.Path.{refl}
 use native.Mathlib.Omega.{arith}
-use lib.Bits.{bit_xor}
-use lib.ListN.{length, length-set}
-use Rattle.strings.specs.Sums.{byte_at}
+use lib.ListN.{length-set}
 use Rattle.strings.proofs.Elementwise.{changed, changed_more, changed-all}
 use Rattle.trees.proofs.sixteens.add_sixteen.Invariants.{change}
 use Rattle.trees.proofs.sixteens.add_sixteen.Goals as goal

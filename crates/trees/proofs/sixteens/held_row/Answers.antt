@@ -1,7 +1,6 @@
 -- `trees::sixteens::held_row` meets its contract. Which bits change is said by the zeros at the end of j + 1
 -- (`SixteenLaws`).
 -- Assumes nothing.
-use borrow.Author.Rules.{rules}
 use Prim.Native.Nat.{◌+◌, ◌-◌}
 use mathlib.Core.Path.{◌≡◌, ap, ◌∙◌}
 use mathlib.Core.Bool.{cond}

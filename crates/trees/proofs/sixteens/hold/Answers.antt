@@ -11,7 +11,6 @@ use Rattle.trees.specs.Partial.{held_plane, RunningHeld}
 use Rattle.trees.proofs.PartialLaws.{running_none}
 use Rattle.strings.proofs.LeastLaws.{under_least}
 use Rattle.trees.proofs.FourLaws.{below-leaf, above-leaf, before-fits, after-fits, cut_out}
-use borrow.Author.Rules.{rules}
 use Rattle.trees.proofs.sixteens.hold.Goals as goal
 
 -- of no leaf, nothing is held

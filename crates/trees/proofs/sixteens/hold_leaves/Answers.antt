@@ -2,13 +2,12 @@
 -- holds of those below j.
 -- Assumes nothing.
 use borrow.Author.Rules.{rules}
-use Prim.Native.Nat.{◌+◌, ◌-◌, ◌≤◌}
+use Prim.Native.Nat.{◌+◌}
 use mathlib.Core.Path.{◌≡◌}
 use native.Mathlib.Omega.{arith}
-use lib.ListN.{length}
 use Rattle.strings.specs.Sums.{byte_at}
 use Rattle.trees.specs.Trees.{leaf_byte}
-use Rattle.trees.specs.Partial.{Running, held_plane}
+use Rattle.trees.specs.Partial.{held_plane}
 use Rattle.trees.proofs.PartialLaws.{running_more}
 use Rattle.trees.proofs.SixteenLaws.{held_put}
 use Rattle.trees.proofs.sixteens.hold_leaves.Goals as goal

@@ -1,6 +1,5 @@
 -- `trees::sixteens::put_plane` meets its contract: plane p stands whole in the planes where p is below r.
 -- Assumes nothing.
-use borrow.Author.Rules.{rules}
 use mathlib.Core.Path.{refl}
 use native.Mathlib.Omega.{arith}
 use Rattle.strings.proofs.Rows.{row-end}

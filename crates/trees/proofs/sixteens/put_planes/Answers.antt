@@ -2,14 +2,14 @@
 -- r planes those from 8 - k on are done.
 -- Assumes nothing.
 use borrow.Author.Rules.{rules}
-use Prim.Native.Nat.{ℕ, ◌+◌, ◌*◌, ◌-◌, ◌≤◌, ◌<◌}
+use Prim.Native.Nat.{ℕ, ◌+◌, ◌*◌, ◌-◌, ◌<◌}
 use mathlib.Core.Path.{◌≡◌, refl, sym, ap, ◌∙◌}
 use native.Mathlib.Omega.{arith}
 use lib.Bits.{bit_xor}
-use lib.ListN.{length, get_or-replicate}
+use lib.ListN.{get_or-replicate}
 use Rattle.strings.specs.Sums.{byte_at, xor_sum}
 use Rattle.strings.proofs.SumLaws.{sum_more}
-use Rattle.trees.proofs.SixteenLaws.{row_apart, PlanesFrom, planes_more}
+use Rattle.trees.proofs.SixteenLaws.{row_apart, planes_more}
 use Rattle.trees.proofs.sixteens.put_planes.Goals as goal
 
 pub add_sixteen-requires : goal.add_sixteen-requires

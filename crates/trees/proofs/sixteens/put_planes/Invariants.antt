@@ -1,15 +1,11 @@
 -- `trees::sixteens::put_planes` meets its contract. The invariant: sum is that of the rows 0, .., k, and of the
 -- r planes those from 8 - k on are done.
 -- Assumes nothing.
-use borrow.Author.Rules.{rules}
 use Prim.Native.Nat.{ℕ, ◌+◌, ◌*◌, ◌-◌, ◌≤◌, ◌<◌}
-use mathlib.Core.Path.{◌≡◌, refl, sym, ap, ◌∙◌}
-use native.Mathlib.Omega.{arith}
-use lib.Bits.{bit_xor}
-use lib.ListN.{length, get_or-replicate}
+use mathlib.Core.Path.{◌≡◌}
+use lib.ListN.{length}
 use Rattle.strings.specs.Sums.{byte_at, xor_sum}
-use Rattle.strings.proofs.SumLaws.{sum_more}
-use Rattle.trees.proofs.SixteenLaws.{row_apart, PlanesFrom, planes_more}
+use Rattle.trees.proofs.SixteenLaws.{PlanesFrom}
 use Rattle.trees.proofs.sixteens.put_planes.Given as goal
 
 abbrev pub invariant-loop-k : goal.invariant-loop-k

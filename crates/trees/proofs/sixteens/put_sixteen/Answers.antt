@@ -1,12 +1,11 @@
 -- `trees::sixteens::put_sixteen` meets its contract. The invariant: i bytes are put, and the others are as they were.
 -- Assumes nothing.
 use borrow.Author.Rules.{rules}
-use Prim.Native.Nat.{◌-◌, ◌≤◌}
 use mathlib.Core.Path.{◌≡◌, refl}
 use native.Mathlib.Omega.{arith}
-use lib.ListN.{length, length-set}
+use lib.ListN.{length-set}
 use Rattle.strings.specs.Sums.{byte_at}
-use Rattle.trees.proofs.SixteenLaws.{Changed, changed-none, changed-next}
+use Rattle.trees.proofs.SixteenLaws.{changed-none, changed-next}
 use Rattle.trees.proofs.sixteens.put_sixteen.Goals as goal
 
 pub loop-i-init : goal.loop-i-init

@@ -1,6 +1,5 @@
 -- `trees::sixteens::sum_sixteen` meets its contract. What is held for plane p adds up to it.
 -- Assumes nothing.
-use borrow.Author.Rules.{rules}
 use Prim.Native.Nat.{ℕ, ◌+◌}
 use mathlib.Core.Path.{refl, ◌∙◌}
 use native.Mathlib.Omega.{arith}

@@ -1,10 +1,8 @@
 -- `trees::sixteens::sum_sixteens` meets its contract. The invariant: the bytes before `at` are summed.
 -- Assumes nothing.
-use borrow.Author.Rules.{rules}
-use Prim.Native.Nat.{ℕ, ◌+◌, ◌*◌, ◌-◌}
+use Prim.Native.Nat.{ℕ, ◌+◌, ◌-◌}
 use mathlib.Core.Path.{◌≡◌, ◌∙◌, subst}
 use native.Mathlib.Omega.{arith}
-use lib.ListN.{length}
 use Rattle.trees.specs.Trees.{leaf_byte, Summed}
 use Rattle.trees.proofs.sixteens.sum_sixteens.Goals as goal
 

@@ -1,9 +1,7 @@
 -- `trees::sixteens::sum_sixteens` meets its contract. The invariant: the bytes before `at` are summed.
 -- Assumes nothing.
-use borrow.Author.Rules.{rules}
-use Prim.Native.Nat.{ℕ, ◌+◌, ◌*◌, ◌-◌}
-use mathlib.Core.Path.{◌≡◌, ◌∙◌, subst}
-use native.Mathlib.Omega.{arith}
+use Prim.Native.Nat.{◌*◌, ◌-◌}
+use mathlib.Core.Path.{◌≡◌}
 use lib.ListN.{length}
 use Rattle.trees.specs.Trees.{leaf_byte, Summed}
 use Rattle.trees.proofs.sixteens.sum_sixteens.Given as goal

@@ -1,9 +1,8 @@
 -- `field::Gf16::multiply` meets its contract, as GF(256)'s does: the law is over the degree.
 -- Assumes nothing.
-use borrow.Author.Rules.{rules}
 use Rattle.algebra.specs.Bits.{Bits, elem}
 use Rattle.galois.specs.Gf16.{modulus}
-use Rattle.field.proofs.ProductLaws.{Product, product_start, product-step, product-end}
+use Rattle.field.proofs.ProductLaws.{Product}
 use Rattle.field.proofs.gf16.Gf16.multiply.Given as goal
 
 abbrev pub m : Bits 4
