@@ -23,14 +23,12 @@ fn read_lengths(s: &[u8], lengths: &mut [usize]) -> bool
     ensures filled { result ≡ true → lengths.new ≡ lengths_in (length lengths.old) s.now }
 {
     let mut next = 0;
-    let mut i = 0;
-    while i < lengths.len() {
+    for i in 0..lengths.len() {
         let Span::At { start, end } = find(s, next) else {
             return false;
         };
         lengths[i] = end - start;
         next = end;
-        i += 1;
     }
     next == s.len()
 }

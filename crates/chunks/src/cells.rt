@@ -12,10 +12,8 @@ pub fn copy_front(dst: &mut [u8], src: &[u8], from: usize, len: usize)
     ensures by_index { (f : ℕ) → f < len → byte_at dst.new f ≡ byte_at src.now (from + f) }
     ensures by_index_2 { (f : ℕ) → len ≤ f → byte_at dst.new f ≡ byte_at dst.old f }
 {
-    let mut f = 0;
-    while f < len {
+    for f in 0..len {
         dst[f] = src[from + f];
-        f += 1;
     }
 }
 
@@ -36,10 +34,8 @@ pub fn copy_apart(dst: &mut [u8], count: usize, w: usize, src: &[u8], from: usiz
     requires { (count * w ≤ length dst.old) × (from + count * width + w ≤ length src.now + width) }
     ensures { (z f : ℕ) → z < count → f < w → byte_at dst.new (z * w + f) ≡ byte_at src.now (from + z * width + f) }
 {
-    let mut z = 0;
-    while z < count {
+    for z in 0..count {
         copy_part(dst, z, w, src, from + z * width);
-        z += 1;
     }
 }
 
@@ -47,9 +43,7 @@ pub fn copy_chunk(out: &mut [u8], src: &[u8; CHUNK])
     requires { length out.old ≡ chunk }
     ensures { (e : ℕ) → e < chunk → byte_at out.new e ≡ byte_at src.now e }
 {
-    let mut e = 0;
-    while e < CHUNK {
+    for e in 0..CHUNK {
         out[e] = src[e];
-        e += 1;
     }
 }

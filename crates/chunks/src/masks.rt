@@ -10,10 +10,8 @@ use strings::{BITS, MASK_BYTE};
 fn fill(dst: &mut [u8], x: u8)
     ensures { (f : ℕ) → f < length dst.old → byte_at dst.new f ≡ x }
 {
-    let mut f = 0;
-    while f < dst.len() {
+    for f in 0..dst.len() {
         dst[f] = x;
-        f += 1;
     }
 }
 
@@ -31,10 +29,8 @@ fn fill_mask(out: &mut [u8], v: &[u8], b: usize)
     requires { (length out.old ≡ chunk) × (length v.now ≡ chunk) × (b < 8) }
     ensures { (f : ℕ) → f < chunk → byte_at out.new f ≡ bit_of (byte_at v.now f) b * mask_byte }
 {
-    let mut f = 0;
-    while f < CHUNK {
+    for f in 0..CHUNK {
         out[f] = (v[f] >> b) % 2 * MASK_BYTE;
-        f += 1;
     }
 }
 
@@ -51,9 +47,7 @@ pub fn fill_masks(masks: &mut [u8], v: &[u8])
     requires { (length masks.old ≡ 8 * chunk) × (length v.now ≡ chunk) }
     ensures { Masks v.now masks.new }
 {
-    let mut b = 0;
-    while b < BITS {
+    for b in 0..BITS {
         fill_mask_at(masks, v, b);
-        b += 1;
     }
 }

@@ -33,10 +33,8 @@ fn fill_next(sums: &mut [u8], w: usize, base: usize, count: usize, row: &[u8])
         → byte_at sums.new ((base + count + v) * w + f) ≡ bit_xor (byte_at sums.old ((base + v) * w + f)) (byte_at row.now f) }
     ensures by_index_2 { (q f : ℕ) → q < base + count → f < w → byte_at sums.new (q * w + f) ≡ byte_at sums.old (q * w + f) }
 {
-    let mut v = 0;
-    while v < count {
+    for v in 0..count {
         fill_entry(sums, w, base + v, base + count + v, row);
-        v += 1;
     }
 }
 
@@ -68,12 +66,10 @@ pub fn fill_group(
 {
     fill_part(sums, g * entries, w, 0);
     let mut count = 1;
-    let mut s = 0;
-    while s < size {
+    for s in 0..size {
         let mut row = [0u8; WIDEST];
         add_row(&mut row[..w], g * size + s, n, table);
         fill_next(sums, w, g * entries, count, &row[..w]);
         count *= 2;
-        s += 1;
     }
 }

@@ -19,14 +19,12 @@ fn exchange(out: &mut [u8], rows: &[u8], s: usize, mask: u8)
     requires { (s < 8) × Step s mask × (length rows.now ≡ 128) × (length out.old ≡ 128) }
     ensures { Exchanged s rows.now 64 out.new }
 {
-    let mut j = 0;
-    while j < HALF {
+    for j in 0..HALF {
         let a = rows[j];
         let b = rows[HALF + j];
         let moved = ((a >> s) ^ b) & mask;
         out[j] = a ^ (moved << s);
         out[HALF + j] = b ^ moved;
-        j += 1;
     }
 }
 
@@ -35,11 +33,9 @@ fn merge(out: &mut [u8], rows: &[u8])
     requires { (length rows.now ≡ 128) × (128 ≤ length out.old) }
     ensures { (i : ℕ) → i < 128 → byte_at out.new i ≡ byte_at rows.now (i % 2 * 64 + i / 2) }
 {
-    let mut j = 0;
-    while j < HALF {
+    for j in 0..HALF {
         out[2 * j] = rows[j];
         out[2 * j + 1] = rows[HALF + j];
-        j += 1;
     }
 }
 

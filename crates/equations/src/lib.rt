@@ -20,10 +20,8 @@ pub fn unpack(out: &mut [u8], x: &[u8], n: usize)
     ensures by_index { (c : ℕ) → c < n → byte_at out.new c ≡ bit x.now c }
     ensures by_index_2 { (c : ℕ) → n ≤ c → byte_at out.new c ≡ byte_at out.old c }
 {
-    let mut c = 0;
-    while c < n {
+    for c in 0..n {
         out[c] = strings::bit_at(x, c);
-        c += 1;
     }
 }
 
@@ -35,11 +33,9 @@ fn equation_error(matrix: &[u8], row: &[u8], y: u8, x: &[u8], n: usize) -> u8
 {
     let width = x.len();
     let mut sum = strings::parity::row_product(row, x) ^ y;
-    let mut rho = 0;
-    while rho < n {
+    for rho in 0..n {
         let product = strings::parity::row_product(strings::row_at(matrix, width, rho), x);
         sum ^= strings::bit_at(x, rho) & product;
-        rho += 1;
     }
     sum
 }
@@ -52,12 +48,10 @@ pub fn equation_errors(errors: &mut [u8], a: &[u8], b: &[u8], y: &[u8], x: &[u8]
 {
     let width = x.len();
     let size = n * width;
-    let mut i = 0;
-    while i < errors.len() {
+    for i in 0..errors.len() {
         let matrix = strings::row_at(a, size, i);
         let row = strings::row_at(b, width, i);
         errors[i] = equation_error(matrix, row, strings::bit_at(y, i), x, n);
-        i += 1;
     }
 }
 
@@ -66,12 +60,10 @@ pub fn equation_errors(errors: &mut [u8], a: &[u8], b: &[u8], y: &[u8], x: &[u8]
 pub fn first_failing(errors: &[u8]) -> Found
     ensures { FirstIn errors.now result }
 {
-    let mut i = 0;
-    while i < errors.len() {
+    for i in 0..errors.len() {
         if errors[i] != 0 {
             return Found::At(i);
         }
-        i += 1;
     }
     Found::Nothing
 }

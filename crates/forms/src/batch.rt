@@ -39,10 +39,8 @@ fn put_table(lines: &mut [u8], g: usize, b: &[u8], width: usize, m: usize)
     ensures by_index_2 { (r f : ℕ) → r < g * m → f < chunk → cell_at lines.new r f ≡ cell_at lines.old r f }
 {
     let len = least(width - g * CHUNK, CHUNK);
-    let mut i = 0;
-    while i < m {
+    for i in 0..m {
         put_chunk(lines, g * m + i, b, i * width + g * CHUNK, len);
-        i += 1;
     }
 }
 

@@ -47,11 +47,9 @@ fn add_masked(acc: &mut [u8; CHUNK], cells: &[u8], at: usize, bits: &[u8], from:
     ensures by_index { (k : ℕ) → k < chunk
         → byte_at acc.new k ≡ bit_xor (byte_at acc.old k) (bit_and (byte_at cells.now (at + k)) (byte_at bits.now (from + k % 16))) }
 {
-    let mut f = 0;
-    while f < SIXTEEN {
+    for f in 0..SIXTEEN {
         acc[f] ^= cells[at + f] & bits[from + f];
         acc[SIXTEEN + f] ^= cells[at + SIXTEEN + f] & bits[from + f];
-        f += 1;
     }
 }
 
@@ -64,8 +62,7 @@ fn sum_left(sums: &mut [u8], i: usize, cells: &[u8], bits: &[u8], m: usize, top:
     ensures rows_kept { RowsKept chunk i sums.old sums.new }
 {
     let mut acc = [0u8; CHUNK];
-    let mut q = 0;
-    while q < rows {
+    for q in 0..rows {
         add_masked(
             &mut acc,
             cells,
@@ -73,7 +70,6 @@ fn sum_left(sums: &mut [u8], i: usize, cells: &[u8], bits: &[u8], m: usize, top:
             bits,
             (top + q) * SIXTEEN,
         );
-        q += 1;
     }
     copy_part(sums, i, CHUNK, &acc, 0);
 }
@@ -84,10 +80,8 @@ fn sum_each(sums: &mut [u8], cells: &[u8], bits: &[u8], m: usize, top: usize, ro
         × (m ≤ most_block) × ((top + rows) * 16 ≤ most_variables) }
     ensures { (i k : ℕ) → i < m → k < chunk → cell_at sums.new i k ≡ left_byte cells.now m bits.now i top rows k }
 {
-    let mut i = 0;
-    while i < m {
+    for i in 0..m {
         sum_left(sums, i, cells, bits, m, top, rows);
-        i += 1;
     }
 }
 
@@ -100,12 +94,10 @@ fn add_each(lines: &mut [u8], sums: &[u8], m: usize, panel: usize)
     ensures lines_beside { LinesBeside m panel lines.old lines.new }
 {
     let first = panel / CHUNK_PANELS * m;
-    let mut i = 0;
-    while i < m {
+    for i in 0..m {
         let at = (first + i) * CHUNK + panel % CHUNK_PANELS * 2;
         lines[at] ^= forms_columns::sum_at(sums, i * CHUNK);
         lines[at + 1] ^= forms_columns::sum_at(sums, i * CHUNK + SIXTEEN);
-        i += 1;
     }
 }
 
@@ -144,10 +136,8 @@ fn dot_halves(f: &[u8], t: &[u8], count: usize) -> u8
     ensures { result ≡ dot_of gf16 f.now t.now count }
 {
     let mut sum: u8 = 0;
-    let mut c = 0;
-    while c < count {
+    for c in 0..count {
         sum ^= Gf16::multiply(f[c], t[c]);
-        c += 1;
     }
     sum
 }
@@ -158,10 +148,8 @@ fn dot_bytes(f: &[u8], t: &[u8], count: usize) -> u8
     ensures { result ≡ dot_of gf256 f.now t.now count }
 {
     let mut sum: u8 = 0;
-    let mut c = 0;
-    while c < count {
+    for c in 0..count {
         sum ^= Gf256::multiply(f[c], t[c]);
-        c += 1;
     }
     sum
 }
@@ -193,10 +181,8 @@ fn look_up_planes(planes: &mut [u8], words: &[u64], base: usize, groups: usize, 
     requires { (length planes.old ≡ 8 * chunk) × ((base + 8) * 4 ≤ length words.now) × InWords groups × (most_sums ≤ length sums.now) }
     ensures { (p f : ℕ) → p < 8 → f < chunk → cell_at planes.new p f ≡ looked_up sums.now words.now (base + p) groups f }
 {
-    let mut p = 0;
-    while p < Gf256::DEGREE {
+    for p in 0..Gf256::DEGREE {
         look_up_plane(planes, p, words, base + p, groups, sums);
-        p += 1;
     }
 }
 
@@ -259,10 +245,8 @@ fn add_products(
     ensures { (S : List ℕ) (χ : ℕ → ℕ → ℕ) (m e : ℕ) → WeighedAll S χ m sums.now words.now groups tau → e < tau
         → byte_at mid.new e ≡ bit_xor (byte_at mid.old e) (line_product degree vectors.now e from count (weighed_line S (χ e) m)) }
 {
-    let mut e = 0;
-    while e < tau {
+    for e in 0..tau {
         mid[e] ^= line_product(words, e, groups, sums, vectors, from, count, degree);
-        e += 1;
     }
 }
 

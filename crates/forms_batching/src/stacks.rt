@@ -61,10 +61,8 @@ fn turn_sixteens(vectors: &mut [u8], tau: usize, table: &[u8], count: usize)
     requires { VectorsRoom vectors.old × (tau ≤ lanes) × (count * 16 * lanes ≤ length table.now) × (count * 16 ≤ most_variables) }
     ensures { (e k : ℕ) → e < tau → k < count * 16 → coordinate_of vectors.new e k ≡ lane_at table.now k e }
 {
-    let mut c = 0;
-    while c < count {
+    for c in 0..count {
         turn_sixteen(vectors, tau, table, c);
-        c += 1;
     }
 }
 
@@ -81,10 +79,8 @@ fn fill_vector(v: &mut [u8], from: usize, table: &[u8], n: usize, e: usize)
     requires { (n * lanes ≤ length table.now) × (e < lanes) × (from ≤ most_variables) }
     ensures { (c : ℕ) → c < length v.old → byte_at v.new c ≡ up_to n (λ k. lane_at table.now k e) (from + c) }
 {
-    let mut c = 0;
-    while c < v.len() {
+    for c in 0..v.len() {
         v[c] = lane_byte(table, from + c, n, e);
-        c += 1;
     }
 }
 
@@ -109,10 +105,8 @@ fn fill_rest(vectors: &mut [u8], tau: usize, from: usize, table: &[u8], n: usize
     ensures by_index { (e c : ℕ) → e < tau → from ≤ c → c < most_variables → coordinate_of vectors.new e c ≡ up_to n (λ k. lane_at table.now k e) c }
     ensures by_index_2 { (e c : ℕ) → c < from → coordinate_of vectors.new e c ≡ coordinate_of vectors.old e c }
 {
-    let mut e = 0;
-    while e < tau {
+    for e in 0..tau {
         put_vector(vectors, e, from, table, n);
-        e += 1;
     }
 }
 
@@ -174,12 +168,10 @@ fn absorb(
         → Masks v masks.now → byte_at v f < 2 ^ degree_of d → f < chunk
         → stack_at d t.new f z ≡ bit_xor (stack_at d t.old f z) (byte_product d (byte_at v f) (weighed_bit S χ m f z)) }
 {
-    let mut k = 0;
-    while k < PLANE_PAIRS {
+    for k in 0..PLANE_PAIRS {
         if 2 * k < r {
             absorb_two(t, k, words, base, groups, sums, masks);
         }
-        k += 1;
     }
 }
 
@@ -234,10 +226,8 @@ fn absorb_lanes(
         → VectorsNarrow d tau vectors.now → e < tau → h < 2 → f < 16
         → stack_of d stacks.new e (h * 16 + f) z ≡ bit_xor (stack_of d stacks.old e (h * 16 + f) z) (row_times d vectors.now e first S (χ e) m h f z) }
 {
-    let mut e = 0;
-    while e < tau {
+    for e in 0..tau {
         absorb_lane(stacks, e, words, groups, sums, vectors, first, r);
-        e += 1;
     }
 }
 
@@ -261,8 +251,7 @@ pub fn collect(
     let tau = s.tau;
     let groups = s.groups;
     let r = field::degree_of(s.degree);
-    let mut q = 0;
-    while q < rows {
+    for q in 0..rows {
         forms_sums::sums::fill_sums(sums, groups, m, strings::row_at(cells, m * CHUNK, q));
         forms_sums::sums::add_first(stacks, sums);
         absorb_lanes(
@@ -275,6 +264,5 @@ pub fn collect(
             (top + q) * SIXTEEN,
             r,
         );
-        q += 1;
     }
 }

@@ -48,14 +48,12 @@ fn put(row: &mut [u64], picks: &[u8], at: usize)
     requires { (length row.old ≡ 4) × (at + 40 ≤ length picks.now) }
     ensures { (k : ℕ) → k < 4 → byte_at row.new k ≡ fives_word picks.now (at + k * 10) }
 {
-    let mut k = 0;
-    while k < ROW_WORDS {
+    for k in 0..ROW_WORDS {
         let from = at + k * 10;
         let low = four_at(picks, from);
         let high = four_at(picks, from + 4);
         let top = two_at(picks, from + 8);
         row[k] = low + high * 1048576 + top * 1099511627776;
-        k += 1;
     }
 }
 
@@ -75,10 +73,8 @@ fn put_rows(words: &mut [u64], e: usize, picks: &[u8])
     ensures by_index { (p k : ℕ) → p < 8 → k < 4 → byte_at words.new ((e * 8 + p) * 4 + k) ≡ fives_word picks.now (p * fives + k * 10) }
     ensures by_index_2 { (q k : ℕ) → q < e * 8 → k < 4 → byte_at words.new (q * 4 + k) ≡ byte_at words.old (q * 4 + k) }
 {
-    let mut p = 0;
-    while p < BITS {
+    for p in 0..BITS {
         put_row(words, e * BITS + p, p, picks);
-        p += 1;
     }
 }
 
@@ -113,9 +109,7 @@ pub fn fill_words(words: &mut [u64], chi: &[u8], stride: usize, from: usize, m: 
     requires { (m ≤ most_block) × (from + m ≤ stride) × WordsFit tau words.old × (length chi.now ≡ tau * stride) }
     ensures { ChosenAll (λ e i. byte_at chi.now (e * stride + from + i)) m tau words.new }
 {
-    let mut e = 0;
-    while e < tau {
+    for e in 0..tau {
         fill_repetition(words, e, chi, e * stride + from, m);
-        e += 1;
     }
 }

@@ -52,11 +52,9 @@ fn choose_both(plane: &mut [u8], rows: &[u8], p: usize)
     requires { (length plane.old ≡ fives) × (length rows.now ≡ two_sixteens) × (p < 8) }
     ensures { (g : ℕ) → g < fives → byte_at plane.new g ≡ choice (in_rows rows.now) p g }
 {
-    let mut g = 0;
-    while g < SIXTEEN {
+    for g in 0..SIXTEEN {
         plane[g] = choose(rows, 0, g, p);
         plane[SIXTEEN + g] = choose(rows, 1, g, p);
-        g += 1;
     }
 }
 
@@ -74,9 +72,7 @@ pub fn choose_all(picks: &mut [u8], rows: &[u8])
     requires { (length picks.old ≡ picks_bytes) × (length rows.now ≡ two_sixteens) }
     ensures { (p g : ℕ) → p < 8 → g < fives → byte_at picks.new (p * fives + g) ≡ choice (in_rows rows.now) p g }
 {
-    let mut p = 0;
-    while p < BITS {
+    for p in 0..BITS {
         choose_at(picks, rows, p);
-        p += 1;
     }
 }

@@ -21,10 +21,8 @@ fn put_columns(dst: &mut [u8], g: usize, step: usize, cols: &[u8])
     ensures by_index { (k j : ℕ) → k < 8 → j < 16 → byte_at dst.new ((g + k * step) * 16 + j) ≡ byte_at cols.now (k * 16 + j) }
     ensures beside_block { BesideBlock g step 8 dst.old dst.new }
 {
-    let mut k = 0;
-    while k < BITS {
+    for k in 0..BITS {
         copy_part(dst, g + k * step, SIXTEEN, cols, k * SIXTEEN);
-        k += 1;
     }
 }
 

@@ -45,10 +45,8 @@ fn gather_row(out: &mut [u8], stacks: &[u8], at: usize, tau: usize)
     requires { (tau ≤ length out.old) × StacksFit tau stacks.now × (at + 16 ≤ planes * chunk) }
     ensures { (e : ℕ) → e < tau → byte_at out.new e ≡ sixteen_of stacks.now e at }
 {
-    let mut e = 0;
-    while e < tau {
+    for e in 0..tau {
         out[e] = sum_at(stacks, e * STACK + at);
-        e += 1;
     }
 }
 
@@ -66,10 +64,8 @@ fn gather(rows: &mut [u8], stacks: &[u8], h: usize, tau: usize)
     requires { (length rows.old ≡ planes * lanes) × (tau ≤ lanes) × StacksFit tau stacks.now × (h < 2) }
     ensures { (s e : ℕ) → s < planes → e < tau → lane_at rows.new s e ≡ sixteen_of stacks.now e (s * chunk + h * 16) }
 {
-    let mut s = 0;
-    while s < PLANES {
+    for s in 0..PLANES {
         gather_at(rows, s, stacks, s * CHUNK + h * SIXTEEN, tau);
-        s += 1;
     }
 }
 
@@ -78,10 +74,8 @@ fn add_weighted(u: &mut [u8], row: &[u8], z: usize, weight: u8)
     requires { (length u.old ≡ lanes) × (length row.now ≡ lanes) × (z < 8) }
     ensures { LanesAdded lanes (λ e. bit_of (byte_at row.now e) z * weight) u.old u.new }
 {
-    let mut e = 0;
-    while e < LANES {
+    for e in 0..LANES {
         u[e] ^= weight & ((row[e] >> z) % 2 * MASK_BYTE);
-        e += 1;
     }
 }
 
@@ -91,11 +85,9 @@ fn fill_weights(weights: &mut [u8; PLANES], degree: usize)
     ensures { Weights degree weights.new }
 {
     let mut weight: u8 = 1;
-    let mut s = 0;
-    while s < PLANES {
+    for s in 0..PLANES {
         weights[s] = weight;
         weight = field::multiply(degree, 2, weight);
-        s += 1;
     }
 }
 
@@ -105,10 +97,8 @@ fn weigh(u: &mut [u8], rows: &[u8], z: usize, weights: &[u8])
     ensures { (d e : ℕ) → Weights d weights.now → e < lanes → byte_at u.new e ≡ value_of d rows.now z e }
 {
     strings::clear(u);
-    let mut s = 0;
-    while s < PLANES {
+    for s in 0..PLANES {
         add_weighted(u, strings::row_at(rows, LANES, s), z, weights[s]);
-        s += 1;
     }
 }
 
@@ -175,8 +165,7 @@ fn add_columns(
         mid.old mid.new }
     ensures mid_unchanged { polar ≡ false → mid.new ≡ mid.old }
 {
-    let mut z = 0;
-    while z < BITS {
+    for z in 0..BITS {
         add_column(
             quad,
             mid,
@@ -189,7 +178,6 @@ fn add_columns(
             weights,
             degree,
         );
-        z += 1;
     }
 }
 
@@ -218,11 +206,9 @@ pub fn finish(
     fronts::fill_front(&mut front, vectors, panel * SIXTEEN, tau);
     fill_weights(&mut weights, degree);
     let bits = strings::row_at(xs, SIXTEEN, panel);
-    let mut h = 0;
-    while h < 2 {
+    for h in 0..2 {
         let mut rows = [0u8; GATHERED];
         gather(&mut rows, stacks, h, tau);
         add_columns(quad, mid, &rows, h, &front, bits, polar, &weights, degree);
-        h += 1;
     }
 }

@@ -63,12 +63,10 @@ fn fold_all(
 {
     let first = piece.first;
     let count = piece.count;
-    let mut q = 0;
-    while q < count {
+    for q in 0..count {
         let mut made = [0u8; EIGHT_ROWS];
         part_rows(&mut made, src, from, width, first, q);
         put_rows(cells, &made, turned, piece, q, m, i);
-        q += 1;
     }
 }
 
@@ -156,10 +154,8 @@ pub fn load_piece(
     ensures { FoldedSet n width m a.now piece.top piece.first piece.count cells.new }
 {
     let mut turned = [0u8; TURNED];
-    let mut i = 0;
-    while i < m {
+    for i in 0..m {
         load_matrix(cells, &mut turned, room, a, n, width, piece, m, i);
-        i += 1;
     }
 }
 

@@ -39,11 +39,9 @@ fn add_turned(sum: &mut [u8; CHUNK], turned: &[u8], at: usize)
     ensures sum_len { length sum.new ≡ chunk }
     ensures by_index { (e : ℕ) → e < chunk → byte_at sum.new e ≡ bit_xor (byte_at sum.old e) (byte_at turned.now (at + (e / 16 * piece_rows + e % 16))) }
 {
-    let mut f = 0;
-    while f < SIXTEEN {
+    for f in 0..SIXTEEN {
         sum[f] ^= turned[at + f];
         sum[SIXTEEN + f] ^= turned[at + PIECE_ROWS + f];
-        f += 1;
     }
 }
 
@@ -92,10 +90,8 @@ pub fn put_rows(
     ensures put { Put piece.first piece.end piece.count q m i 4 made.now turned.now cells.new }
     ensures chunks_kept { ChunksKept piece.first piece.count q m i 4 cells.old cells.new }
 {
-    let mut p = 0;
-    while p < PANELS {
+    for p in 0..PANELS {
         put_panel(cells, made, turned, piece, p, q, m, i);
-        p += 1;
     }
 }
 

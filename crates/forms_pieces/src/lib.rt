@@ -37,10 +37,8 @@ fn widen(bits: &mut [u8], xs: &[u8])
     requires { (length bits.old ≤ length xs.now) × ((c : ℕ) → byte_at xs.now c < 2) }
     ensures { (c : ℕ) → c < length bits.old → byte_at bits.new c ≡ byte_at xs.now c * mask_byte }
 {
-    let mut c = 0;
-    while c < bits.len() {
+    for c in 0..bits.len() {
         bits[c] = xs[c] * MASK_BYTE;
-        c += 1;
     }
 }
 

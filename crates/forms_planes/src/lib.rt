@@ -30,12 +30,10 @@ fn absorb_byte(t: &mut [u8], p: usize, f: usize, x: u8, y: u8, masks: &[u8])
         → stack_at d t.new f z ≡ bit_xor (stack_at d t.old f z) (two_planes d p x y z v) }
     ensures by_index_2 { (q g : ℕ) → (g ≡ f → ⊥) → g < chunk → cell_at t.new q g ≡ cell_at t.old q g }
 {
-    let mut b = 0;
-    while b < Gf256::DEGREE {
+    for b in 0..Gf256::DEGREE {
         let mask = masks[b * CHUNK + f];
         add_byte(t, p + b, f, x, mask);
         add_byte(t, p + 1 + b, f, y, mask);
-        b += 1;
     }
 }
 
@@ -45,9 +43,7 @@ pub fn absorb_planes(t: &mut [u8], p: usize, both: &[u8], masks: &[u8])
     ensures { (d : ℕ) (v : List ℕ) (f z : ℕ) → Masks v masks.now → byte_at v f < 2 ^ degree_of d → f < chunk
         → stack_at d t.new f z ≡ bit_xor (stack_at d t.old f z) (two_planes d p (cell_at both.now 0 f) (cell_at both.now 1 f) z (byte_at v f)) }
 {
-    let mut f = 0;
-    while f < CHUNK {
+    for f in 0..CHUNK {
         absorb_byte(t, p, f, both[f], both[CHUNK + f], masks);
-        f += 1;
     }
 }

@@ -23,10 +23,8 @@ fn add_at(dst: &mut [u8; CHUNK], s: &[u8], at: usize)
     ensures dst_len { length dst.new ≡ chunk }
     ensures by_index { (f : ℕ) → f < chunk → byte_at dst.new f ≡ bit_xor (byte_at dst.old f) (byte_at s.now (at + f)) }
 {
-    let mut f = 0;
-    while f < CHUNK {
+    for f in 0..CHUNK {
         dst[f] ^= s[at + f];
-        f += 1;
     }
 }
 
@@ -45,10 +43,8 @@ pub fn fill_sums(sums: &mut [u8], groups: usize, n: usize, table: &[u8])
     requires { (groups * 32 * chunk ≤ length sums.old) × (length table.now ≡ n * chunk) }
     ensures { Tabled table.now sums.new (groups * 32) }
 {
-    let mut g = 0;
-    while g < groups {
+    for g in 0..groups {
         fill_group(sums, CHUNK, FIVE, ENTRIES, g, n, table);
-        g += 1;
     }
 }
 
@@ -68,12 +64,10 @@ fn add_ten(first: &mut [u8; CHUNK], second: &mut [u8; CHUNK], w: u64, x: u64, su
     ensures by_index { (f : ℕ) → f < chunk → byte_at first.new f ≡ bit_xor (byte_at first.old f) (word_byte sums.now k 10 w f) }
     ensures by_index_2 { (f : ℕ) → f < chunk → byte_at second.new f ≡ bit_xor (byte_at second.old f) (word_byte sums.now k 10 x f) }
 {
-    let mut j = 0;
-    while j < 10 {
+    for j in 0..10 {
         let g = k * 10 + j;
         add_at(first, sums, entry_place(w, g, j));
         add_at(second, sums, entry_place(x, g, j));
-        j += 1;
     }
 }
 
@@ -85,12 +79,10 @@ fn add_two(first: &mut [u8; CHUNK], second: &mut [u8; CHUNK], w: u64, x: u64, su
     ensures by_index { (f : ℕ) → f < chunk → byte_at first.new f ≡ bit_xor (byte_at first.old f) (word_byte sums.now 3 2 w f) }
     ensures by_index_2 { (f : ℕ) → f < chunk → byte_at second.new f ≡ bit_xor (byte_at second.old f) (word_byte sums.now 3 2 x f) }
 {
-    let mut j = 0;
-    while j < 2 {
+    for j in 0..2 {
         let g = 30 + j;
         add_at(first, sums, entry_place(w, g, j));
         add_at(second, sums, entry_place(x, g, j));
-        j += 1;
     }
 }
 
@@ -123,8 +115,7 @@ pub fn look_up_two(out: &mut [u8], words: &[u64], r: usize, groups: usize, sums:
     let mut first = [0u8; CHUNK];
     let mut second = [0u8; CHUNK];
     let at = r * ROW_WORDS;
-    let mut k = 0;
-    while k < groups / 10 {
+    for k in 0..groups / 10 {
         add_ten(
             &mut first,
             &mut second,
@@ -133,7 +124,6 @@ pub fn look_up_two(out: &mut [u8], words: &[u64], r: usize, groups: usize, sums:
             sums,
             k,
         );
-        k += 1;
     }
     add_last(
         &mut first,
@@ -154,10 +144,8 @@ pub fn add_first(dst: &mut [u8], sums: &[u8])
     ensures by_index { (f : ℕ) → f < chunk → byte_at dst.new f ≡ bit_xor (byte_at dst.old f) (byte_at sums.now f) }
     ensures by_index_2 { (f : ℕ) → chunk ≤ f → byte_at dst.new f ≡ byte_at dst.old f }
 {
-    let mut f = 0;
-    while f < CHUNK {
+    for f in 0..CHUNK {
         dst[f] ^= sums[f];
-        f += 1;
     }
 }
 
@@ -167,10 +155,8 @@ fn add_word(sum: &mut [u8; CHUNK], w: u64, n: usize, sums: &[u8], k: usize)
     ensures sum_len { length sum.new ≡ chunk }
     ensures by_index { (f : ℕ) → f < chunk → byte_at sum.new f ≡ bit_xor (byte_at sum.old f) (word_byte sums.now k n w f) }
 {
-    let mut j = 0;
-    while j < n {
+    for j in 0..n {
         add_at(sum, sums, entry_place(w, k * 10 + j, j));
-        j += 1;
     }
 }
 
@@ -188,10 +174,8 @@ pub fn look_up(out: &mut [u8], words: &[u64], r: usize, groups: usize, sums: &[u
 {
     let mut sum = [0u8; CHUNK];
     let at = r * ROW_WORDS;
-    let mut k = 0;
-    while k < groups / 10 {
+    for k in 0..groups / 10 {
         add_word(&mut sum, words[at + k], 10, sums, k);
-        k += 1;
     }
     add_word(&mut sum, words[at + 3], last_fives(groups), sums, 3);
     chunks::cells::copy_chunk(out, &sum);

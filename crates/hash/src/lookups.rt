@@ -25,10 +25,8 @@ pub fn add_lanes(dst: &mut [u8; LANES], table: &[u8], c: usize)
     ensures dst_len { length dst.new ≡ lanes }
     ensures by_index { (e : ℕ) → e < lanes → byte_at dst.new e ≡ bit_xor (byte_at dst.old e) (lane_at table.now c e) }
 {
-    let mut e = 0;
-    while e < LANES {
+    for e in 0..LANES {
         dst[e] ^= table[c * LANES + e];
-        e += 1;
     }
 }
 
@@ -39,10 +37,8 @@ pub fn fill_sums(sums: &mut [u8], count: usize, n: usize, table: &[u8])
     ensures { LanesTabled table.now sums.new count }
 {
     let groups = count / PER_GROUP;
-    let mut g = 0;
-    while g < groups {
+    for g in 0..groups {
         fill_group(sums, LANES, GROUP, PER_GROUP, g, n, table);
-        g += 1;
     }
 }
 
@@ -63,10 +59,8 @@ pub fn look_up_row(out: &mut [u8], row: &[u8], sums: &[u8])
     ensures { RowSelected row.now sums.now out.new }
 {
     let mut sum = [0u8; LANES];
-    let mut b = 0;
-    while b < row.len() {
+    for b in 0..row.len() {
         add_chosen(&mut sum, b, row[b], sums);
-        b += 1;
     }
     strings::copies::copy_into(out, &sum);
 }

@@ -42,10 +42,8 @@ fn take_column(column: &mut [u8], out: &[u8], rho: usize, t: usize, tau: usize)
     requires { (length out.now ≡ tau * t) × (rho < t) × (tau ≤ length column.old) }
     ensures { (e : ℕ) → e < tau → byte_at column.new e ≡ byte_at out.now (e * t + rho) }
 {
-    let mut e = 0;
-    while e < tau {
+    for e in 0..tau {
         column[e] = out[e * t + rho];
-        e += 1;
     }
 }
 
@@ -55,10 +53,8 @@ fn put_column(out: &mut [u8], rho: usize, t: usize, tau: usize, column: &[u8])
     ensures by_index { (e : ℕ) → e < tau → byte_at out.new (e * t + rho) ≡ byte_at column.now e }
     ensures by_index_2 { (e r : ℕ) → e < tau → r < t → (r ≡ rho → ⊥) → byte_at out.new (e * t + r) ≡ byte_at out.old (e * t + r) }
 {
-    let mut e = 0;
-    while e < tau {
+    for e in 0..tau {
         out[e * t + rho] = column[e];
-        e += 1;
     }
 }
 
@@ -115,10 +111,8 @@ fn hash_block(out: &mut [u8], matrix: &[u8], table: &[u8], sums: &[u8], b: Block
     ensures { Columns matrix.now table.now b (b.from + b.len) out.new }
 {
     let t = b.t;
-    let mut rho = 0;
-    while rho < t {
+    for rho in 0..t {
         hash_row(out, matrix, table, sums, rho, b);
-        rho += 1;
     }
 }
 

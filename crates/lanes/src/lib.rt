@@ -33,10 +33,8 @@ fn accumulate_halves(acc: &mut [u8], f: &[u8], t: &[u8])
     requires { (length acc.old ≡ lanes) × (length f.now ≡ lanes) × (length t.now ≡ lanes) }
     ensures { ProductsAdded gf16 f.now t.now acc.old acc.new }
 {
-    let mut e = 0;
-    while e < LANES {
+    for e in 0..LANES {
         acc[e] ^= Gf16::multiply(f[e], t[e]);
-        e += 1;
     }
 }
 
@@ -45,10 +43,8 @@ fn accumulate_bytes(acc: &mut [u8], f: &[u8], t: &[u8])
     requires { (length acc.old ≡ lanes) × (length f.now ≡ lanes) × (length t.now ≡ lanes) }
     ensures { ProductsAdded gf256 f.now t.now acc.old acc.new }
 {
-    let mut e = 0;
-    while e < LANES {
+    for e in 0..LANES {
         acc[e] ^= Gf256::multiply(f[e], t[e]);
-        e += 1;
     }
 }
 
@@ -72,10 +68,8 @@ pub fn add_masked(acc: &mut [u8], bit: u8, src: &[u8])
     ensures { (e : ℕ) → e < lanes → byte_at acc.new e ≡ bit_xor (byte_at acc.old e) (bit * byte_at src.now e) }
 {
     let mask = bit * MASK_BYTE;
-    let mut e = 0;
-    while e < LANES {
+    for e in 0..LANES {
         acc[e] ^= src[e] & mask;
-        e += 1;
     }
 }
 
@@ -85,10 +79,8 @@ fn gather_mask(row: &mut [u8], table: &[u8], i: usize, s: Sizes)
     ensures { (e : ℕ) → e < s.tau → byte_at row.new e ≡ lane_at table.now (first_mask s e + i) e }
 {
     let tau = s.tau;
-    let mut e = 0;
-    while e < tau {
+    for e in 0..tau {
         row[e] = table[(mask_at(s, e) + i) * LANES + e];
-        e += 1;
     }
 }
 
@@ -100,13 +92,11 @@ pub fn add_masks(acc: &mut [u8], table: &[u8], s: Sizes)
 {
     let degree = s.degree;
     let count = field::degree_of(degree);
-    let mut i = 0;
-    while i < count {
+    for i in 0..count {
         let weight = [field::mask_element(degree, i); LANES];
         let mut row = [0u8; LANES];
         gather_mask(&mut row, table, i, s);
         accumulate(acc, &weight, &row, degree);
-        i += 1;
     }
 }
 
@@ -117,11 +107,9 @@ fn mask_byte(u: &[u8], at: usize, degree: usize) -> u8
 {
     let count = field::degree_of(degree);
     let mut sum: u8 = 0;
-    let mut i = 0;
-    while i < count {
+    for i in 0..count {
         let weight = field::mask_element(degree, i);
         sum ^= field::multiply(degree, weight, strings::bit_at(u, at + i));
-        i += 1;
     }
     sum
 }
@@ -134,9 +122,7 @@ pub fn add_mask_bits(acc: &mut [u8], u: &[u8], s: Sizes)
 {
     let tau = s.tau;
     let degree = s.degree;
-    let mut e = 0;
-    while e < tau {
+    for e in 0..tau {
         acc[e] ^= mask_byte(u, mask_at(s, e), degree);
-        e += 1;
     }
 }

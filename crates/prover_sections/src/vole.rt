@@ -58,9 +58,7 @@ pub fn write_hash_bits(out: &mut [u8], matrix: &[u8], u: &[u8], k: usize, t: usi
     ensures { out.new ≡ pack t (hash_bit matrix.now u.now k) }
 {
     strings::clear(out);
-    let mut rho = 0;
-    while rho < t {
+    for rho in 0..t {
         strings::xor_bit(out, rho, hash_bit(matrix, u, k, rho));
-        rho += 1;
     }
 }

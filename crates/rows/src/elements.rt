@@ -12,10 +12,8 @@ fn above_narrow(s: &[u8]) -> u8
     ensures { eqb result 0 ≡ narrow s.now }
 {
     let mut found: u8 = 0;
-    let mut i = 0;
-    while i < s.len() {
+    for i in 0..s.len() {
         found |= s[i] / Gf16::SIZE as u8;
-        i += 1;
     }
     found
 }

@@ -15,10 +15,8 @@ fn spare_bits(s: &[u8], bits: usize, rows: usize) -> u8
     let width = bytes_for(bits);
     let used = bits % BITS;
     let mut found: u8 = 0;
-    let mut i = 0;
-    while i < rows {
+    for i in 0..rows {
         found |= s[i * width + width - 1] >> used;
-        i += 1;
     }
     found
 }

@@ -64,8 +64,7 @@ pub fn sections_form(s: &[u8], at: usize, lengths: &[usize], reason: Reason) -> 
     ensures { answer_of result ≡ ask (question (framed lengths.now (drop at s.now)) (number_for reason) 0 ∷ []) }
 {
     let mut next = at;
-    let mut i = 0;
-    while i < lengths.len() {
+    for i in 0..lengths.len() {
         let Span::At { start, end } = find(s, next) else {
             return refuse(reason, 0);
         };
@@ -73,7 +72,6 @@ pub fn sections_form(s: &[u8], at: usize, lengths: &[usize], reason: Reason) -> 
             return refuse(reason, 0);
         }
         next = end;
-        i += 1;
     }
     if next != s.len() {
         return refuse(reason, 0);
@@ -87,10 +85,8 @@ fn count_at(lengths: &[usize], i: usize) -> usize
     ensures { result ≡ framed_length (take i lengths.now) }
 {
     let mut at = 0;
-    let mut j = 0;
-    while j < i {
+    for j in 0..i {
         at += COUNT + lengths[j];
-        j += 1;
     }
     at
 }

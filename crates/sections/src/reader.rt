@@ -117,8 +117,7 @@ pub fn read_sections(proof: &[u8], lengths: &[usize]) -> Walk
 {
     let mut at = [0usize; 6];
     let mut next = 0;
-    let mut i = 0;
-    while i < 6 {
+    for i in 0..6 {
         at[i] = next;
         let read = read_on(proof, next);
         let answer = read.answer;
@@ -136,7 +135,6 @@ pub fn read_sections(proof: &[u8], lengths: &[usize]) -> Walk
             };
         }
         next = read.at;
-        i += 1;
     }
     let answer = if next == proof.len() {
         Verdict::Accepted

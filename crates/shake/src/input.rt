@@ -10,11 +10,9 @@ fn mix_bytes(lanes: &mut [u64; 25], at: usize, part: &[u8])
     requires { (length lanes.old ≡ lane_count) × (at + length part.now ≤ rate) }
     ensures { lanes.new ≡ added_all lanes.old at part.now }
 {
-    let mut i = 0;
-    while i < part.len() {
+    for i in 0..part.len() {
         let j = at + i;
         lanes[j / WORD] ^= word(part[i]) << (8 * (j % WORD));
-        i += 1;
     }
 }
 

@@ -11,11 +11,9 @@ fn emit_bytes(out: &mut [u8], lanes: &[u64; 25], at: usize)
     requires { (length lanes.now ≡ lane_count) × (at + length out.old ≤ rate) }
     ensures { out.new ≡ listed (length out.old) (byte_in lanes.now) at }
 {
-    let mut i = 0;
-    while i < out.len() {
+    for i in 0..out.len() {
         let j = at + i;
         out[i] = ((lanes[j / WORD] >> (8 * (j % WORD))) % BYTE_VALUES) as u8;
-        i += 1;
     }
 }
 

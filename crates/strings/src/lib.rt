@@ -31,10 +31,8 @@ pub fn xor_into(dst: &mut [u8], src: &[u8])
     requires { length src.now ≡ length dst.old }
     ensures { (i : ℕ) → i < length dst.old → byte_at dst.new i ≡ bit_xor (byte_at dst.old i) (byte_at src.now i) }
 {
-    let mut i = 0;
-    while i < dst.len() {
+    for i in 0..dst.len() {
         dst[i] ^= src[i];
-        i += 1;
     }
 }
 
@@ -43,10 +41,8 @@ pub fn xor_of(dst: &mut [u8], a: &[u8], b: &[u8])
     requires { (length a.now ≡ length dst.old) × (length b.now ≡ length dst.old) }
     ensures { (i : ℕ) → i < length dst.old → byte_at dst.new i ≡ bit_xor (byte_at a.now i) (byte_at b.now i) }
 {
-    let mut i = 0;
-    while i < dst.len() {
+    for i in 0..dst.len() {
         dst[i] = a[i] ^ b[i];
-        i += 1;
     }
 }
 
@@ -54,10 +50,8 @@ pub fn xor_of(dst: &mut [u8], a: &[u8], b: &[u8])
 pub fn clear(dst: &mut [u8])
     ensures { (i : ℕ) → i < length dst.old → byte_at dst.new i ≡ 0 }
 {
-    let mut i = 0;
-    while i < dst.len() {
+    for i in 0..dst.len() {
         dst[i] = 0;
-        i += 1;
     }
 }
 

@@ -12,10 +12,8 @@ fn shared_words(row: &[u8], x: &[u8], words: usize) -> u64
     ensures { ones result % 2 ≡ shared (words * 8) row.now x.now % 2 }
 {
     let mut sum = 0u64;
-    let mut i = 0;
-    while i < words {
+    for i in 0..words {
         sum ^= word_at(row, i * WORD) & word_at(x, i * WORD);
-        i += 1;
     }
     sum
 }
@@ -36,10 +34,8 @@ fn shared_bytes(row: &[u8], x: &[u8]) -> u32
     ensures { result ≡ shared (length row.now) row.now x.now }
 {
     let mut count = 0u32;
-    let mut i = 0;
-    while i < row.len() {
+    for i in 0..row.len() {
         count += u8::count_ones(row[i] & x[i]);
-        i += 1;
     }
     count
 }

@@ -44,10 +44,8 @@ fn gathered(planes: &[u8], w: usize, b: usize, i: usize) -> u8
     ensures { result ≡ from_bits 8 (λ p. bit_of (byte_at planes.now (p * w + b)) i) }
 {
     let mut sum = 0u8;
-    let mut p = 0usize;
-    while p < BITS {
+    for p in 0usize..BITS {
         sum ^= (planes[p * w + b] >> i) % 2 << p;
-        p += 1;
     }
     sum
 }
@@ -58,10 +56,8 @@ fn spread_byte(table: &mut [u8], e: usize, planes: &[u8], w: usize, b: usize)
     ensures by_index { (i : ℕ) → i < 8 → byte_at table.new ((b * 8 + i) * lanes + e) ≡ from_bits 8 (λ p. bit_of (byte_at planes.now (p * w + b)) i) }
     ensures by_index_2 { (c q : ℕ) → q < lanes → (q ≡ e → c < b * 8) → byte_at table.new (c * lanes + q) ≡ byte_at table.old (c * lanes + q) }
 {
-    let mut i = 0;
-    while i < BITS {
+    for i in 0..BITS {
         table[(b * BITS + i) * LANES + e] = gathered(planes, w, b, i);
-        i += 1;
     }
 }
 
@@ -71,10 +67,8 @@ fn spread_bytes(table: &mut [u8], e: usize, planes: &[u8], w: usize)
     ensures lane_is { LaneIs e (8 * w) (planes_byte planes.now w) table.new }
     ensures lanes_kept { LanesKept e table.old table.new }
 {
-    let mut b = 0;
-    while b < w {
+    for b in 0..w {
         spread_byte(table, e, planes, w, b);
-        b += 1;
     }
 }
 
@@ -133,9 +127,7 @@ pub fn load_trees(table: &mut [u8], sums: &mut [u8], leaves: &[u8], tau: usize, 
     ensures table_is { TableIs table.new leaves.now tau w (2 ^ r) }
 {
     let mut planes = [0u8; BITS * MOST_LEAF];
-    let mut e = 0;
-    while e < tau {
+    for e in 0..tau {
         load_row(table, sums, &mut planes[..BITS * w], leaves, e, w, r);
-        e += 1;
     }
 }

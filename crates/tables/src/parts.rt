@@ -17,10 +17,8 @@ fn put_lane(table: &mut [u8], e: usize, c: usize, columns: &[u8])
     ensures by_index { (i : ℕ) → i < eight_rows → byte_at table.new ((c + i) * lanes + e) ≡ from_bits 8 (bit_of (byte_at columns.now i)) }
     ensures by_index_2 { (d q : ℕ) → q < lanes → (q ≡ e → d < c) → byte_at table.new (d * lanes + q) ≡ byte_at table.old (d * lanes + q) }
 {
-    let mut i = 0;
-    while i < EIGHT_ROWS {
+    for i in 0..EIGHT_ROWS {
         table[(c + i) * LANES + e] = columns[i];
-        i += 1;
     }
 }
 

@@ -63,8 +63,7 @@ pub fn load_opened(
     let len = (leaves_of(r) - 1) * w;
     let mut u = [0u8; MOST_LEAF];
     let mut planes = [0u8; BITS * MOST_LEAF];
-    let mut e = 0;
-    while e < tau {
+    for e in 0..tau {
         load_lane(
             table,
             &mut u[..w],
@@ -75,6 +74,5 @@ pub fn load_opened(
             e,
             r,
         );
-        e += 1;
     }
 }

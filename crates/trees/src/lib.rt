@@ -20,12 +20,10 @@ pub fn absorb(planes: &mut [u8], r: usize, j: usize, row: &[u8])
     requires { (length planes.old ≡ r * length row.now) × (r ≤ 8) }
     ensures { Absorbed (length row.now) r j row.now planes.old planes.new }
 {
-    let mut p = 0;
-    while p < r {
+    for p in 0..r {
         if (j >> p) % 2 == 1 {
             strings::xor_row(planes, p, row);
         }
-        p += 1;
     }
 }
 
@@ -74,11 +72,9 @@ fn sum_rows(
 {
     strings::clear(u);
     strings::clear(planes);
-    let mut j = 0;
-    while j < count {
+    for j in 0..count {
         add_leaf(u, tree, delta, j);
         absorb(planes, r, j ^ (j + 1), u);
-        j += 1;
     }
 }
 

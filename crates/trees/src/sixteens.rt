@@ -29,10 +29,8 @@ pub fn add_sixteen(sum: &mut [u8; SIXTEEN], s: &[u8], from: usize)
     ensures sum_len { length sum.new ≡ 16 }
     ensures by_index { (i : ℕ) → i < 16 → byte_at sum.new i ≡ bit_xor (byte_at sum.old i) (byte_at s.now (from + i)) }
 {
-    let mut i = 0;
-    while i < SIXTEEN {
+    for i in 0..SIXTEEN {
         sum[i] ^= s[from + i];
-        i += 1;
     }
 }
 
@@ -42,10 +40,8 @@ pub fn put_sixteen(out: &mut [u8], from: usize, sum: &[u8; SIXTEEN])
     ensures by_index { (i : ℕ) → i < 16 → byte_at out.new (from + i) ≡ byte_at sum.now i }
     ensures by_index_2 { (i : ℕ) → (from ≤ i → i < from + 16 → ⊥) → byte_at out.new i ≡ byte_at out.old i }
 {
-    let mut i = 0;
-    while i < SIXTEEN {
+    for i in 0..SIXTEEN {
         out[from + i] = sum[i];
-        i += 1;
     }
 }
 
@@ -57,10 +53,8 @@ pub fn add_held(held: &mut [u8; HELD], row: usize, sum: &[u8; SIXTEEN])
     ensures rows_kept { RowsKept 16 row held.old held.new }
 {
     let at = row * SIXTEEN;
-    let mut i = 0;
-    while i < SIXTEEN {
+    for i in 0..SIXTEEN {
         held[at + i] ^= sum[i];
-        i += 1;
     }
 }
 
@@ -104,11 +98,9 @@ fn hold_leaves(
     ensures running_leaves { RunningLeaves tree.now w delta at r sum.old held.old from
         → RunningLeaves tree.now w delta at r sum.new held.new to }
 {
-    let mut j = from;
-    while j < to {
+    for j in from..to {
         add_part(sum, tree, w, delta, j, at);
         add_held(held, held_row(j, r), sum);
-        j += 1;
     }
 }
 

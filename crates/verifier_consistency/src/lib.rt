@@ -21,10 +21,8 @@ fn fill_masks(masks: &mut [u8], u: &[u8])
     requires { length masks.old ≤ length u.now * 8 }
     ensures { BitMasks u.now masks.new }
 {
-    let mut i = 0;
-    while i < masks.len() {
+    for i in 0..masks.len() {
         masks[i] = strings::bit_at(u, i) * MASK_BYTE;
-        i += 1;
     }
 }
 
@@ -35,10 +33,8 @@ fn difference(hashed: &[u8], v: &[u8], masks: &[u8], delta: u8) -> u8
     ensures { (u : List ℕ) → BitMasks u masks.now → eqb result 0 ≡ row_consistent hashed.now v.now u delta (length masks.now) }
 {
     let mut found = 0u8;
-    let mut rho = 0;
-    while rho < masks.len() {
+    for rho in 0..masks.len() {
         found |= hashed[rho] ^ (v[rho] ^ (delta & masks[rho]));
-        rho += 1;
     }
     found
 }

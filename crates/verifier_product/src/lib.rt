@@ -40,10 +40,8 @@ fn add_difference(table: &mut [u8], d: &[u8], n: usize, delta: &[u8])
     ensures key_lanes { KeyLanes n d.now delta.now table.old table.new }
     ensures by_index { (c e : ℕ) → n ≤ c → e < lanes → lane_at table.new c e ≡ lane_at table.old c e }
 {
-    let mut c = 0;
-    while c < n {
+    for c in 0..n {
         add_bit(table, c, strings::bit_at(d, c), delta);
-        c += 1;
     }
 }
 
@@ -53,10 +51,8 @@ fn weigh(row: &[u8], y: &[u8]) -> u8
     ensures { result ≡ xor_sum (length row.now) (λ i. byte_at row.now i * bit y.now i) }
 {
     let mut sum: u8 = 0;
-    let mut i = 0;
-    while i < row.len() {
+    for i in 0..row.len() {
         sum ^= row[i] * strings::bit_at(y, i);
-        i += 1;
     }
     sum
 }
@@ -66,10 +62,8 @@ fn batch_values(out: &mut [u8], y: &[u8], chi: &[u8], m: usize, tau: usize)
     requires { (tau ≤ length out.old) × (length chi.now ≡ tau * m) × (m ≤ length y.now * 8) }
     ensures { (e : ℕ) → e < tau → byte_at out.new e ≡ value_byte m chi.now y.now e }
 {
-    let mut e = 0;
-    while e < tau {
+    for e in 0..tau {
         out[e] = weigh(strings::row_at(chi, m, e), y);
-        e += 1;
     }
 }
 
@@ -133,10 +127,8 @@ fn load_challenge(out: &mut [u8], delta: &[u8])
     requires { length delta.now ≤ length out.old }
     ensures { (e : ℕ) → e < length delta.now → byte_at out.new e ≡ byte_at delta.now e }
 {
-    let mut e = 0;
-    while e < delta.len() {
+    for e in 0..delta.len() {
         out[e] = delta[e];
-        e += 1;
     }
 }
 
