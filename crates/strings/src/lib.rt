@@ -36,6 +36,16 @@ pub fn xor_into(dst: &mut [u8], src: &[u8])
     }
 }
 
+// dst[i] ^= src[from + i], for each i. The length is a constant, so that a caller's local array stays in registers.
+pub fn add_at<const N: usize>(dst: &mut [u8; N], src: &[u8], from: usize)
+    requires { from + N ≤ length src.now }
+    ensures { (i : ℕ) → i < N → byte_at dst.new i ≡ bit_xor (byte_at dst.old i) (byte_at src.now (from + i)) }
+{
+    for i in 0..N {
+        dst[i] ^= src[from + i];
+    }
+}
+
 // dst[i] = a[i] ^ b[i], for each i.
 pub fn xor_of(dst: &mut [u8], a: &[u8], b: &[u8])
     requires { (length a.now ≡ length dst.old) × (length b.now ≡ length dst.old) }
@@ -62,6 +72,15 @@ pub fn row_at(table: &[u8], width: usize, i: usize) -> &[u8]
 {
     let from = i * width;
     &table[from..from + width]
+}
+
+// The same of rows whose length is a constant.
+pub fn row_of<const N: usize>(table: &[u8], i: usize) -> &[u8; N]
+    requires { i * N + N ≤ length table.now }
+    ensures { result.now ≡ block_at table.now N i }
+{
+    let from = i * N;
+    table[from..].first_chunk::<N>().unwrap()
 }
 
 // Adds src to row i of a table whose rows are as long as src, and leaves the other rows.
