@@ -6,8 +6,8 @@ ghost use Rattle.sponge.specs.Keccak.{column, effects};
 ghost use Rattle.keccak.specs.Planes.{moved, plane₀, plane₁, plane₂, plane₃, plane₄};
 
 // What θ adds to the lanes of each sheet.
-pub fn effects(a: [u64; 25]) -> [u64; 5]
-    ensures { result ≡ effects (listed 5 (column a) 0) }
+pub fn effects(a: &[u64; 25]) -> [u64; 5]
+    ensures { result ≡ effects (listed 5 (column a.now) 0) }
 {
     let c0 = a[0] ^ a[5] ^ a[10] ^ a[15] ^ a[20];
     let c1 = a[1] ^ a[6] ^ a[11] ^ a[16] ^ a[21];
@@ -24,8 +24,8 @@ pub fn effects(a: [u64; 25]) -> [u64; 5]
 }
 
 // Plane 0, with ι.
-pub fn plane0(a: [u64; 25], d: [u64; 5], k: u64) -> [u64; 5]
-    ensures { result ≡ plane₀ k (moved a d) }
+pub fn plane0(a: &[u64; 25], d: &[u64; 5], k: u64) -> [u64; 5]
+    ensures { result ≡ plane₀ k (moved a.now d.now) }
 {
     let b0 = a[0] ^ d[0];
     let b1 = (a[6] ^ d[1]).rotate_left(44);
@@ -42,8 +42,8 @@ pub fn plane0(a: [u64; 25], d: [u64; 5], k: u64) -> [u64; 5]
 }
 
 // The planes 1 to 4.
-pub fn plane1(a: [u64; 25], d: [u64; 5]) -> [u64; 5]
-    ensures { result ≡ plane₁ (moved a d) }
+pub fn plane1(a: &[u64; 25], d: &[u64; 5]) -> [u64; 5]
+    ensures { result ≡ plane₁ (moved a.now d.now) }
 {
     let b5 = (a[3] ^ d[3]).rotate_left(28);
     let b6 = (a[9] ^ d[4]).rotate_left(20);
@@ -59,8 +59,8 @@ pub fn plane1(a: [u64; 25], d: [u64; 5]) -> [u64; 5]
     ]
 }
 
-pub fn plane2(a: [u64; 25], d: [u64; 5]) -> [u64; 5]
-    ensures { result ≡ plane₂ (moved a d) }
+pub fn plane2(a: &[u64; 25], d: &[u64; 5]) -> [u64; 5]
+    ensures { result ≡ plane₂ (moved a.now d.now) }
 {
     let b10 = (a[1] ^ d[1]).rotate_left(1);
     let b11 = (a[7] ^ d[2]).rotate_left(6);
@@ -76,8 +76,8 @@ pub fn plane2(a: [u64; 25], d: [u64; 5]) -> [u64; 5]
     ]
 }
 
-pub fn plane3(a: [u64; 25], d: [u64; 5]) -> [u64; 5]
-    ensures { result ≡ plane₃ (moved a d) }
+pub fn plane3(a: &[u64; 25], d: &[u64; 5]) -> [u64; 5]
+    ensures { result ≡ plane₃ (moved a.now d.now) }
 {
     let b15 = (a[4] ^ d[4]).rotate_left(27);
     let b16 = (a[5] ^ d[0]).rotate_left(36);
@@ -93,8 +93,8 @@ pub fn plane3(a: [u64; 25], d: [u64; 5]) -> [u64; 5]
     ]
 }
 
-pub fn plane4(a: [u64; 25], d: [u64; 5]) -> [u64; 5]
-    ensures { result ≡ plane₄ (moved a d) }
+pub fn plane4(a: &[u64; 25], d: &[u64; 5]) -> [u64; 5]
+    ensures { result ≡ plane₄ (moved a.now d.now) }
 {
     let b20 = (a[2] ^ d[2]).rotate_left(62);
     let b21 = (a[8] ^ d[3]).rotate_left(55);
