@@ -1,5 +1,5 @@
 // The parts of a round of Keccak-f[1600]: what θ adds, and each plane after ρ, π, χ and ι. Of the lanes some are held
-// with each bit changed.
+// with each bit changed. The planes are no twins: each has other complements, and other ands and ors.
 ghost use Rattle.std.specs.Prelude.{◌≡◌};
 ghost use Rattle.sponge.specs.Lanes.{listed};
 ghost use Rattle.sponge.specs.Keccak.{column, effects};
