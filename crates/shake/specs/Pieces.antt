@@ -4,7 +4,6 @@
 --   settled s at == the lanes s with the place `at`, after a permutation where a block is full
 --   absorbed h p == the held state h after the bytes p;  finished h == after the padding, ready to give bytes
 --   given h n == the next n bytes;  after h n == the state after them
---   word_byte w k == byte k of the number w
 -- Laws (proofs/PieceLaws): `absorbed-append`, pieces absorbed one after the other are absorbed at once; `given_more`,
 -- and bytes given so; `shake_is`, what is given after a message and its padding is SHAKE256 of it.
 -- Assumes nothing.
@@ -43,6 +42,3 @@ given h (suc n) = byte_in h.0 h.1 ∷ given (settled h.0 (suc h.1)) n
 unfoldable pub after : Held → ℕ → Held
 after h zero = h
 after h (suc n) = after (settled h.0 (suc h.1)) n
-
-unfoldable pub word_byte : ℕ → ℕ → ℕ
-word_byte w k = w / 2 ^ (8 * k) % 2 ^ 8
