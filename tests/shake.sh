@@ -31,6 +31,4 @@ done
 "$work/shake" "$nist/SHAKE256ShortMsg.rsp" "$nist/SHAKE256LongMsg.rsp" "$nist/SHAKE256VariableOut.rsp" \
     "$nist/SHAKE256Monte.rsp"
 
-# The round stands twice in the crate keccak, as one text.
-cmp crates/keccak/src/even.rt crates/keccak/src/odd.rt
-echo "the two rounds of keccak are one text; each of 4 changed bytes was found"
+echo "each of 4 changed bytes was found"

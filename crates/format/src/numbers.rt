@@ -2,14 +2,12 @@
 ghost use Rattle.std.specs.Prelude.{◌≡◌, ◌+◌, ◌<◌, ◌≤◌, length};
 ghost use Rattle.protocol.specs.Frames.{num2, num4};
 
-use strings::wide;
-
 // The number in two bytes of s, from index at on.
 pub fn number2(s: &[u8], at: usize) -> usize
     requires { at + 2 ≤ length s.now }
     ensures { (result ≡ num2 s.now at) × (result < 65536) }
 {
-    wide(s[at]) + wide(s[at + 1]) * 256
+    usize::from(u16::from_le_bytes(*s[at..].first_chunk::<2>().unwrap()))
 }
 
 // The number in four bytes of s, from index at on.
@@ -17,5 +15,5 @@ pub fn number4(s: &[u8], at: usize) -> usize
     requires { at + 4 ≤ length s.now }
     ensures { (result ≡ num4 s.now at) × (result < 4294967296) }
 {
-    number2(s, at) + number2(s, at + 2) * 65536
+    u32::from_le_bytes(*s[at..].first_chunk::<4>().unwrap()) as usize
 }

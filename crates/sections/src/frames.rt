@@ -9,10 +9,7 @@ pub fn put_count(out: &mut [u8], count: usize)
     requires { (length out.old ≡ 4) × (count < 4294967296) }
     ensures { out.new ≡ count4 count }
 {
-    out[0] = (count % 256) as u8;
-    out[1] = (count / 256 % 256) as u8;
-    out[2] = (count / 65536 % 256) as u8;
-    out[3] = (count / 16777216 % 256) as u8;
+    out.copy_from_slice(&(count as u32).to_le_bytes());
 }
 
 // A section after its count.
@@ -21,7 +18,7 @@ fn put_section(out: &mut [u8], section: &[u8])
     ensures { out.new ≡ frame (section.now ∷ []) }
 {
     put_count(&mut out[..COUNT], section.len());
-    strings::copies::copy_into(&mut out[COUNT..], section);
+    out[COUNT..].copy_from_slice(section);
 }
 
 // Two sections, one after the other.

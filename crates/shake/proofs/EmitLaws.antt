@@ -5,13 +5,13 @@ use mathlib.Core.List.{List, [], ◌∷◌, ◌++◌, append_assoc}
 use Prim.Native.Nat.{ℕ, zero, suc, ◌+◌, ◌*◌, ◌/◌, ◌%◌, ◌-◌, ◌^◌, ◌≤◌, ◌<◌}
 use native.Mathlib.Nat.{div-one}
 use native.Mathlib.Omega.{arith}
-use lib.ListN.{length, get_or, set, take, drop, length-append, length-drop}
+use lib.ListN.{length, get_or, take, drop, length-append, length-drop}
 use lib.Seq.{take_at, take_all, length-take-le}
 use mathlib.Core.Logic.{◌⊎◌, ⊎_elim}
 use borrow.Rule.Slice.PartMut.{put_mid, same_len_mid}
 use Rattle.sponge.specs.Lanes.{listed}
 use Rattle.sponge.specs.Sponge.{byte_in, rate}
-use Rattle.shake.specs.Pieces.{word_byte}
+use Rattle.std.specs.Int.{w64, to_le_bytes}
 use Rattle.shake.specs.Pieces.{Held, settled, given, after}
 use Rattle.shake.proofs.PieceLaws.{listed_more, given_more, after_more, given-part, after-part}
 
@@ -27,26 +27,14 @@ module _ (h : Held) (s : List ℕ) (at i n : ℕ) (is : (s, at) ≡ after h i) (
   pub after-step : settled s (at + n) ≡ after h (i + n)
   after-step = sym (after-part n s at l k) ∙ ap (λ g. after g n) is ∙ sym (after_more i n h)
 
--- eight bytes written, whatever stood there
-eight : (l : List ℕ) (a b c d e f g h : ℕ) → length l ≡ 8
-    → set (set (set (set (set (set (set (set l 0 a) 1 b) 2 c) 3 d) 4 e) 5 f) 6 g) 7 h ≡ a ∷ b ∷ c ∷ d ∷ e ∷ f ∷ g ∷ h ∷ []
-eight [] a b c d e f g h n = absurd (omega arith)
-eight (_ ∷ []) a b c d e f g h n = absurd (omega arith)
-eight (_ ∷ _ ∷ []) a b c d e f g h n = absurd (omega arith)
-eight (_ ∷ _ ∷ _ ∷ []) a b c d e f g h n = absurd (omega arith)
-eight (_ ∷ _ ∷ _ ∷ _ ∷ []) a b c d e f g h n = absurd (omega arith)
-eight (_ ∷ _ ∷ _ ∷ _ ∷ _ ∷ []) a b c d e f g h n = absurd (omega arith)
-eight (_ ∷ _ ∷ _ ∷ _ ∷ _ ∷ _ ∷ []) a b c d e f g h n = absurd (omega arith)
-eight (_ ∷ _ ∷ _ ∷ _ ∷ _ ∷ _ ∷ _ ∷ []) a b c d e f g h n = absurd (omega arith)
-eight (_ ∷ _ ∷ _ ∷ _ ∷ _ ∷ _ ∷ _ ∷ _ ∷ []) a b c d e f g h n = refl
-eight (_ ∷ _ ∷ _ ∷ _ ∷ _ ∷ _ ∷ _ ∷ _ ∷ _ ∷ l) a b c d e f g h n = absurd (omega arith)
+-- byte k of a number
+unfoldable word_byte : ℕ → ℕ → ℕ
+word_byte w k = w / 2 ^ (8 * k) % 2 ^ 8
 
-pub word_stored : (l : List ℕ) (w : ℕ) → length l ≡ 8
-    → set (set (set (set (set (set (set (set l 0 (w % 256)) 1 (w / 2 ^ 8 % 256)) 2 (w / 2 ^ 16 % 256)) 3 (w / 2 ^ 24 % 256)) 4 (w / 2 ^ 32 % 256)) 5 (w / 2 ^ 40 % 256)) 6 (w / 2 ^ 48 % 256)) 7 (w / 2 ^ 56 % 256) ≡ listed 8 (word_byte w) 0
+word-bytes : (w : ℕ) → to_le_bytes w64 w ≡ listed 8 (word_byte w) 0
 unfolding listed word_byte
-word_stored l w n =
-    eight l (w % 256) (w / 2 ^ 8 % 256) (w / 2 ^ 16 % 256) (w / 2 ^ 24 % 256) (w / 2 ^ 32 % 256) (w / 2 ^ 40 % 256) (w / 2 ^ 48 % 256) (w / 2 ^ 56 % 256) n
-    ∙ ap (λ x. x % 256 ∷ w / 2 ^ 8 % 256 ∷ w / 2 ^ 16 % 256 ∷ w / 2 ^ 24 % 256 ∷ w / 2 ^ 32 % 256 ∷ w / 2 ^ 40 % 256 ∷ w / 2 ^ 48 % 256 ∷ w / 2 ^ 56 % 256 ∷ []) (sym (div-one w))
+word-bytes w =
+    ap (λ x. x % 256 ∷ w / 2 ^ 8 % 256 ∷ w / 2 ^ 16 % 256 ∷ w / 2 ^ 24 % 256 ∷ w / 2 ^ 32 % 256 ∷ w / 2 ^ 40 % 256 ∷ w / 2 ^ 48 % 256 ∷ w / 2 ^ 56 % 256 ∷ []) (sym (div-one w))
 
 -- the bytes of a lane, as those of the state
 lane-bytes : (n m k : ℕ) (s : List ℕ) → m + n ≤ 8 → listed n (word_byte (get_or s k 0)) m ≡ listed n (byte_in s) (8 * k + m)
@@ -58,14 +46,15 @@ lane-bytes (suc n) m k s h =
     let o : 8 * k + suc m ≡ suc (8 * k + m) = omega arith in
     ap₂ ◌∷◌ (ap₂ (λ a b. get_or s a 0 / 2 ^ (8 * b) % 2 ^ 8) q r) (lane-bytes n (suc m) k s (omega arith) ∙ ap (listed n (byte_in s)) o)
 
--- a turn: the lane at byte i of the part
-pub words_step : (s out r : List ℕ) (first i : ℕ) → i % 8 ≡ 0 → i + 8 ≤ length out → r ≡ listed 8 (word_byte (get_or s (first + i / 8) 0)) 0 → length r ≡ 8
-    → take i out ≡ listed i (byte_in s) (8 * first) → take (i + 8) (put_mid i 8 out r) ≡ listed (i + 8) (byte_in s) (8 * first)
-words_step s out r first i m l e long is =
-    let o : 8 * (first + i / 8) + 0 ≡ 8 * first + i = omega arith in
-    take_put_end i 8 out r l long
-    ∙ ap₂ ◌++◌ is (e ∙ lane-bytes 8 0 (first + i / 8) s (omega arith) ∙ ap (listed 8 (byte_in s)) o)
-    ∙ sym (listed_more i 8 (byte_in s) (8 * first))
+-- a turn: lane i of the part
+pub words_step : (s out r : List ℕ) (first i : ℕ) → i * 8 + 8 ≤ length out → r ≡ to_le_bytes w64 (get_or s (first + i) 0) → length r ≡ 8
+    → take (i * 8) out ≡ listed (i * 8) (byte_in s) (8 * first) → take ((i + 1) * 8) (put_mid (i * 8) 8 out r) ≡ listed ((i + 1) * 8) (byte_in s) (8 * first)
+words_step s out r first i l e long is =
+    let o : 8 * (first + i) + 0 ≡ 8 * first + i * 8 = omega arith in
+    let n : (i + 1) * 8 ≡ i * 8 + 8 = omega arith in
+    rw n (take_put_end (i * 8) 8 out r l long
+    ∙ ap₂ ◌++◌ is (e ∙ word-bytes (get_or s (first + i) 0) ∙ lane-bytes 8 0 (first + i) s (omega arith) ∙ ap (listed 8 (byte_in s)) o)
+    ∙ sym (listed_more (i * 8) 8 (byte_in s) (8 * first)))
 
 listed-length : (n : ℕ) (f : ℕ → ℕ) (i : ℕ) → length (listed n f i) ≡ n
 unfolding listed

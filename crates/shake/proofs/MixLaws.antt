@@ -3,7 +3,7 @@
 -- Assumes nothing.
 use mathlib.Core.Path.{◌≡◌, sym, ap, ap₂, ◌∙◌}
 use mathlib.Core.List.{List}
-use Prim.Native.Nat.{ℕ, suc, ◌+◌, ◌*◌, ◌/◌, ◌%◌, ◌-◌, ◌^◌, ◌≤◌, ◌<◌}
+use Prim.Native.Nat.{ℕ, suc, ◌+◌, ◌*◌, ◌/◌, ◌%◌, ◌-◌, ◌^◌, ◌≤◌, ◌<◌, min}
 use native.Mathlib.Nat.{eq-or-lt_of_le}
 use native.Mathlib.Numerals.{add-one}
 use native.Mathlib.Omega.{arith}
@@ -23,8 +23,10 @@ split_at p a at h l =
     ∙ sym (all_append (take h p) (drop h p) a at) ∙ ap (added_all a at) (take-append-drop h p)
 
 -- the whole lanes start where a lane does, unless there are none
-pub where_words : (at h n : ℕ) → h ≤ (8 - at % 8) % 8 → (h < (8 - at % 8) % 8 → h ≡ n) → (h + (n - h) / 8 * 8 ≡ h) ⊎ (8 * ((at + h) / 8) ≡ at + h)
-where_words at h n l full = ⊎_elim (λ (e : h ≡ (8 - at % 8) % 8). inr (omega arith)) (λ (k : h < (8 - at % 8) % 8). inl (omega (arith, full k))) (eq-or-lt_of_le l)
+pub where_words : (at h n : ℕ) → h ≡ min ((8 - at % 8) % 8) n → (h + (n - h) / 8 * 8 ≡ h) ⊎ (8 * ((at + h) / 8) ≡ at + h)
+where_words at h n e =
+    let l : h ≤ (8 - at % 8) % 8 = omega arith in
+    ⊎_elim (λ (e : h ≡ (8 - at % 8) % 8). inr (omega arith)) (λ (k : h < (8 - at % 8) % 8). inl (omega arith)) (eq-or-lt_of_le l)
 
 -- bytes up to a lane's end, whole lanes, and the bytes that are left
 pub three_parts : (p a : List ℕ) (at h t : ℕ) → h ≤ t → t ≤ length p → (t ≡ h) ⊎ (8 * ((at + h) / 8) ≡ at + h)
@@ -63,16 +65,17 @@ module _ (p a : List ℕ) where
       ∙ ap₂ (added_all (added a j (get_or p i 0))) next (ap (λ k. drop k p) (add-one i))
       ∙ sym (ap (added_all a j) (drop-cons p i 0 h))
 
-  pub word-step : ((i : ℕ) → get_or p i 0 < 256) → (first i w : ℕ) → i % 8 ≡ 0 → i + 8 ≤ length p → first + i / 8 < length a → w ≡ word_of p i 8
-      → added_all (set a (first + i / 8) (bit_xor (get_or a (first + i / 8) 0) w)) (8 * first + (i + 8)) (drop (i + 8) p) ≡ added_all a (8 * first + i) (drop i p)
-  word-step bytes first i w m l h e =
-      let k = first + i / 8 in
-      let part = take 8 (drop i p) in
-      let long : length part ≡ 8 = length-take-le 8 (drop i p) (omega (arith, length-drop i p)) in
-      let from : 8 * k ≡ 8 * first + i = omega arith in
-      let to : 8 * first + (i + 8) ≡ 8 * k + length part = omega arith in
-      ap (λ x. added_all (set a k (bit_xor (get_or a k 0) x)) (8 * first + (i + 8)) (drop (i + 8) p)) e
-      ∙ ap (λ t. added_all t (8 * first + (i + 8)) (drop (i + 8) p)) (sym (lane_word p i bytes a k h 8 (omega arith) l))
-      ∙ ap₂ (added_all (added_all a (8 * k) part)) to (sym (drop-drop 8 i p))
-      ∙ sym (all_append part (drop 8 (drop i p)) a (8 * k))
-      ∙ ap₂ (added_all a) from (take-append-drop 8 (drop i p))
+  pub word-step : ((i : ℕ) → get_or p i 0 < 256) → (first i w : ℕ) → i * 8 + 8 ≤ length p → first + i < length a → w ≡ word_of p (i * 8) 8
+      → added_all (set a (first + i) (bit_xor (get_or a (first + i) 0) w)) (8 * first + (i + 1) * 8) (drop ((i + 1) * 8) p) ≡ added_all a (8 * first + i * 8) (drop (i * 8) p)
+  word-step bytes first i w l h e =
+      let k = first + i in
+      let part = take 8 (drop (i * 8) p) in
+      let long : length part ≡ 8 = length-take-le 8 (drop (i * 8) p) (omega (arith, length-drop (i * 8) p)) in
+      let from : 8 * k ≡ 8 * first + i * 8 = omega arith in
+      let next : (i + 1) * 8 ≡ i * 8 + 8 = omega arith in
+      let to : 8 * first + (i * 8 + 8) ≡ 8 * k + length part = omega arith in
+      ap₂ (λ x n. added_all (set a k (bit_xor (get_or a k 0) x)) (8 * first + n) (drop n p)) e next
+      ∙ ap (λ t. added_all t (8 * first + (i * 8 + 8)) (drop (i * 8 + 8) p)) (sym (lane_word p (i * 8) bytes a k h 8 (omega arith) l))
+      ∙ ap₂ (added_all (added_all a (8 * k) part)) to (sym (drop-drop 8 (i * 8) p))
+      ∙ sym (all_append part (drop 8 (drop (i * 8) p)) a (8 * k))
+      ∙ ap₂ (added_all a) from (take-append-drop 8 (drop (i * 8) p))

@@ -8,8 +8,8 @@ use mathlib.Core.Logic.{⊎_elim}
 use native.Mathlib.Nat.{add-zero, eq-or-lt_of_le, le_of_suc-le-suc, mod-eq_of_lt}
 use native.Mathlib.Numerals.{add-one}
 use native.Mathlib.Omega.{arith}
-use lib.ListN.{length, take, drop, length-append, length-drop, take-append-drop, drop_of_length-le}
-use lib.Seq.{length-take-le, take-append-le, drop-append-le, drop-drop, take_all}
+use lib.ListN.{length, take, drop, length-append, length-drop, take-append-drop}
+use lib.Seq.{length-take-le, take-append-le, drop-append-le, take_all}
 use borrow.Author.Tests.{eq-eqb, ne_eqb}
 use Rattle.sponge.specs.Keccak.{keccak}
 use Rattle.sponge.specs.Lanes.{listed, lane_count, zero_state}
@@ -148,19 +148,9 @@ settled-length s at h l =
     (λ (k : at < rate). ap (λ g. length g.0) (part s at k) ∙ l)
     (eq-or-lt_of_le h)
 
--- a turn of the loop that absorbs: n bytes of a piece, from its byte i on
-pub absorbed-step : (piece s : List ℕ) (at i n : ℕ) → at < rate → at + n ≤ rate → i + n ≤ length piece
-    → absorbed (settled (added_all s at (take (i + n - i) (drop i piece))) (at + n)) (drop (i + n) piece) ≡ absorbed (s, at) (drop i piece)
-absorbed-step piece s at i n h k l =
-    let e : i + n - i ≡ n = omega arith in
-    let p = take n (drop i piece) in
-    let long : length p ≡ n = length-take-le n (drop i piece) (omega (arith, length-drop i piece)) in
-    ap (λ j. absorbed (settled (added_all s at (take j (drop i piece))) (at + n)) (drop (i + n) piece)) e
-    ∙ ap (λ j. absorbed (settled (added_all s at p) (at + j)) (drop (i + n) piece)) (sym long)
-    ∙ ap (λ g. absorbed g (drop (i + n) piece)) (sym (absorbed-part p s at h (omega arith)))
-    ∙ sym (absorbed-append p (drop (i + n) piece) (s, at))
-    ∙ ap (λ q. absorbed (s, at) (p ++ q)) (sym (drop-drop n i piece))
-    ∙ ap (absorbed (s, at)) (take-append-drop n (drop i piece))
+-- a turn of the loop that absorbs: p, within a block, of what is left
+pub absorbed-step : (p q s : List ℕ) (at : ℕ) → at < rate → at + length p ≤ rate → absorbed (settled (added_all s at p) (at + length p)) q ≡ absorbed (s, at) (p ++ q)
+absorbed-step p q s at h k = ap (λ g. absorbed g q) (sym (absorbed-part p s at h k)) ∙ sym (absorbed-append p q (s, at))
 
 pub listed_more : (n m : ℕ) (f : ℕ → ℕ) (i : ℕ) → listed (n + m) f i ≡ listed n f i ++ listed m f (i + n)
 unfolding listed
@@ -173,10 +163,6 @@ listed_more (suc n) m f i =
 pub listed_next : (n : ℕ) (f : ℕ → ℕ) (i : ℕ) → listed (n + 1) f i ≡ listed n f i ++ (f (i + n) ∷ [])
 unfolding listed
 listed_next n f i = listed_more n 1 f i
-
-pub none-absorbed : (piece s : List ℕ) (at i : ℕ) → length piece ≤ i → (s, at) ≡ absorbed (s, at) (drop i piece)
-unfolding absorbed
-none-absorbed piece s at i h = ap (absorbed (s, at)) (sym (drop_of_length-le piece h))
 
 -- an input and an output of a block each
 pub short_is : (m : List ℕ) (n : ℕ) → length m < rate → n ≤ rate → listed n (byte_in (keccak (added (added (added_all zero_state 0 m) (length m) suffix) (rate - 1) last_bit))) 0 ≡ shake256 m n

@@ -1,23 +1,19 @@
 -- SHAKE256 piece by piece: the lanes, with how many bytes of the present block have been absorbed, or given. That is
 -- the place of the next byte, and below the rate.
---   Held == lanes and place;  Ready s at == s has twenty-five lanes, and the place is within a block
+--   Held == lanes and place
 --   settled s at == the lanes s with the place `at`, after a permutation where a block is full
 --   absorbed h p == the held state h after the bytes p;  finished h == after the padding, ready to give bytes
 --   given h n == the next n bytes;  after h n == the state after them
---   word_byte w k == byte k of the number w
 -- Laws (proofs/PieceLaws): `absorbed-append`, pieces absorbed one after the other are absorbed at once; `given_more`,
 -- and bytes given so; `shake_is`, what is given after a message and its padding is SHAKE256 of it.
 -- Assumes nothing.
-use Rattle.std.specs.Prelude.{List, [], ◌∷◌, Bool, true, false, ℕ, zero, suc, ◌*◌, ◌-◌, ◌/◌, ◌%◌, ◌^◌, ◌<◌, ◌≡◌, length, eqb}
-use Rattle.sponge.specs.Lanes.{lane_count, zero_state}
+use Rattle.std.specs.Prelude.{List, [], ◌∷◌, Bool, true, false, ℕ, zero, suc, ◌-◌, eqb}
+use Rattle.sponge.specs.Lanes.{zero_state}
 use Rattle.sponge.specs.Keccak.{keccak}
 use Rattle.sponge.specs.Sponge.{byte_in, added, rate, suffix, last_bit}
 
 abbrev pub Held : Type 0
 Held = List ℕ × ℕ
-
-abbrev pub Ready : List ℕ → ℕ → Type 0
-Ready s at = (length s ≡ lane_count) × (at < rate)
 
 unfoldable pub either : Bool → Held → Held → Held
 either true a b = a
@@ -43,6 +39,3 @@ given h (suc n) = byte_in h.0 h.1 ∷ given (settled h.0 (suc h.1)) n
 unfoldable pub after : Held → ℕ → Held
 after h zero = h
 after h (suc n) = after (settled h.0 (suc h.1)) n
-
-unfoldable pub word_byte : ℕ → ℕ → ℕ
-word_byte w k = w / 2 ^ (8 * k) % 2 ^ 8

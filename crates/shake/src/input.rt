@@ -1,40 +1,36 @@
 // Bytes added to those of the lanes, by whole lanes where it can be.
 ghost use Rattle.std.specs.Prelude.{◌≡◌, ◌+◌, ◌*◌, ◌%◌, ◌≤◌, length};
-ghost use Rattle.sponge.specs.Lanes.{lane_count};
 ghost use Rattle.sponge.specs.Sponge.{rate, added_all};
 
-use strings::{WORD, least, word, word_at};
+use strings::{WORD, word_at};
 
 // Adds bytes from byte `at` of the lanes on.
 fn mix_bytes(lanes: &mut [u64; 25], at: usize, part: &[u8])
-    requires { (length lanes.old ≡ lane_count) × (at + length part.now ≤ rate) }
+    requires { at + length part.now ≤ rate }
     ensures { lanes.new ≡ added_all lanes.old at part.now }
 {
     for i in 0..part.len() {
         let j = at + i;
-        lanes[j / WORD] ^= word(part[i]) << (8 * (j % WORD));
+        lanes[j / WORD] ^= u64::from(part[i]) << (8 * (j % WORD));
     }
 }
 
 // The same from a lane's first byte on, by whole lanes.
 fn mix_words(lanes: &mut [u64; 25], first: usize, part: &[u8])
-    requires { (length lanes.old ≡ lane_count) × (8 * first + length part.now ≤ rate) × (length part.now % 8 ≡ 0) }
+    requires { (8 * first + length part.now ≤ rate) × (length part.now % 8 ≡ 0) }
     ensures { lanes.new ≡ added_all lanes.old (8 * first) part.now }
 {
-    let mut i = 0;
-    while i < part.len() {
-        let k = first + i / WORD;
-        lanes[k] ^= word_at(part, i);
-        i += WORD;
+    for i in 0..part.len() / WORD {
+        lanes[first + i] ^= word_at(part, i * WORD);
     }
 }
 
 // Adds bytes from byte `at` of the lanes on: up to a lane's end, by whole lanes, and those that are left.
 pub fn mix(lanes: &mut [u64; 25], at: usize, part: &[u8])
-    requires { (length lanes.old ≡ lane_count) × (at + length part.now ≤ rate) }
+    requires { at + length part.now ≤ rate }
     ensures { lanes.new ≡ added_all lanes.old at part.now }
 {
-    let head = least((WORD - at % WORD) % WORD, part.len());
+    let head = ((WORD - at % WORD) % WORD).min(part.len());
     let tail = head + (part.len() - head) / WORD * WORD;
     mix_bytes(lanes, at, &part[..head]);
     mix_words(lanes, (at + head) / WORD, &part[head..tail]);

@@ -3,16 +3,18 @@
 
 pub mod input;
 pub mod output;
+pub mod state;
 
-ghost use Rattle.std.specs.Prelude.{◌≡◌, ◌-◌, ◌%◌, ◌<◌, ◌≤◌, length};
-ghost use Rattle.sponge.specs.Lanes.{lane_count};
+ghost use Rattle.std.specs.Prelude.{◌≡◌, ◌-◌, ◌<◌, ◌≤◌, length};
 ghost use Rattle.sponge.specs.Sponge.{rate, suffix, last_bit, added, shake256};
-ghost use Rattle.shake.specs.Pieces.{Ready, settled, fresh, absorbed, finished, given, after};
+ghost use Rattle.shake.specs.Pieces.{settled, fresh, absorbed, finished, given, after};
+ghost use Rattle.shake.specs.Held.{held};
 
 use input::mix;
 use keccak::permute;
 use output::emit;
-use strings::{WORD, least};
+pub use state::Shake;
+use strings::WORD;
 
 // The bytes of a block.
 pub const RATE: usize = 136;
@@ -25,20 +27,64 @@ const SUFFIX: u64 = 0x1F;
 
 const LAST_BIT: u64 = 0x80;
 
-// The lanes, and how many bytes of the present block have been absorbed, or given: the place of the next byte.
-#[derive(Clone, Copy)]
-pub struct Shake {
-    pub lanes: [u64; 25],
-    pub absorbed: usize,
-}
+impl Shake {
+    // The state before any byte.
+    pub fn new() -> Shake
+        ensures { held result ≡ fresh }
+    {
+        Shake {
+            lanes: [0; 25],
+            absorbed: 0,
+        }
+    }
 
-// The state before any byte.
-pub fn new() -> Shake
-    ensures { ((result.lanes, result.absorbed) ≡ fresh) × Ready result.lanes result.absorbed }
-{
-    Shake {
-        lanes: [0; 25],
-        absorbed: 0,
+    // The state after the bytes of a piece.
+    pub fn absorb(self, piece: &[u8]) -> Shake
+        ensures { held result ≡ absorbed (held self) piece.now }
+    {
+        let mut lanes = self.lanes;
+        let mut at = self.absorbed;
+        let mut rest = piece;
+        while !rest.is_empty() {
+            let (part, left) = rest.split_at((RATE - at).min(rest.len()));
+            mix(&mut lanes, at, part);
+            at = settle(&mut lanes, at + part.len());
+            rest = left;
+        }
+        Shake {
+            lanes,
+            absorbed: at,
+        }
+    }
+
+    // The state after the padding: its bytes are the output.
+    pub fn finish(self) -> Shake
+        ensures { held result ≡ finished (held self) }
+    {
+        let mut lanes = self.lanes;
+        pad(&mut lanes, self.absorbed);
+        permute(&mut lanes);
+        Shake { lanes, absorbed: 0 }
+    }
+
+    // Gives the next bytes of the output.
+    pub fn squeeze(self, out: &mut [u8]) -> Shake
+        ensures bytes { out.new ≡ given (held self) (length out.old) }
+        ensures state { held result ≡ after (held self) (length out.old) }
+    {
+        let mut lanes = self.lanes;
+        let mut at = self.absorbed;
+        let mut i = 0;
+        while i < out.len() {
+            let n = (RATE - at).min(out.len() - i);
+            emit(&mut out[i..i + n], &lanes, at);
+            at = settle(&mut lanes, at + n);
+            i += n;
+        }
+        Shake {
+            lanes,
+            absorbed: at,
+        }
     }
 }
 
@@ -54,62 +100,13 @@ fn settle(lanes: &mut [u64; 25], at: usize) -> usize
     }
 }
 
-// The state after the bytes of a piece.
-pub fn absorb(state: Shake, piece: &[u8]) -> Shake
-    ensures { ((result.lanes, result.absorbed) ≡ absorbed (state.lanes, state.absorbed % rate) piece.now) × Ready result.lanes result.absorbed }
-{
-    let mut lanes = state.lanes;
-    let mut at = state.absorbed % RATE;
-    let mut i = 0;
-    while i < piece.len() {
-        let n = least(RATE - at, piece.len() - i);
-        mix(&mut lanes, at, &piece[i..i + n]);
-        at = settle(&mut lanes, at + n);
-        i += n;
-    }
-    Shake {
-        lanes,
-        absorbed: at,
-    }
-}
-
 // Adds the padding after `at` bytes of a block.
 fn pad(lanes: &mut [u64; 25], at: usize)
-    requires { (length lanes.old ≡ lane_count) × (at < rate) }
+    requires { at < rate }
     ensures { lanes.new ≡ added (added lanes.old at suffix) (rate - 1) last_bit }
 {
     lanes[at / WORD] ^= SUFFIX << (8 * (at % WORD));
     lanes[LAST / WORD] ^= LAST_BIT << (8 * (LAST % WORD));
-}
-
-// The state after the padding: its bytes are the output.
-pub fn finish(state: Shake) -> Shake
-    ensures { ((result.lanes, result.absorbed) ≡ finished (state.lanes, state.absorbed % rate)) × Ready result.lanes result.absorbed }
-{
-    let mut lanes = state.lanes;
-    let at = state.absorbed % RATE;
-    pad(&mut lanes, at);
-    permute(&mut lanes);
-    Shake { lanes, absorbed: 0 }
-}
-
-// Gives the next bytes of the output.
-pub fn squeeze(state: Shake, out: &mut [u8]) -> Shake
-    ensures { (out.new ≡ given (state.lanes, state.absorbed % rate) (length out.old)) × ((result.lanes, result.absorbed) ≡ after (state.lanes, state.absorbed % rate) (length out.old)) × Ready result.lanes result.absorbed }
-{
-    let mut lanes = state.lanes;
-    let mut at = state.absorbed % RATE;
-    let mut i = 0;
-    while i < out.len() {
-        let n = least(RATE - at, out.len() - i);
-        emit(&mut out[i..i + n], &lanes, at);
-        at = settle(&mut lanes, at + n);
-        i += n;
-    }
-    Shake {
-        lanes,
-        absorbed: at,
-    }
 }
 
 // SHAKE256 of a string where a block holds the input and a block the output: no state is passed.
@@ -128,19 +125,16 @@ pub fn short(out: &mut [u8], input: &[u8])
 fn long(out: &mut [u8], input: &[u8])
     ensures { out.new ≡ shake256 input.now (length out.old) }
 {
-    let whole = finish(absorb(new(), input));
-    squeeze(whole, out);
+    Shake::new().absorb(input).finish().squeeze(out);
 }
 
 // SHAKE256 of a string, as many bytes as there is room for.
 pub fn shake256(out: &mut [u8], input: &[u8])
     ensures { out.new ≡ shake256 input.now (length out.old) }
 {
-    if RATE <= input.len() {
-        long(out, input);
-    } else if RATE < out.len() {
-        long(out, input);
-    } else {
+    if input.len() < RATE && out.len() <= RATE {
         short(out, input);
+    } else {
+        long(out, input);
     }
 }

@@ -1,16 +1,17 @@
 -- The parity of the ones that two rows share is their product over GF(2): byte by byte, and in each byte bit by bit.
 -- Assumes nothing.
 use mathlib.Core.Path.{◌≡◌, refl, sym, ap, ap₂, ◌∙◌}
-use mathlib.Core.List.{List}
+use mathlib.Core.List.{List, [], ◌∷◌}
 use Prim.Native.Nat.{ℕ, zero, suc, ◌+◌, ◌*◌, ◌/◌, ◌%◌, ◌^◌, ◌≤◌, ◌<◌}
 use native.Mathlib.Nat.{le_refl, zero-mul, mod-lt, mod-mod, pow-suc, div-lt_iff_lt-mul}
-use native.Mathlib.Numerals.{add-one}
 use native.Mathlib.Omega.{arith}
 use lib.Arith.{lt-one}
-use lib.Bits.{bit_and, bit_xor, and_shr, and_mod, and_le_l, xor_add_and, xor_mod, xor_shr}
-use lib.Count.{ones, ones_step, ones-le}
+use lib.Bits.{bit_and, bit_xor, and_shr, and_mod, xor_add_and, xor_mod, xor_shr}
+use lib.Count.{ones, ones_step}
 use lib.Dec.{lit<}
 use lib.ListN.{length}
+use Rattle.std.specs.List.{fold, sum_by, zip}
+use Rattle.std.proofs.Common.{zero-add}
 use Rattle.protocol.specs.Strings.{bit}
 use Rattle.strings.specs.Sums.{byte_at, bit_of, xor_sum}
 use Rattle.strings.specs.Products.{bit_product}
@@ -90,14 +91,20 @@ shared-parity (suc n) row x h =
 pub row-product : RowProduct
 row-product row x h l = shared-parity (length row) row x h
 
--- ---- bounds
+-- ---- the same count, taken along the rows
 
-pub shared_le : (n : ℕ) (row x : List ℕ) → ((i : ℕ) → byte_at row i < 256) → shared n row x ≤ 8 * n
+shared-first : (n r s : ℕ) (row x : List ℕ) → shared (suc n) (r ∷ row) (s ∷ x) ≡ ones (bit_and r s) + shared n row x
 unfolding shared
-shared_le zero row x h = omega arith
-shared_le (suc n) row x h =
-    omega (arith, shared_le n row x h, ones-le 8 (bit_and (byte_at row n) (byte_at x n)) (omega (arith, and_le_l (byte_at row n) (byte_at x n), h n)))
+shared-first zero r s row x = omega arith
+shared-first (suc n) r s row x = omega (arith, shared-first n r s row x)
 
-pub shared_more : (n : ℕ) (row x : List ℕ) → shared (n + 1) row x ≡ shared n row x + ones (bit_and (byte_at row n) (byte_at x n))
+shared_fold : (row x : List ℕ) (a : ℕ) → length x ≡ length row
+    → fold (λ a p. a + ones (bit_and p.0 p.1)) a (zip row x) ≡ a + shared (length row) row x
 unfolding shared
-shared_more n row x = rw add-one
+shared_fold [] x a h = omega arith
+shared_fold (r ∷ row) [] a h = absurd (omega arith)
+shared_fold (r ∷ row) (s ∷ x) a h =
+    shared_fold row x (a + ones (bit_and r s)) (omega arith) ∙ omega (arith, shared-first (length row) r s row x)
+
+pub shared-zip : (row x : List ℕ) → length x ≡ length row → sum_by (λ p. ones (bit_and p.0 p.1)) (zip row x) ≡ shared (length row) row x
+shared-zip row x h = shared_fold row x 0 h ∙ zero-add (shared (length row) row x)

@@ -6,8 +6,12 @@ use mathlib.Core.Logic.{⊎_elim}
 use Prim.Native.Nat.{ℕ, zero, suc, ◌+◌, ◌*◌, ◌/◌, ◌%◌, ◌-◌, ◌^◌, ◌≤◌, ◌<◌}
 use native.Mathlib.Nat.{mul-le-mul, le_refl, mod-eq_of_lt, div-one, add_assoc, eq-or-lt_of_le, le_of_suc-le-suc}
 use native.Mathlib.Omega.{arith}
-use lib.Bits.{bit_or, bit_xor, or_shifted_r, xor_shr, xor_mod}
-use lib.Pow.{pow-add, shl_exact, shr-shr, high, low, field, mod-mod-pow}
+use lib.Bits.{bit_xor, xor_shr, xor_mod}
+use lib.Dec.{lit<}
+use lib.ListN.{take, drop}
+use lib.Seq.{get_or-take, get_or-drop}
+use Rattle.std.specs.Int.{w64, from_le_bytes}
+use lib.Pow.{pow-add, shr-shr, high, low, field, mod-mod-pow}
 use Rattle.strings.specs.Sums.{byte_at, xor_sum}
 use Rattle.strings.specs.Words.{word_of}
 use Rattle.strings.proofs.SumLaws.{sum_same, sum_parts, sum_both}
@@ -24,6 +28,17 @@ byte_low b n i w h l =
     let x = b * 2 ^ (8 * n) + w in
     sym (field x 8 (8 * i)) ∙ ap (λ y. y / 2 ^ (8 * i)) (sym (cut x) ∙ ap (λ y. y % 2 ^ (8 + 8 * i)) (low b (8 * n) h)) ∙ field w 8 (8 * i)
 
+-- byte i of n bytes of s, from `at` on
+pub part-byte : (s : List ℕ) (at n i : ℕ) → i < n → byte_at (take n (drop at s)) i ≡ byte_at s (at + i)
+part-byte s at n i h = get_or-take n (drop at s) i 0 h ∙ get_or-drop at s i 0
+
+-- eight bytes read as the library reads them
+pub word_read : (s : List ℕ) (at : ℕ) → from_le_bytes w64 (take 8 (drop at s)) ≡ word_of s at 8
+unfolding word_of
+word_read s at =
+    let b = part-byte s at 8 in
+    omega (arith, b 0 (lit< tt), b 1 (lit< tt), b 2 (lit< tt), b 3 (lit< tt), b 4 (lit< tt), b 5 (lit< tt), b 6 (lit< tt), b 7 (lit< tt))
+
 module _ (s : List ℕ) (at : ℕ) (bytes : (i : ℕ) → byte_at s i < 256) where
   pub word_lt : (n : ℕ) → word_of s at n < 2 ^ (8 * n)
   unfolding word_of
@@ -33,17 +48,6 @@ module _ (s : List ℕ) (at : ℕ) (bytes : (i : ℕ) → byte_at s i < 256) whe
       let p : 2 ^ (8 * suc n) ≡ 256 * 2 ^ (8 * n) = ap (λ k. 2 ^ k) e ∙ pow-add 2 8 (8 * n) in
       let b : byte_at s (at + n) ≤ 255 = omega (arith, bytes (at + n)) in
       omega (arith, p, word_lt n, mul-le-mul b (le_refl (2 ^ (8 * n))))
-
-  pub word_first : byte_at s at ≡ word_of s at 1
-  unfolding word_of
-  word_first = let e : at + 0 ≡ at = omega arith in rw e (omega arith)
-
-  -- a byte more, shifted to its place
-  pub word_next : (n : ℕ) → n < 8 → bit_or (word_of s at n) (byte_at s (at + n) * 2 ^ (8 * n) % 2 ^ 64) ≡ word_of s at (suc n)
-  unfolding word_of
-  word_next n h =
-      ap (bit_or (word_of s at n)) (shl_exact 8 (8 * n) 64 (bytes (at + n)) (omega arith))
-      ∙ or_shifted_r (byte_at s (at + n)) (8 * n) (word_of s at n) (word_lt n)
 
   word_byte_lem : (n i : ℕ) → i < n → byte_of (word_of s at n) i ≡ byte_at s (at + i)
   unfolding word_of

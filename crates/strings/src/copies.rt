@@ -4,14 +4,13 @@ ghost use Rattle.protocol.specs.Strings.{bytes_for, bit};
 
 use super::BITS;
 
+// TO GO
 // dst becomes src.
 pub fn copy_into(dst: &mut [u8], src: &[u8])
     requires { length src.now ≡ length dst.old }
     ensures { dst.new ≡ src.now }
 {
-    for i in 0..src.len() {
-        dst[i] = src[i];
-    }
+    dst.copy_from_slice(src);
 }
 
 // Makes the spare bits of a string of n coordinates 0, by a mask: n alone decides whether there are any.

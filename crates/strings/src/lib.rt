@@ -56,13 +56,12 @@ pub fn xor_of(dst: &mut [u8], a: &[u8], b: &[u8])
     }
 }
 
+// TO GO
 // Each byte is 0.
 pub fn clear(dst: &mut [u8])
     ensures { (i : ℕ) → i < length dst.old → byte_at dst.new i ≡ 0 }
 {
-    for i in 0..dst.len() {
-        dst[i] = 0;
-    }
+    dst.fill(0);
 }
 
 // Row i of a table, as that part of it.
@@ -111,18 +110,20 @@ pub fn xor_bit(s: &mut [u8], c: usize, q: u8)
     s[c / BITS] ^= q << (c % BITS);
 }
 
+// TO GO
 // A byte as an index.
 pub fn wide(x: u8) -> usize
     ensures { (result ≡ x) × (result < 256) }
 {
-    x as usize
+    usize::from(x)
 }
 
+// TO GO
 // A byte as a word.
 pub fn word(x: u8) -> u64
     ensures { (result ≡ x) × (result < 256) }
 {
-    x as u64
+    u64::from(x)
 }
 
 // Eight bytes as one number, lowest first: one load.
@@ -130,19 +131,13 @@ pub fn word_at(s: &[u8], at: usize) -> u64
     requires { at + 8 ≤ length s.now }
     ensures { result ≡ word_of s.now at 8 }
 {
-    word(s[at])
-        | word(s[at + 1]) << 8
-        | word(s[at + 2]) << 16
-        | word(s[at + 3]) << 24
-        | word(s[at + 4]) << 32
-        | word(s[at + 5]) << 40
-        | word(s[at + 6]) << 48
-        | word(s[at + 7]) << 56
+    u64::from_le_bytes(*s[at..].first_chunk::<WORD>().unwrap())
 }
 
+// TO GO
 // The lesser of two numbers.
 pub fn least(a: usize, b: usize) -> usize
     ensures { (result ≤ a) × (result ≤ b) × ((result < a) → result ≡ b) }
 {
-    if a < b { a } else { b }
+    a.min(b)
 }

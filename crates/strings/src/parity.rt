@@ -33,11 +33,7 @@ fn shared_bytes(row: &[u8], x: &[u8]) -> u32
     requires { (length x.now ≡ length row.now) × (length row.now ≤ 100000) }
     ensures { result ≡ shared (length row.now) row.now x.now }
 {
-    let mut count = 0u32;
-    for i in 0..row.len() {
-        count += u8::count_ones(row[i] & x[i]);
-    }
-    count
+    row.iter().zip(x).map(|(r, s)| (r & s).count_ones()).sum()
 }
 
 // The product of two rows of bits over GF(2), as 01 has it: row AND x, the ones counted, their parity taken. Words of

@@ -1,20 +1,12 @@
 -- `shake::short` meets its contract: a block in, a permutation, a block out. Assumes nothing.
 use Prim.Native.Nat.{◌-◌}
 use mathlib.Core.Path.{ap, ◌∙◌}
-use native.Mathlib.Omega.{arith}
 use lib.ListN.{length}
 use Rattle.sponge.specs.Keccak.{keccak}
 use Rattle.sponge.specs.Lanes.{listed}
 use Rattle.sponge.specs.Sponge.{byte_in, added, rate, suffix, last_bit}
-use Rattle.shake.proofs.StateLaws.{all-length, keccak-length}
 use Rattle.shake.proofs.PieceLaws.{short_is}
 use Rattle.shake.proofs.short.Goals as goal
-
-pub pad-requires : goal.pad-requires
-pad-requires c = (ap length c.mix.ensures ∙ all-length _ _ _, c.requires.0)
-
-pub emit-requires : goal.emit-requires
-emit-requires c = (ap length c.permute.ensures ∙ keccak-length _, omega (arith, c.requires.1))
 
 pub returns : goal.returns
 returns c =

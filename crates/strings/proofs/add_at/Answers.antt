@@ -1,6 +1,6 @@
 -- `strings::add_at` meets its contract. Each element is changed once (`Elementwise`).
 -- Assumes nothing.
-use Rattle.std.proofs.Common.{ℕ, ◌+◌, refl, rules, arith}
+use Rattle.std.proofs.Common.{ℕ, ◌+◌, refl, arith}
 use lib.Bits.{bit_xor}
 use Rattle.strings.specs.Sums.{byte_at}
 use Rattle.strings.proofs.Elementwise.{changed, changed_more, changed-all}

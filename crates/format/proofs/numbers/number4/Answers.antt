@@ -1,9 +1,21 @@
--- `format::numbers::number4` meets its contract. Two numbers of two bytes.
+-- `format::numbers::number4` meets its contract. The bytes are added as the definition adds them.
 -- Assumes nothing.
-use native.Mathlib.Omega.{arith}
-use Rattle.protocol.specs.Frames.{num4}
+use Rattle.std.proofs.Common.{◌≡◌, ◌+◌, arith, ap, ◌∙◌}
+use Rattle.std.proofs.lemmas.Grind.{common_steps}
+use Rattle.std.specs.Int.{w32, from_le_bytes}
+use lib.ListN.{take, drop}
+use Rattle.protocol.specs.Frames.{num2, num4}
+use Rattle.strings.proofs.WordLaws.{part-byte}
 use Rattle.format.proofs.numbers.number4.Goals as goal
 
 pub returns : goal.returns
-unfolding num4
-returns c = (rw (c.number2-2.ensures.0, c.number2.ensures.0), omega arith)
+unfolding num4 num2
+returns c =
+    let s = c.args.s.now in
+    let at = c.args.at in
+    let e : c.unwrap.result.now ≡ take 4 (drop at s) = grind (arith, common_steps, c.unwrap.ensures, c.first_chunk.ensures.cases) in
+    let b = part-byte s at 4 in
+    let z : at + 0 ≡ at = omega arith in
+    let y : at + 3 ≡ at + 2 + 1 = omega arith in
+    let is : c.from_le_bytes.result ≡ num4 s at = c.from_le_bytes.ensures ∙ ap (from_le_bytes w32) e ∙ omega (arith, rw z at (b 0 (omega arith)), b 1 (omega arith), b 2 (omega arith), rw y at (b 3 (omega arith))) in
+    (is, omega arith)

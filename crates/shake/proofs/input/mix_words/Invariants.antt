@@ -1,14 +1,9 @@
 -- `shake::input::mix_words` meets its contract. What is left to add, added to the lanes, gives the result.
 -- Assumes nothing.
-use Prim.Native.Nat.{◌+◌, ◌*◌, ◌%◌, ◌-◌, ◌≤◌}
-use mathlib.Core.Path.{◌≡◌}
-use lib.ListN.{length, drop}
-use Rattle.sponge.specs.Lanes.{lane_count}
+use Rattle.std.proofs.Common.{◌≡◌, ◌+◌, ◌*◌}
+use lib.ListN.{drop}
 use Rattle.sponge.specs.Sponge.{added_all}
 use Rattle.shake.proofs.input.mix_words.Given as goal
 
 abbrev pub invariant-loop-i : goal.invariant-loop-i
-invariant-loop-i l = (l.i ≤ length l.part) × (l.i % 8 ≡ 0) × (added_all l.lanes (8 * l.first + l.i) (drop l.i l.part) ≡ added_all l.initial.lanes (8 * l.first) l.part) × (length l.lanes ≡ lane_count)
-
-abbrev pub decreases-loop-i : goal.decreases-loop-i
-decreases-loop-i l = length l.part - l.i
+invariant-loop-i l = added_all l.lanes (8 * l.first + l.i * 8) (drop (l.i * 8) l.part) ≡ added_all l.initial.lanes (8 * l.first) l.part

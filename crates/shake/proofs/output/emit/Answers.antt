@@ -12,14 +12,13 @@ pub slice_bounds-emit_bytes-end-2 : goal.slice_bounds-emit_bytes-end-2
 slice_bounds-emit_bytes-end-2 c = simp length-take (omega arith)
 
 pub emit_bytes-requires : goal.emit_bytes-requires
-emit_bytes-requires c = (c.requires.0, simp length-take (omega (arith, c.requires.1)))
+emit_bytes-requires c = simp length-take (omega arith)
 
 pub returns : goal.returns
 returns c =
     let a = c.args in
-    let h = c.least-head.result in
+    let h = c.min-head.result in
     let o = a.out.now in
     let t = h + (length o - h) / 8 * 8 in
-    let lo = c.least-head.ensures in
-    three-given o c.emit_bytes.new.out c.emit_words.new.out c.emit_bytes-2.new.out (byte_in a.lanes.now) a.at h t (omega arith) (omega (arith, lo))
-    c.emit_bytes.ensures c.emit_words.ensures c.emit_bytes-2.ensures (where_words a.at h (length o) lo.0 lo.2)
+    three-given o c.emit_bytes.new.out c.emit_words.new.out c.emit_bytes-2.new.out (byte_in a.lanes.now) a.at h t (omega arith) (omega arith)
+    c.emit_bytes.ensures c.emit_words.ensures c.emit_bytes-2.ensures (where_words a.at h (length o) c.min-head.ensures)

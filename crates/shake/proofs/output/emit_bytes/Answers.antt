@@ -2,40 +2,32 @@
 -- Assumes nothing.
 use mathlib.Core.List.{[], ◌∷◌, ◌++◌}
 use native.Mathlib.Numerals.{add-one}
-use lib.ListN.{set}
+use lib.ListN.{length, set, take}
 use lib.Seq.{take-suc-set, take_all}
 use Rattle.sponge.specs.Lanes.{listed}
 use Rattle.sponge.specs.Sponge.{byte_in}
 use Rattle.shake.proofs.PieceLaws.{listed_next}
-use borrow.Author.Rules.{rules}
 use Prim.Native.Nat.{◌+◌}
 use mathlib.Core.Path.{◌≡◌, refl, sym, ap, ◌∙◌}
 use native.Mathlib.Omega.{arith}
-use lib.ListN.{length, take, length-set}
 use Rattle.shake.proofs.output.emit_bytes.Goals as goal
 
 pub loop-i-init : goal.loop-i-init
 unfolding listed
-loop-i-init c = (search rules, refl, refl)
+loop-i-init c = refl
 
 pub loop-i-preserved : goal.loop-i-preserved
 unfolding byte_in
 loop-i-preserved c =
     let a = c.args in
     let l = c.loop-i in
-    let f = byte_in a.lanes.now in (
-      omega arith,
-      simp length-set l.invariant.1,
-      ap (λ k. take k (set l.out l.i (f (a.at + l.i)))) (add-one l.i) ∙ take-suc-set l.out l.i (f (a.at + l.i)) (omega arith)
-          ∙ ap (λ s. s ++ (f (a.at + l.i) ∷ [])) l.invariant.2 ∙ sym (listed_next l.i f a.at),
-    )
-
-pub shape_of-out : goal.shape_of-out
-shape_of-out c = c.loop-i.invariant.1
+    let f = byte_in a.lanes.now in
+    ap (λ k. take k (set l.out l.i (f (a.at + l.i)))) (add-one l.i) ∙ take-suc-set l.out l.i (f (a.at + l.i)) (omega arith)
+    ∙ ap (λ s. s ++ (f (a.at + l.i) ∷ [])) l.invariant ∙ sym (listed_next l.i f a.at)
 
 pub returns : goal.returns
 returns c =
     let a = c.args in
     let l = c.loop-i in
     let all : l.i ≡ length a.out.now = omega arith in
-    sym (take_all l.i l.out (omega arith)) ∙ l.invariant.2 ∙ ap (λ n. listed n (byte_in a.lanes.now) a.at) all
+    sym (take_all l.i l.out (omega arith)) ∙ l.invariant ∙ ap (λ n. listed n (byte_in a.lanes.now) a.at) all

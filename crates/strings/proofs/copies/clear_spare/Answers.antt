@@ -1,19 +1,13 @@
 -- `strings::copies::clear_spare` meets its contract. The byte of coordinate n is cut to the bits below it; where n
 -- fills its bytes there is none.
 -- Assumes nothing.
-use Prim.Native.Nat.{◌/◌, ◌%◌, ◌^◌}
+use Prim.Native.Nat.{◌/◌, ◌%◌}
 use mathlib.Core.Path.{refl}
-use native.Mathlib.Nat.{one-mul}
 use native.Mathlib.Omega.{arith}
-use lib.Dec.{lit<}
-use lib.Pow.{pow_pos}
 use Rattle.protocol.specs.Strings.{bytes_for}
 use Rattle.strings.specs.Sums.{byte_at}
-use Rattle.strings.proofs.BitLaws.{bit_shifted, mask_is, cut_low, cut_high}
+use Rattle.strings.proofs.BitLaws.{mask_is, cut_low, cut_high}
 use Rattle.strings.proofs.copies.clear_spare.Goals as goal
-
-pub overflow_sub-s : goal.overflow_sub-s
-overflow_sub-s c = let k = c.args.n % 8 in omega (arith, bit_shifted 1 k (lit< tt) (omega arith), one-mul (2 ^ k), pow_pos k)
 
 pub bounds-s-n : goal.bounds-s-n
 unfolding bytes_for

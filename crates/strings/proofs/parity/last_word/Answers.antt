@@ -27,5 +27,5 @@ returns c =
     ap₂ bit_and (c.word_at.ensures ∙ ap (word_of row at) k) (c.word_at-2.ensures ∙ ap (word_of x at) k) in
     ap₂ (λ w z. ones (w / 2 ^ z) + shared a.from row x) word d
     ∙ ap (λ z. ones (bit_and (word_of row at (over + (8 - over))) (word_of x at (over + (8 - over))) / 2 ^ (8 * over)) + shared z row x) (sym start)
-    ∙ shared_last row x at (λ i. (c.shared_slice_known-1.given i).fits) (λ i. (c.shared_slice_known-2-1.given i).fits) over (8 - over)
+    ∙ shared_last row x at (λ i. (c.type_inv.row i).fits) (λ i. (c.type_inv.x i).fits) over (8 - over)
     ∙ ap (λ z. shared z row x) end

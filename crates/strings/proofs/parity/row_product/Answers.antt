@@ -15,7 +15,7 @@ use Rattle.strings.proofs.parity.row_product.Goals as goal
 pub returns-then-row-lt-WORD : goal.returns-then-row-lt-WORD
 returns-then-row-lt-WORD c =
     let a = c.args in (
-      ap (λ n. n % 2) c.shared_bytes.ensures ∙ row-product a.row.now a.x.now (λ i l. (c.shared_slice_known-1.given i).fits) (omega arith),
+      ap (λ n. n % 2) c.shared_bytes.ensures ∙ row-product a.row.now a.x.now (λ i l. (c.type_inv.row i).fits) (omega arith),
       search rules,
     )
 
@@ -32,6 +32,6 @@ returns c =
           ∙ ap (λ z. bit_xor z (ones rest % 2)) c.shared_words.ensures
           ∙ sym (parity-add (shared from row x) (ones rest))
           ∙ ap (λ n. n % 2) all
-          ∙ row-product row x (λ i l. (c.shared_slice_known-1.given i).fits) (omega arith),
+          ∙ row-product row x (λ i l. (c.type_inv.row i).fits) (omega arith),
       search rules,
     )

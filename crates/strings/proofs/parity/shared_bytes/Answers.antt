@@ -1,33 +1,19 @@
--- `strings::parity::shared_bytes` meets its contract. The invariant: the count is that of the first i bytes.
+-- `strings::parity::shared_bytes` meets its contract: the chain's sum is the count (`ParityLaws`).
 -- Assumes nothing.
-use borrow.Author.Rules.{rules}
-use Prim.Native.Nat.{◌+◌}
-use mathlib.Core.Path.{◌≡◌, refl}
-use native.Mathlib.Omega.{arith}
-use lib.ListN.{length}
-use Rattle.strings.specs.Shared.{shared}
-use Rattle.strings.proofs.ParityLaws.{shared_le, shared_more}
+use Rattle.std.proofs.Common.{ℕ, rules, tests, ◌∙◌}
+use Rattle.std.proofs.lemmas.Iterator.{YieldsList-from_slice, YieldsList-from_zip, YieldsList-from_map}
+use Rattle.std.proofs.lemmas.Iterator.Consumers.{YieldsList-at, sum_by_from_yields_List}
+use Rattle.std.specs.List.{zip}
+use Rattle.std.specs.Int.Bits.{bit_and}
+use Rattle.std.specs.Int.Count.{ones}
+use Rattle.strings.proofs.ParityLaws.{shared-zip}
 use Rattle.strings.proofs.parity.shared_bytes.Goals as goal
-
-pub loop-i-init : goal.loop-i-init
-unfolding shared
-loop-i-init c = (search rules, refl)
-
-pub overflow_add-count : goal.overflow_add-count
-overflow_add-count c =
-    let a = c.args in
-    let l = c.loop-i in
-    omega (arith, shared_more l.i a.row.now a.x.now, shared_le (l.i + 1) a.row.now a.x.now (λ i. (c.shared_slice_known-1.given i).fits))
-
-pub loop-i-preserved : goal.loop-i-preserved
-loop-i-preserved c =
-    let a = c.args in
-    let l = c.loop-i in
-    (omega arith, omega (arith, shared_more l.i a.row.now a.x.now))
 
 pub returns : goal.returns
 returns c =
-    let a = c.args in
-    let l = c.loop-i in
-    let e : l.i ≡ length a.row.now = omega arith in
-    rw e at l.invariant.1
+    let row = c.args.row.now in
+    let x = c.args.x.now in
+    let f : ℕ × ℕ → ℕ = λ p. ones (bit_and p.0 p.1) in
+    sum_by_from_yields_List f (zip row x) c.map.result c.sum.result c.sum.ensures.ran
+    (YieldsList-from_map _ f (YieldsList-at c.map.ensures.source (YieldsList-from_zip (YieldsList-at c.zip.ensures.first (YieldsList-from_slice row cc)) (YieldsList-from_slice x cc))) c.map.ensures.closure (λ x r q k. search (rules, tests)))
+    ∙ shared-zip row x c.requires.0
