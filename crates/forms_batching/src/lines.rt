@@ -5,8 +5,6 @@
 ghost use Rattle.std.specs.Prelude.{◌≡◌, true, false, List, ℕ, ◌+◌, ◌*◌, ◌/◌, ◌%◌, ◌<◌, ◌≤◌, length};
 ghost use Rattle.std.specs.Int.Bits.{bit_xor, bit_and};
 ghost use Rattle.protocol.specs.Shape.{most_variables};
-ghost use Rattle.galois.specs.Gf16.{gf16};
-ghost use Rattle.galois.specs.Gf256.{gf256};
 ghost use Rattle.galois.specs.Degrees.{field_of};
 ghost use Rattle.strings.specs.Sums.{byte_at, bit_of, xor_sum, byte_values};
 ghost use Rattle.strings.specs.Rows.{RowsKept};
@@ -21,7 +19,7 @@ use super::panels::Batch;
 use chunks::cells::copy_part;
 use chunks::turns::{EIGHT_ROWS, turn_rows};
 use chunks::{CHUNK, MOST_BLOCK};
-use field::{Gf16, Gf256};
+use field::{Field, Gf16, Gf256};
 use format::sizes::MOST_VARIABLES;
 use strings::{BITS, SIXTEEN, least};
 
@@ -130,39 +128,27 @@ pub fn add_left(lines: &mut [u8], sums: &mut [u8], cells: &[u8], bits: &[u8], po
     }
 }
 
-// The sum of the products of so many coordinates, in GF(16).
-fn dot_halves(f: &[u8], t: &[u8], count: usize) -> u8
-    requires { (count ≤ length f.now) × (count ≤ length t.now) }
-    ensures { result ≡ dot_of gf16 f.now t.now count }
+// The sum of the products of the coordinates of f, each with its own of t, in the field F.
+fn dot_in<F: Field>(f: &[u8], t: &[u8; ELEMENTS]) -> u8
+    requires { length f.now ≤ chunk_bits }
+    ensures { result ≡ dot_of F.coded f.now t.now (length f.now) }
 {
     let mut sum: u8 = 0;
-    for c in 0..count {
-        sum ^= Gf16::multiply(f[c], t[c]);
-    }
-    sum
-}
-
-// The same in GF(256).
-fn dot_bytes(f: &[u8], t: &[u8], count: usize) -> u8
-    requires { (count ≤ length f.now) × (count ≤ length t.now) }
-    ensures { result ≡ dot_of gf256 f.now t.now count }
-{
-    let mut sum: u8 = 0;
-    for c in 0..count {
-        sum ^= Gf256::multiply(f[c], t[c]);
+    for c in 0..f.len() {
+        sum ^= F::multiply(f[c], t[c]);
     }
     sum
 }
 
 // The same in the field of the degree: each field has its own loop.
-fn dot(f: &[u8], t: &[u8], count: usize, degree: usize) -> u8
-    requires { (count ≤ length f.now) × (count ≤ length t.now) }
-    ensures { result ≡ dot_of (field_of degree) f.now t.now count }
+fn dot(f: &[u8], t: &[u8; ELEMENTS], degree: usize) -> u8
+    requires { length f.now ≤ chunk_bits }
+    ensures { result ≡ dot_of (field_of degree) f.now t.now (length f.now) }
 {
     if degree == Gf16::DEGREE {
-        dot_halves(f, t, count)
+        dot_in::<Gf16>(f, t)
     } else {
-        dot_bytes(f, t, count)
+        dot_in::<Gf256>(f, t)
     }
 }
 
@@ -225,7 +211,7 @@ fn line_product(
     turn_half(&mut elements, 0, &planes);
     turn_half(&mut elements, 1, &planes);
     let at = e * MOST_VARIABLES + from;
-    dot(&vectors[at..at + count], &elements, count, degree)
+    dot(&vectors[at..at + count], &elements, degree)
 }
 
 // Adds to each of the first tau places of mid the product of its repetition.

@@ -22,8 +22,8 @@
 --   Weights d weights == byte s is α^s, for each plane
 --   IsBits xs == each byte is 0 or 1
 --   StacksFit tau T == T has a stack for each repetition below tau
---   ColumnsFit d == lanes, planes, front, weights and bits have their lengths, and the bits are bits
---   PanelFits == the same of lanes, of τ stacks and of the vectors, and the panel's sixteen columns are coordinates
+--   PanelFits == there are at most as many repetitions as lanes, each with its stack and its vector; the panel's
+--     sixteen columns are coordinates, and xs has bits for them
 --   MasksAt v f masks == the masks have at byte f those of the bits of v
 -- Assumes nothing.
 use Rattle.std.specs.Prelude.{◌≡◌, List, ℕ, ◌+◌, ◌*◌, ◌-◌, ◌/◌, ◌%◌, ◌<◌, ◌≤◌, length}
@@ -89,15 +89,9 @@ IsBits xs = (c : ℕ) → byte_at xs c < 2
 abbrev pub StacksFit : ℕ → List ℕ → Type 0
 StacksFit tau T = tau * (planes * chunk) ≤ length T
 
-abbrev pub ColumnsFit : ℕ → List ℕ → List ℕ → List ℕ → List ℕ → List ℕ → List ℕ → Type 0
-ColumnsFit d quad mid rows front xs weights =
-    (length quad ≡ lanes) × (length mid ≡ lanes) × (length rows ≡ planes * lanes) × (length front ≡ 16 * lanes)
-    × (length xs ≡ 16) × IsBits xs × Weights d weights
-
-abbrev pub PanelFits : List ℕ → List ℕ → List ℕ → ℕ → ℕ → List ℕ → List ℕ → Type 0
-PanelFits quad mid stacks panel tau vectors xs =
-    (length quad ≡ lanes) × (length mid ≡ lanes) × (tau ≤ lanes) × StacksFit tau stacks × VectorsRoom vectors
-    × (panel * 16 + 16 ≤ most_variables) × (most_variables ≤ length xs) × IsBits xs
+abbrev pub PanelFits : List ℕ → ℕ → ℕ → List ℕ → List ℕ → Type 0
+PanelFits stacks panel tau vectors xs =
+    (tau ≤ lanes) × StacksFit tau stacks × VectorsRoom vectors × (panel * 16 + 16 ≤ most_variables) × (most_variables ≤ length xs) × IsBits xs
 
 abbrev pub MasksAt : ℕ → ℕ → List ℕ → Type 0
 MasksAt v f masks = (b : ℕ) → b < 8 → byte_at masks (b * chunk + f) ≡ bit_of v b * mask_byte

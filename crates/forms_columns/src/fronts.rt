@@ -6,6 +6,7 @@ ghost use Rattle.strings.specs.Sums.{byte_at};
 ghost use Rattle.lanes.specs.Lanes.{lanes, lane_at};
 ghost use Rattle.forms_columns.specs.Stacks.{coordinate_of, VectorsRoom, BlockTurned, BesideBlock, FrontIs};
 
+use super::FRONT;
 use chunks::cells::{copy_apart, copy_part};
 use chunks::turns::{EIGHT_ROWS, part};
 use format::sizes::MOST_VARIABLES;
@@ -16,8 +17,8 @@ use strings::{BITS, SIXTEEN};
 const LANE_SIXTEENS: usize = LANES / SIXTEEN;
 
 // Eight columns of sixteen bytes become the parts g, g + step, .. of dst.
-fn put_columns(dst: &mut [u8], g: usize, step: usize, cols: &[u8])
-    requires { (0 < step) × ((g + 7 * step) * 16 + 16 ≤ length dst.old) × (length cols.now ≡ 128) }
+fn put_columns(dst: &mut [u8], g: usize, step: usize, cols: &[u8; EIGHT_ROWS])
+    requires { (0 < step) × ((g + 7 * step) * 16 + 16 ≤ length dst.old) }
     ensures by_index { (k j : ℕ) → k < 8 → j < 16 → byte_at dst.new ((g + k * step) * 16 + j) ≡ byte_at cols.now (k * 16 + j) }
     ensures beside_block { BesideBlock g step 8 dst.old dst.new }
 {
@@ -41,8 +42,8 @@ pub fn turn_block(dst: &mut [u8], g: usize, step: usize, src: &[u8], from: usize
 }
 
 // Sixteen coordinates, from `first` on, of the b-th sixteen repetitions.
-fn fill_sixteen(front: &mut [u8], vectors: &[u8], first: usize, b: usize)
-    requires { (length front.old ≡ 16 * lanes) × VectorsRoom vectors.now × (first + 16 ≤ most_variables) × (b < lanes / 16) }
+fn fill_sixteen(front: &mut [u8; FRONT], vectors: &[u8], first: usize, b: usize)
+    requires { VectorsRoom vectors.now × (first + 16 ≤ most_variables) × (b < lanes / 16) }
     ensures by_index { (k j : ℕ) → k < 16 → j < 16 → lane_at front.new k (b * 16 + j) ≡ coordinate_of vectors.now (b * 16 + j) (first + k) }
     ensures by_index_2 { (k e : ℕ) → k < 16 → e < b * 16 → lane_at front.new k e ≡ lane_at front.old k e }
 {
@@ -59,13 +60,11 @@ fn fill_sixteen(front: &mut [u8], vectors: &[u8], first: usize, b: usize)
 }
 
 // The same of the first tau repetitions. Lanes from tau on hold anything.
-pub fn fill_front(front: &mut [u8], vectors: &[u8], first: usize, tau: usize)
-    requires { (length front.old ≡ 16 * lanes) × VectorsRoom vectors.now × (first + 16 ≤ most_variables) × (tau ≤ lanes) }
+pub fn fill_front(front: &mut [u8; FRONT], vectors: &[u8], first: usize, tau: usize)
+    requires { VectorsRoom vectors.now × (first + 16 ≤ most_variables) × (tau ≤ lanes) }
     ensures { FrontIs tau vectors.now first front.new }
 {
-    let mut b = 0;
-    while b * SIXTEEN < tau {
+    for b in 0..tau.div_ceil(SIXTEEN) {
         fill_sixteen(front, vectors, first, b);
-        b += 1;
     }
 }

@@ -1,16 +1,14 @@
-// The vectors of all repetitions side by side: byte typeof.c.LANES + e of a table is coordinate c of the vector of
+// The vectors of all repetitions side by side: byte c·LANES + e of a table is coordinate c of the vector of
 // repetition e. A table, and what is computed from it, is secret: no branch and no index goes by it.
 #![tactic(auto)]
 
 ghost use Rattle.std.specs.Prelude.{◌≡◌, ℕ, ◌+◌, ◌*◌, ◌<◌, ◌≤◌, length};
 ghost use Rattle.std.specs.Int.Bits.{bit_xor};
-ghost use Rattle.galois.specs.Gf16.{gf16};
-ghost use Rattle.galois.specs.Gf256.{gf256};
 ghost use Rattle.galois.specs.Degrees.{field_of, degree_of};
 ghost use Rattle.strings.specs.Sums.{byte_at};
 ghost use Rattle.lanes.specs.Lanes.{lanes, lane_at, LanesAdded, ProductsAdded, mask_lane, mask_bits, first_mask, MasksIn, MaskBitsIn};
 
-use field::{Gf16, Gf256};
+use field::{Field, Gf16, Gf256};
 use format::Sizes;
 use format::sizes::{MOST_REPETITIONS, mask_at};
 use strings::MASK_BYTE;
@@ -28,43 +26,31 @@ pub struct Dimensions {
     pub degree: usize,
 }
 
-// acc[e] ^= f[e]·t[e] in GF(16), for each lane.
-fn accumulate_halves(acc: &mut [u8], f: &[u8], t: &[u8])
-    requires { (length acc.old ≡ lanes) × (length f.now ≡ lanes) × (length t.now ≡ lanes) }
-    ensures { ProductsAdded gf16 f.now t.now acc.old acc.new }
+// acc[e] ^= f[e]·t[e] in the field F, for each lane.
+fn accumulate_in<F: Field>(acc: &mut [u8; LANES], f: &[u8; LANES], t: &[u8; LANES])
+    ensures { ProductsAdded F.coded f.now t.now acc.old acc.new }
 {
     for e in 0..LANES {
-        acc[e] ^= Gf16::multiply(f[e], t[e]);
-    }
-}
-
-// The same in GF(256).
-fn accumulate_bytes(acc: &mut [u8], f: &[u8], t: &[u8])
-    requires { (length acc.old ≡ lanes) × (length f.now ≡ lanes) × (length t.now ≡ lanes) }
-    ensures { ProductsAdded gf256 f.now t.now acc.old acc.new }
-{
-    for e in 0..LANES {
-        acc[e] ^= Gf256::multiply(f[e], t[e]);
+        acc[e] ^= F::multiply(f[e], t[e]);
     }
 }
 
 // acc[e] ^= f[e]·t[e] in the field of the degree, for each lane. Both factors vary with e: no mask is the same for a
 // whole loop, which the compiler could make a branch. The degree is public, and each field has its own loop.
-pub fn accumulate(acc: &mut [u8], f: &[u8], t: &[u8], degree: usize)
-    requires { (length acc.old ≡ lanes) × (length f.now ≡ lanes) × (length t.now ≡ lanes) }
+pub fn accumulate(acc: &mut [u8; LANES], f: &[u8; LANES], t: &[u8; LANES], degree: usize)
     ensures { ProductsAdded (field_of degree) f.now t.now acc.old acc.new }
 {
     if degree == Gf16::DEGREE {
-        accumulate_halves(acc, f, t);
+        accumulate_in::<Gf16>(acc, f, t);
     } else {
-        accumulate_bytes(acc, f, t);
+        accumulate_in::<Gf256>(acc, f, t);
     }
 }
 
 // acc[e] ^= src[e] or 0, by a secret bit: through a mask. The caller reads the bit from memory, where the compiler
 // cannot see that it is a bit and make the mask a branch.
-pub fn add_masked(acc: &mut [u8], bit: u8, src: &[u8])
-    requires { (length acc.old ≡ lanes) × (length src.now ≡ lanes) × (bit < 2) }
+pub fn add_masked(acc: &mut [u8; LANES], bit: u8, src: &[u8; LANES])
+    requires { bit < 2 }
     ensures { (e : ℕ) → e < lanes → byte_at acc.new e ≡ bit_xor (byte_at acc.old e) (bit * byte_at src.now e) }
 {
     let mask = bit * MASK_BYTE;
@@ -73,29 +59,28 @@ pub fn add_masked(acc: &mut [u8], bit: u8, src: &[u8])
     }
 }
 
-// row[e] = mask coordinate i of repetition e.
-fn gather_mask(row: &mut [u8], table: &[u8], i: usize, s: Sizes)
-    requires { (length row.old ≡ lanes) × MasksIn s table.now × (i < degree_of s.degree) }
-    ensures { (e : ℕ) → e < s.tau → byte_at row.new e ≡ lane_at table.now (first_mask s e + i) e }
+// Mask coordinate i of each repetition, in its lane.
+fn mask_row(table: &[u8], i: usize, s: Sizes) -> [u8; LANES]
+    requires { MasksIn s table.now × (i < degree_of s.degree) }
+    ensures { (e : ℕ) → e < s.tau → byte_at result e ≡ lane_at table.now (first_mask s e + i) e }
 {
-    let tau = s.tau;
-    for e in 0..tau {
+    let mut row = [0u8; LANES];
+    for e in 0..s.tau {
         row[e] = table[(mask_at(s, e) + i) * LANES + e];
     }
+    row
 }
 
 // acc[e] ^= Σ α^i·T[at + i][e], where `at` is the first mask coordinate of repetition e: its mask A*₀ (01, prover's
 // rules).
-pub fn add_masks(acc: &mut [u8], table: &[u8], s: Sizes)
-    requires { (length acc.old ≡ lanes) × MasksIn s table.now }
+pub fn add_masks(acc: &mut [u8; LANES], table: &[u8], s: Sizes)
+    requires { MasksIn s table.now }
     ensures { LanesAdded s.tau (λ e. mask_lane s.degree table.now (first_mask s e) e) acc.old acc.new }
 {
     let degree = s.degree;
-    let count = field::degree_of(degree);
-    for i in 0..count {
+    for i in 0..field::degree_of(degree) {
         let weight = [field::mask_element(degree, i); LANES];
-        let mut row = [0u8; LANES];
-        gather_mask(&mut row, table, i, s);
+        let row = mask_row(table, i, s);
         accumulate(acc, &weight, &row, degree);
     }
 }
@@ -105,9 +90,8 @@ fn mask_byte(u: &[u8], at: usize, degree: usize) -> u8
     requires { (at + degree_of degree ≤ length u.now * 8) × (at < 65536) }
     ensures { result ≡ mask_bits degree u.now at }
 {
-    let count = field::degree_of(degree);
     let mut sum: u8 = 0;
-    for i in 0..count {
+    for i in 0..field::degree_of(degree) {
         let weight = field::mask_element(degree, i);
         sum ^= field::multiply(degree, weight, strings::bit_at(u, at + i));
     }
@@ -116,13 +100,11 @@ fn mask_byte(u: &[u8], at: usize, degree: usize) -> u8
 
 // acc[e] ^= Σ α^i·u[at + i], where `at` is the first mask coordinate of repetition e: its mask A*₁ (01, prover's
 // rules).
-pub fn add_mask_bits(acc: &mut [u8], u: &[u8], s: Sizes)
-    requires { (length acc.old ≡ lanes) × MaskBitsIn s u.now }
+pub fn add_mask_bits(acc: &mut [u8; LANES], u: &[u8], s: Sizes)
+    requires { MaskBitsIn s u.now }
     ensures { LanesAdded s.tau (λ e. mask_bits s.degree u.now (first_mask s e)) acc.old acc.new }
 {
-    let tau = s.tau;
-    let degree = s.degree;
-    for e in 0..tau {
-        acc[e] ^= mask_byte(u, mask_at(s, e), degree);
+    for e in 0..s.tau {
+        acc[e] ^= mask_byte(u, mask_at(s, e), s.degree);
     }
 }

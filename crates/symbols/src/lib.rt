@@ -5,7 +5,7 @@
 ghost use Rattle.std.specs.Prelude.{◌≡◌, ◌+◌, ◌*◌, ◌<◌, length};
 ghost use Rattle.symbols.specs.Omega.{omega_times, symbol_element};
 
-use field::Gf256;
+use field::{Field, Gf256};
 use strings::bit_at;
 
 // ω. "0, 1, 2, 3 stand for 00, 01, BC, BD in GF(256)."

@@ -5,7 +5,7 @@ use Rattle.algebra.specs.Coded.{Coded}
 use Rattle.galois.specs.Gf256.{mask_element as mask256}
 use Rattle.galois.specs.Gf16.{mask_element as mask16}
 use Rattle.galois.specs.Degrees.{mask_element_of, degree_of}
-use Rattle.field.proofs.MaskLaws.{mask_of}
+use Rattle.field.specs.Elements.{mask_of}
 use Rattle.galois.proofs.DegreeLaws.{field_four, field_other}
 use Rattle.field.proofs.mask_element.Goals as goal
 

@@ -15,4 +15,4 @@ unfolding byte_product
 returns c e h =
     let a = c.args in
     c.accumulate.ensures e h
-    ∙ ap (λ (x : ℕ). bit_xor (byte_at a.acc.now e) (byte_product a.degree x (byte_at a.u.now e))) (ap (λ (r : List ℕ). byte_at r e) c.row_at.ensures.0 ∙ row-byte a.front.now lanes a.k e h)
+    ∙ ap (λ (x : ℕ). bit_xor (byte_at a.acc.now e) (byte_product a.degree x (byte_at a.u.now e))) (ap (λ (r : List ℕ). byte_at r e) c.row_of.ensures ∙ row-byte a.front.now lanes a.k e h)

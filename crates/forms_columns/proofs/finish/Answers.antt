@@ -1,6 +1,5 @@
 -- `forms_columns::finish` meets its contract. The invariant: the columns of the halves below h are added.
 -- Assumes nothing.
-use borrow.Author.Rules.{rules}
 use Prim.Native.Nat.{ℕ, ◌+◌, ◌*◌, ◌≤◌, ◌<◌}
 use mathlib.Core.List.{List}
 use mathlib.Core.Path.{◌≡◌, refl, sym, ap, ap₂, ◌∙◌}
@@ -24,43 +23,41 @@ column_is d rows T e h z k are = fold_is d rows T e h z are ∙ sym (ap₂ (fold
 pub loop-h-init : goal.loop-h-init
 unfolding xor_sum
 loop-h-init c =
-    (search rules, search rules, search rules, (λ e h. sym (xor_zero_r _)), (λ on e h. sym (xor_zero_r _)), λ off. refl)
+    record { quad_added = λ e h. sym (xor_zero_r _); mid_added = λ on e h. sym (xor_zero_r _); mid_unchanged = λ off. refl }
 
 pub add_columns-requires : goal.add_columns-requires
 add_columns-requires c =
     let a = c.args in
-    let l = c.loop-h in
-    let bits = c.row_at-bits.ensures in
-    let small : (i : ℕ) → byte_at c.row_at-bits.result.now i < 2 = rw bits.0 (row_lt a.xs.now 16 a.panel 2 (lit< tt) c.requires.7) in
-    ((l.invariant.1, l.invariant.2, search rules, search rules, bits.1, small, c.fill_weights.ensures), omega arith)
+    let small : (i : ℕ) → byte_at c.row_of-bits.result.now i < 2 = rw c.row_of-bits.ensures (row_lt a.xs.now 16 a.panel 2 (lit< tt) c.requires.5) in
+    (small, c.weights_of-weights.ensures, omega arith)
 
 pub loop-h-preserved : goal.loop-h-preserved
 loop-h-preserved c =
     let a = c.args in
     let l = c.loop-h in
-    let most : a.tau ≤ lanes = c.requires.2 in
+    let most : a.tau ≤ lanes = c.requires.0 in
     let rows = c.gather in
     let front = c.fill_front in
-    let bits = c.row_at-bits.ensures.0 in
     let done = c.add_columns in
     let value : (e : ℕ) → e < a.tau → (z : ℕ) → z < 8 → value_of a.degree rows.new.rows z e ≡ column_of a.degree a.stacks.now e (l.h * 8 + z) =
-    λ e h z k. column_is a.degree rows.new.rows a.stacks.now e l.h z k (λ s q. rows.ensures s e q h) in (
-      omega (arith, c.loop-h-test.true),
-      done.auto.quad ∙ l.invariant.1,
-      done.auto.mid ∙ l.invariant.2,
-      (λ e h.
+    λ e h z k. column_is a.degree rows.new.rows a.stacks.now e l.h z k (λ s q. rows.ensures s e q h) in record {
+      quad_added = λ e h.
           done.ensures.lanes_added e (omega arith)
-          ∙ eight_more (byte_at a.quad.now e) (byte_at l.quad e) l.h (quadTerm a.degree a.stacks.now a.panel a.vectors.now e) _ (l.invariant.3 e h)
-          (λ z k. ap₂ (byte_product a.degree) (front.ensures (l.h * 8 + z) e (omega arith) h) (value e h z k))),
-      (λ on e h.
+          ∙ eight_more (byte_at a.quad.now e) (byte_at l.quad e) l.h (quadTerm a.degree a.stacks.now a.panel a.vectors.now e) _ (l.invariant.quad_added e h)
+          (λ z k. ap₂ (byte_product a.degree) (front.ensures (l.h * 8 + z) e (omega arith) h) (value e h z k));
+      mid_added = λ on e h.
           done.ensures.lanes_added_2 on e (omega arith)
-          ∙ eight_more (byte_at a.mid.now e) (byte_at l.mid e) l.h (midTerm a.degree a.stacks.now a.panel a.xs.now e) _ (l.invariant.4 on e h)
-          (λ z k. ap₂ (λ (x y : ℕ). x * y) (ap (λ (r : List ℕ). byte_at r (l.h * 8 + z)) bits ∙ row-byte a.xs.now 16 a.panel (l.h * 8 + z) (omega arith)) (value e h z k))),
-      (λ off. done.ensures.mid_unchanged off ∙ l.invariant.5 off),
-    )
+          ∙ eight_more (byte_at a.mid.now e) (byte_at l.mid e) l.h (midTerm a.degree a.stacks.now a.panel a.xs.now e) _ (l.invariant.mid_added on e h)
+          (λ z k. ap₂ (λ (x y : ℕ). x * y) (ap (λ (r : List ℕ). byte_at r (l.h * 8 + z)) c.row_of-bits.ensures ∙ row-byte a.xs.now 16 a.panel (l.h * 8 + z) (omega arith)) (value e h z k));
+      mid_unchanged = λ off. done.ensures.mid_unchanged off ∙ l.invariant.mid_unchanged off;
+    }
 
 pub returns : goal.returns
 returns c =
     let l = c.loop-h in
     let end : l.h ≡ 2 = omega arith in
-    record { lanes_added = (λ e h. (rw end at l.invariant.3) e h); lanes_added_2 = (λ on e h. (rw end at l.invariant.4) on e h); mid_unchanged = l.invariant.5 }
+    record {
+      lanes_added = λ e h. (rw end at l.invariant.quad_added) e h;
+      lanes_added_2 = λ on e h. (rw end at l.invariant.mid_added) on e h;
+      mid_unchanged = l.invariant.mid_unchanged;
+    }

@@ -1,10 +1,8 @@
 -- `forms_columns::gather_row` meets its contract. Each element is changed once (`Elementwise`).
 -- Assumes nothing.
-use borrow.Author.Rules.{rules}
 use Prim.Native.Nat.{ℕ, ◌*◌}
 use mathlib.Core.List.{List}
 use mathlib.Core.Path.{◌≡◌, refl, ap, ◌∙◌}
-use lib.ListN.{length-set}
 use native.Mathlib.Nat.{add_assoc}
 use native.Mathlib.Omega.{arith}
 use Rattle.strings.specs.Sums.{byte_at}
@@ -17,24 +15,18 @@ use Rattle.forms_columns.proofs.gather_row.Goals as goal
 
 pub loop-e-init : goal.loop-e-init
 unfolding changed
-loop-e-init c =
-    (search rules, refl, refl)
+loop-e-init c = refl
 
 pub loop-e-preserved : goal.loop-e-preserved
 loop-e-preserved c =
     let a = c.args in
     let l = c.loop-e in
-    let i = l.e * (planes * chunk) in (
-      omega arith,
-      changed_more (change a.stacks.now a.at) a.out.now l.out l.e _ l.invariant.1
-          (c.sum_at.ensures ∙ sum_same 16 _ _ (λ f k. ap (byte_at a.stacks.now) (add_assoc i a.at f))),
-      simp length-set l.invariant.2,
-    )
+    changed_more (change a.stacks.now a.at) a.out.now l.out l.e _ l.invariant
+    (c.sum_at.ensures ∙ sum_same 16 _ _ (λ f k. ap (byte_at a.stacks.now) (add_assoc (l.e * (planes * chunk)) a.at f)))
 
 pub returns : goal.returns
 returns c i h =
     let a = c.args in
     let l = c.loop-e in
     let end : l.e ≡ a.tau = omega arith in
-    let is : l.out ≡ changed (change a.stacks.now a.at) a.out.now a.tau = rw end at l.invariant.1 in
-    ap (λ (d : List ℕ). byte_at d i) is ∙ changed-at (change a.stacks.now a.at) a.out.now a.tau i c.requires.0 h
+    ap (λ (d : List ℕ). byte_at d i) (rw end at l.invariant) ∙ changed-at (change a.stacks.now a.at) a.out.now a.tau i c.requires.0 h

@@ -1,9 +1,8 @@
 -- `forms_columns::gather_row` meets its contract. Each element is changed once (`Elementwise`).
 -- Assumes nothing.
-use Prim.Native.Nat.{ℕ, ◌+◌, ◌*◌, ◌-◌, ◌≤◌}
+use Prim.Native.Nat.{ℕ, ◌+◌, ◌*◌}
 use mathlib.Core.List.{List}
 use mathlib.Core.Path.{◌≡◌}
-use lib.ListN.{length}
 use Rattle.strings.specs.Sums.{byte_at, xor_sum}
 use Rattle.strings.proofs.Elementwise.{changed}
 use Rattle.chunks.specs.Chunks.{chunk}
@@ -14,7 +13,4 @@ abbrev pub change : List ℕ → ℕ → ℕ → ℕ → ℕ
 change stacks at k x = xor_sum 16 (λ f. byte_at stacks (k * (planes * chunk) + (at + f)))
 
 abbrev pub invariant-loop-e : goal.invariant-loop-e
-invariant-loop-e l = (l.e ≤ l.tau) × (l.out ≡ changed (change l.stacks l.at) l.initial.out l.e) × (length l.out ≡ length l.initial.out)
-
-abbrev pub decreases-loop-e : goal.decreases-loop-e
-decreases-loop-e l = l.tau - l.e
+invariant-loop-e l = l.out ≡ changed (change l.stacks l.at) l.initial.out l.e

@@ -1,6 +1,7 @@
 -- `forms_pieces::add_forms` meets its contract. The invariant: of each panel, as many sixteens of rows are
 -- added as the walk over the pieces has passed. What all of them come to is `FoldLaws`.
 -- Assumes nothing.
+use borrow.Author.Rules.{rules}
 use Prim.Native.Nat.{ℕ, ◌+◌, ◌*◌, ◌-◌, ◌/◌, ◌%◌, ◌≤◌, ◌<◌}
 use mathlib.Core.List.{List}
 use mathlib.Core.Bool.{Bool, true, false}
@@ -153,8 +154,6 @@ finish-requires c =
     let pre = c.requires in
     let l = c.loop-first in
     let inside = l.invariant.1 c.loop-first-test.true in (
-      l.invariant.3,
-      l.invariant.4,
       pre.8,
       omega (arith, pre.8, l.invariant.6, c.stack_part.auto.stacks),
       pre.11,
@@ -231,8 +230,8 @@ loop-first-preserved c =
       next-walk n l.first l.top l.p piece r at next even l.invariant.0.2 inside l.invariant.0.0 l.invariant.0.1,
       (next-inside n l.first l.top l.p piece r at next even l.invariant.0.2 inside some).0,
       (next-inside n l.first l.top l.p piece r at next even l.invariant.0.2 inside some).1,
-      done.auto.quad ∙ l.invariant.3,
-      done.auto.mid ∙ l.invariant.4,
+      search rules,
+      search rules,
       stacked.auto.sums ∙ left.auto.sums ∙ c.load.auto.room ∙ l.invariant.5,
       stacked.auto.stacks ∙ l.invariant.6,
       left.auto.lines ∙ l.invariant.7,

@@ -1,10 +1,8 @@
 -- `lanes::add_mask_bits` meets its contract. Each element is changed once (`Elementwise`).
 -- Assumes nothing.
-use borrow.Author.Rules.{rules}
 use Prim.Native.Nat.{ℕ}
 use mathlib.Core.List.{List}
 use mathlib.Core.Path.{◌≡◌, refl, ap, ◌∙◌}
-use lib.ListN.{length-set}
 use lib.Bits.{bit_xor}
 use native.Mathlib.Omega.{arith}
 use Rattle.strings.specs.Sums.{byte_at}
@@ -15,30 +13,27 @@ use Rattle.lanes.proofs.add_mask_bits.Goals as goal
 
 pub loop-e-init : goal.loop-e-init
 unfolding changed
-loop-e-init c = (search rules, refl, refl)
+loop-e-init c = refl
 
 pub mask_at-requires : goal.mask_at-requires
-mask_at-requires c = omega (arith, c.requires.1.1 c.loop-e.e c.loop-e-test.true)
+mask_at-requires c = omega (arith, c.requires.1 c.loop-e.e c.loop-e-test.true)
 
 pub mask_byte-requires : goal.mask_byte-requires
 mask_byte-requires c =
-    let fits = c.requires.1.1 c.loop-e.e c.loop-e-test.true in
+    let fits = c.requires.1 c.loop-e.e c.loop-e-test.true in
     rw c.mask_at.ensures fits
 
 pub loop-e-preserved : goal.loop-e-preserved
 loop-e-preserved c =
     let a = c.args in
-    let l = c.loop-e in (
-      omega arith,
-      changed_more (change a.u.now a.s) a.acc.now l.acc l.e _ l.invariant.1
-          (ap (bit_xor (byte_at l.acc l.e)) (c.mask_byte.ensures ∙ ap (mask_bits a.s.degree a.u.now) c.mask_at.ensures)),
-      simp length-set l.invariant.2,
-    )
+    let l = c.loop-e in
+    changed_more (change a.u.now a.s) a.acc.now l.acc l.e _ l.invariant
+    (ap (bit_xor (byte_at l.acc l.e)) (c.mask_byte.ensures ∙ ap (mask_bits a.s.degree a.u.now) c.mask_at.ensures))
 
 pub returns : goal.returns
 returns c e h =
     let a = c.args in
     let l = c.loop-e in
     let end : l.e ≡ a.s.tau = omega arith in
-    let is : l.acc ≡ changed (change a.u.now a.s) a.acc.now a.s.tau = rw end at l.invariant.1 in
-    ap (λ (d : List ℕ). byte_at d e) is ∙ changed-at (change a.u.now a.s) a.acc.now a.s.tau e (omega (arith, c.requires.0, c.requires.1.0)) h
+    let is : l.acc ≡ changed (change a.u.now a.s) a.acc.now a.s.tau = rw end at l.invariant in
+    ap (λ (d : List ℕ). byte_at d e) is ∙ changed-at (change a.u.now a.s) a.acc.now a.s.tau e (omega (arith, c.requires.0)) h

@@ -1,9 +1,8 @@
 -- `lanes::add_mask_bits` meets its contract. Each element is changed once (`Elementwise`).
 -- Assumes nothing.
-use Prim.Native.Nat.{ℕ, ◌-◌, ◌≤◌}
+use Prim.Native.Nat.{ℕ}
 use mathlib.Core.List.{List}
 use mathlib.Core.Path.{◌≡◌}
-use lib.ListN.{length}
 use lib.Bits.{bit_xor}
 use Rattle.strings.proofs.Elementwise.{changed}
 use Rattle.format.specs.declared.sizes.Sizes.{Sizes}
@@ -14,7 +13,4 @@ abbrev pub change : List ℕ → Sizes → ℕ → ℕ → ℕ
 change u s k x = bit_xor x (mask_bits s.degree u (first_mask s k))
 
 abbrev pub invariant-loop-e : goal.invariant-loop-e
-invariant-loop-e l = (l.e ≤ l.tau) × (l.acc ≡ changed (change l.u l.s) l.initial.acc l.e) × (length l.acc ≡ length l.initial.acc)
-
-abbrev pub decreases-loop-e : goal.decreases-loop-e
-decreases-loop-e l = l.tau - l.e
+invariant-loop-e l = l.acc ≡ changed (change l.u l.s) l.initial.acc l.e

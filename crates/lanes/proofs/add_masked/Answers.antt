@@ -3,7 +3,6 @@
 -- Assumes nothing.
 use borrow.Author.Rules.{rules}
 use mathlib.Core.Path.{refl, ap, ◌∙◌}
-use lib.ListN.{length-set}
 use lib.Bits.{bit_xor}
 use native.Mathlib.Nat.{mul_comm}
 use native.Mathlib.Omega.{arith}
@@ -15,21 +14,18 @@ use Rattle.lanes.proofs.add_masked.Goals as goal
 
 pub loop-e-init : goal.loop-e-init
 unfolding changed
-loop-e-init c = (search rules, refl, c.requires.0)
+loop-e-init c = refl
 
 pub loop-e-preserved : goal.loop-e-preserved
 loop-e-preserved c =
     let a = c.args in
     let l = c.loop-e in
-    let x = byte_at a.src.now l.e in (
-      omega arith,
-      changed_more (change a.bit a.src.now) a.acc.now l.acc l.e _ l.invariant.1
-          (ap (bit_xor (byte_at l.acc l.e)) (mask-times a.bit x c.requires.2 (c.type_inv.src l.e).fits ∙ mul_comm x a.bit)),
-      simp length-set l.invariant.2,
-    )
+    let x = byte_at a.src.now l.e in
+    changed_more (change a.bit a.src.now) a.acc.now l.acc l.e _ l.invariant
+    (ap (bit_xor (byte_at l.acc l.e)) (mask-times a.bit x c.requires (search rules) ∙ mul_comm x a.bit))
 
 pub returns : goal.returns
 returns c i h =
     let a = c.args in
     let l = c.loop-e in
-    changed-all (change a.bit a.src.now) a.acc.now l.acc l.e l.invariant.1 (omega arith) (omega arith) i (omega arith)
+    changed-all (change a.bit a.src.now) a.acc.now l.acc l.e l.invariant (omega arith) (omega arith) i (omega arith)

@@ -61,8 +61,8 @@ loop-from-preserved c =
     let χ = a.chi.now in
     let vs = a.vectors.now in (
       omega (arith, c.least-count.ensures.0, c.loop-from-test.true),
-      done.auto.quad ∙ l.invariant.1,
-      done.auto.lin ∙ l.invariant.2,
+      search rules,
+      search rules,
       (λ e h.
           done.ensures.lanes_added e h
           ∙ ap (bit_xor (byte_at l.quad e)) (ap (λ (M : List ℕ). block_forms a.f.degree a.f.n a.f.m l.from k M χ e (coordinate_of vs e)) c.rows_at.ensures.0 ∙ forms-part a.f.degree a.f.n a.f.m l.from k e a.a.now a.b.now χ (coordinate_of vs e))

@@ -9,12 +9,13 @@ use native.Mathlib.Decide.{dec_lt}
 use native.Mathlib.Omega.{arith}
 use lib.ListN.{length, take, drop, length-take, length-drop}
 use lib.Seq.{get_or-take, get_or-drop}
+use Rattle.galois.specs.Degrees.{field_of}
 use Rattle.strings.specs.Sums.{byte_at, bit_of}
 use Rattle.strings.proofs.SumLaws.{sum_same}
 use Rattle.chunks.specs.Chunks.{cell_at}
 use Rattle.forms_columns.specs.Stacks.{byte_product}
 use Rattle.protocol.specs.Shape.{most_variables}
-use Rattle.forms_batching.specs.Lines.{chunk_bits}
+use Rattle.forms_batching.specs.Lines.{chunk_bits, dot_of}
 use Rattle.forms_batching.proofs.LineLaws.{element_is}
 use Rattle.forms_batching.proofs.lines.line_product.Goals as goal
 
@@ -43,7 +44,7 @@ part-byte vs at count j h =
     let long : at + count - at ≡ count = add-sub_cancel_left at count in
     rw long (get_or-take count (drop at vs) j 0 h ∙ get_or-drop at vs j 0)
 
-part-long : (vs : List ℕ) (at count : ℕ) → at + count ≤ length vs → count ≤ length (take (at + count - at) (drop at vs))
+part-long : (vs : List ℕ) (at count : ℕ) → at + count ≤ length vs → length (take (at + count - at) (drop at vs)) ≡ count
 part-long vs at count h =
     let long : at + count - at ≡ count = add-sub_cancel_left at count in
     rw (long, length-take, length-drop) (omega arith)
@@ -54,7 +55,7 @@ dot-requires c =
     let pre = c.requires in
     let at = a.e * most_variables + a.from in
     let inside : at + a.count ≤ length a.vectors.now = omega (arith, pre.4, pre.5) in
-    (part-long a.vectors.now at a.count inside, omega (arith, pre.6, c.turn_half-2.auto.elements, c.turn_half.auto.elements))
+    omega (arith, pre.6, part-long a.vectors.now at a.count inside)
 
 pub returns : goal.returns
 unfolding byte_product
@@ -68,8 +69,10 @@ returns c =
     let elements = second.new.elements in
     let vs = a.vectors.now in
     let at = a.e * most_variables + a.from in
+    let inside : at + a.count ≤ length vs = omega (arith, pre.4, pre.5) in
     λ S χ m weighed.
     c.dot.ensures
+    ∙ ap (dot_of (field_of a.degree) (take (at + a.count - at) (drop at vs)) elements) (part-long vs at a.count inside)
     ∙ sum_same a.count _ _ (λ j l.
     let small : j < chunk_bits = omega (arith, l, pre.6) in
     ap₂ (byte_product a.degree) (part-byte vs at a.count j l ∙ ap (byte_at vs) (add_assoc (a.e * most_variables) a.from j))
