@@ -12,9 +12,7 @@ pub fn copy_front(dst: &mut [u8], src: &[u8], from: usize, len: usize)
     ensures by_index { (f : ℕ) → f < len → byte_at dst.new f ≡ byte_at src.now (from + f) }
     ensures by_index_2 { (f : ℕ) → len ≤ f → byte_at dst.new f ≡ byte_at dst.old f }
 {
-    for f in 0..len {
-        dst[f] = src[from + f];
-    }
+    dst[..len].copy_from_slice(&src[from..from + len]);
 }
 
 // Part g of dst, of w bytes, becomes that of src from `from` on.
@@ -24,7 +22,7 @@ pub fn copy_part(dst: &mut [u8], g: usize, w: usize, src: &[u8], from: usize)
     ensures rows_kept { RowsKept w g dst.old dst.new }
 {
     let at = g * w;
-    copy_front(&mut dst[at..at + w], src, from, w);
+    dst[at..at + w].copy_from_slice(&src[from..from + w]);
 }
 
 // The first parts of dst, of w bytes, become those that stand `width` bytes apart in src, the first at `from`. The
@@ -43,7 +41,6 @@ pub fn copy_chunk(out: &mut [u8], src: &[u8; CHUNK])
     requires { length out.old ≡ chunk }
     ensures { (e : ℕ) → e < chunk → byte_at out.new e ≡ byte_at src.now e }
 {
-    for e in 0..CHUNK {
-        out[e] = src[e];
-    }
+    // TO GO
+    out.copy_from_slice(src);
 }

@@ -7,6 +7,3 @@ use Rattle.tables.proofs.gathered.Given as goal
 
 abbrev pub invariant-loop-p : goal.invariant-loop-p
 invariant-loop-p l = (l.p ≤ 8) × (l.sum ≡ xor_sum l.p (λ q. bit_of (byte_at l.planes (q * l.w + l.b)) l.i * 2 ^ q))
-
-abbrev pub decreases-loop-p : goal.decreases-loop-p
-decreases-loop-p l = 8 - l.p

@@ -10,6 +10,3 @@ use Rattle.tables.proofs.load_trees.Given as goal
 abbrev pub invariant-loop-e : goal.invariant-loop-e
 invariant-loop-e l =
     (l.e ≤ l.tau) × (length l.table ≡ length l.initial.table) × (length l.sums ≡ length l.initial.sums) × (length l.planes ≡ 8 * most_leaf) × SumsAre l.sums l.leaves l.e l.w (2 ^ l.r) × TableIs l.table l.leaves l.e l.w (2 ^ l.r)
-
-abbrev pub decreases-loop-e : goal.decreases-loop-e
-decreases-loop-e l = l.tau - l.e

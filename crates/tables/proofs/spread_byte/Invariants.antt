@@ -11,6 +11,3 @@ use Rattle.tables.proofs.spread_byte.Given as goal
 
 abbrev pub invariant-loop-i : goal.invariant-loop-i
 invariant-loop-i l = (l.i ≤ 8) × (length l.table ≡ length l.initial.table) × Filled (λ k. from_bits 8 (λ p. bit_of (byte_at l.planes (p * l.w + l.b)) k)) l.table l.e (l.b * 8) l.i × Others l.initial.table l.table l.e (l.b * 8)
-
-abbrev pub decreases-loop-i : goal.decreases-loop-i
-decreases-loop-i l = 8 - l.i

@@ -13,6 +13,3 @@ use Rattle.tables.proofs.spread_bytes.Given as goal
 
 abbrev pub invariant-loop-b : goal.invariant-loop-b
 invariant-loop-b l = let e = l.e in let planes = l.planes in let w = l.w in let table = l.table in let b = l.b in (b ≤ w) × (length table ≡ length l.initial.table) × Lane (λ c. from_bits 8 (λ p. bit (block_at planes w p) c)) table e (b * 8) × ((c q : ℕ) → q < lanes → (q ≡ e → ⊥) → byte_at table (c * lanes + q) ≡ byte_at l.initial.table (c * lanes + q))
-
-abbrev pub decreases-loop-b : goal.decreases-loop-b
-decreases-loop-b l = l.w - l.b

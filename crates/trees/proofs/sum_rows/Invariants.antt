@@ -11,6 +11,3 @@ use Rattle.trees.proofs.sum_rows.Given as goal
 
 abbrev pub invariant-loop-j : goal.invariant-loop-j
 invariant-loop-j l = (l.j ≤ l.count) × (length l.u ≡ l.w) × (length l.planes ≡ l.r * l.w) × Running (leaf_byte l.tree l.w l.delta) l.r l.w (byte_at l.u) (λ p b. byte_at l.planes (p * l.w + b)) l.j
-
-abbrev pub decreases-loop-j : goal.decreases-loop-j
-decreases-loop-j l = l.count - l.j

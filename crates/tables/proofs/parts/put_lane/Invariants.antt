@@ -11,6 +11,3 @@ use Rattle.tables.proofs.parts.put_lane.Given as goal
 
 abbrev pub invariant-loop-i : goal.invariant-loop-i
 invariant-loop-i l = (l.i ≤ 128) × (length l.table ≡ length l.initial.table) × Filled (λ k. from_bits 8 (bit_of (byte_at l.columns k))) l.table l.e l.c l.i × Others l.initial.table l.table l.e l.c
-
-abbrev pub decreases-loop-i : goal.decreases-loop-i
-decreases-loop-i l = 128 - l.i

@@ -11,6 +11,3 @@ use Rattle.trees.proofs.sixteens.add_held.Given as goal
 
 abbrev pub invariant-loop-i : goal.invariant-loop-i
 invariant-loop-i l = (l.i ≤ 16) × (length l.held ≡ 144) × Changed (λ k x. bit_xor x (byte_at l.sum k)) l.initial.held l.held (l.row * 16) l.i
-
-abbrev pub decreases-loop-i : goal.decreases-loop-i
-decreases-loop-i l = 16 - l.i

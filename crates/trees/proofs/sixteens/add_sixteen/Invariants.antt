@@ -14,6 +14,3 @@ change s from k x = bit_xor x (byte_at s (from + k))
 
 abbrev pub invariant-loop-i : goal.invariant-loop-i
 invariant-loop-i l = (l.i ≤ 16) × (l.sum ≡ changed (change l.s l.from) l.initial.sum l.i) × (length l.sum ≡ 16)
-
-abbrev pub decreases-loop-i : goal.decreases-loop-i
-decreases-loop-i l = 16 - l.i

@@ -13,6 +13,3 @@ abbrev pub invariant-loop-j : goal.invariant-loop-j
 invariant-loop-j l =
     (l.from ≤ l.j) × (l.j ≤ l.to) × (length l.sum ≡ 16) × (length l.held ≡ 144)
     × (Running (λ i b. leaf_byte l.tree l.w l.delta i (l.at + b)) l.r 16 (byte_at l.initial.sum) (held_plane l.initial.held l.r) l.from → Running (λ i b. leaf_byte l.tree l.w l.delta i (l.at + b)) l.r 16 (byte_at l.sum) (held_plane l.held l.r) l.j)
-
-abbrev pub decreases-loop-j : goal.decreases-loop-j
-decreases-loop-j l = l.to - l.j

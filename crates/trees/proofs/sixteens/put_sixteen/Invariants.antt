@@ -9,6 +9,3 @@ use Rattle.trees.proofs.sixteens.put_sixteen.Given as goal
 
 abbrev pub invariant-loop-i : goal.invariant-loop-i
 invariant-loop-i l = (l.i ≤ 16) × (length l.out ≡ length l.initial.out) × Changed (λ k x. byte_at l.sum k) l.initial.out l.out l.from l.i
-
-abbrev pub decreases-loop-i : goal.decreases-loop-i
-decreases-loop-i l = 16 - l.i
