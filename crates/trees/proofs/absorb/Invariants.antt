@@ -1,6 +1,6 @@
 -- `trees::absorb` meets its contract. The invariant: the planes below p are done, the others are as they were.
 -- Assumes nothing.
-use Prim.Native.Nat.{ℕ, ◌*◌, ◌-◌, ◌≤◌}
+use Prim.Native.Nat.{ℕ, ◌*◌, ◌≤◌}
 use mathlib.Core.Path.{◌≡◌}
 use lib.ListN.{length}
 use lib.Bits.{bit_xor}
