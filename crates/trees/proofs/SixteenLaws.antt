@@ -9,12 +9,15 @@ use mathlib.Core.Path.{◌≡◌, refl, sym, ap, ◌∙◌}
 use mathlib.Core.Bool.{cond}
 use mathlib.Core.List.{List}
 use mathlib.Core.Logic.{◌⊎◌, inl, inr, ⊎_elim}
+use native.Mathlib.Nat.{eq-or-lt_of_le, le_of_suc-le-suc}
 use native.Mathlib.Decide.{dec_lt, ℕ_discrete}
+use native.Mathlib.Numerals.{add-one}
 use native.Mathlib.Omega.{arith}
 use lib.Bits.{bit_xor, xor_self, xor_shr, xor_mod}
 use lib.Count.{count_trailing_zeros, under}
 use lib.Dec.{ltb}
-use lib.ListN.{length}
+use lib.ListN.{length, set}
+use lib.Seq.{get_or-set_same, get_or-set_other}
 use Rattle.theorems.proofs.TestLaws.{ltb_yes, ltb_no}
 use Rattle.strings.specs.Sums.{byte_at, bit_of, xor_sum}
 use Rattle.strings.specs.Rows.{RowAdded, RowsKept}
@@ -106,7 +109,23 @@ held_put held held' row r k p b q long hb takes here others =
     let left = rw long at others in
     sum_put (r + 1 - p) k (byte_at row b) (λ i. byte_at held (i * 16 + b)) (λ i. byte_at held' (i * 16 + b)) (added b hb) (λ i other. left i b other hb) ∙ ap (λ y. bit_xor (held_plane held r p b) (y * byte_at row b)) (sym takes)
 
--- ---- parts of strings
+-- ---- a part of a string, changed byte by byte
+
+abbrev pub Changed : (ℕ → ℕ → ℕ) → List ℕ → List ℕ → ℕ → ℕ → Type 0
+Changed g l₀ l at n = ((k : ℕ) → k < n → byte_at l (at + k) ≡ g k (byte_at l₀ (at + k))) × ((i : ℕ) → (at ≤ i → i < at + n → ⊥) → byte_at l i ≡ byte_at l₀ i)
+
+pub changed-none : (g : ℕ → ℕ → ℕ) (l : List ℕ) (at : ℕ) → Changed g l l at 0
+changed-none g l at = (λ k h. absurd (omega arith), λ i h. refl)
+
+pub changed-next : (g : ℕ → ℕ → ℕ) (l₀ l : List ℕ) (at n v : ℕ) → at + n < length l → v ≡ g n (byte_at l (at + n)) → Changed g l₀ l at n → Changed g l₀ (set l (at + n) v) at (n + 1)
+changed-next g l₀ l at n v fits is done = (
+  (λ k h.
+      ⊎_elim
+      (λ (e : k ≡ n). rw e (get_or-set_same l (at + n) v 0 fits ∙ is ∙ ap (g n) (done.1 (at + n) (λ a b. omega arith))))
+      (λ (lt : k < n). get_or-set_other l (at + n) (at + k) v 0 (λ e. omega arith) ∙ done.0 k lt)
+      (eq-or-lt_of_le (le_of_suc-le-suc (rw add-one at h)))),
+  (λ i h. get_or-set_other l (at + n) i v 0 (λ e. h (omega arith) (omega arith)) ∙ done.1 i (λ a b. h a (omega arith))),
+)
 
 -- sixteen bytes of row q, from `at` on, and a byte of another row, or of those before
 pub row_apart : (q p w at b : ℕ) → at + 16 ≤ w → b < w → (p ≡ q → b < at) → q * w + at ≤ p * w + b → p * w + b < q * w + at + 16 → ⊥

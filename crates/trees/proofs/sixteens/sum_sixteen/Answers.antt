@@ -1,10 +1,8 @@
 -- `trees::sixteens::sum_sixteen` meets its contract. What is held for plane p adds up to it.
 -- Assumes nothing.
-use Rattle.std.proofs.Common.{◌≡◌, ℕ, ◌+◌, ◌-◌, ◌∙◌, arith}
+use Rattle.std.proofs.Common.{ℕ, ◌+◌, ◌∙◌, arith}
 use lib.ListN.{get_or-replicate}
-use borrow.Rule.Slice.PartMut.{put_mid}
 use Rattle.strings.specs.Sums.{byte_at}
-use Rattle.strings.proofs.Rows.{put_before, put_in}
 use Rattle.trees.specs.Trees.{leaf_byte}
 use Rattle.trees.specs.Partial.{Running, held_plane}
 use Rattle.trees.proofs.PartialLaws.{running_all}
@@ -25,11 +23,10 @@ returns c =
     let rows = c.put_planes in
     let f : ℕ → ℕ → ℕ = λ j b. leaf_byte a.tree.now a.w a.delta j (a.at + b) in
     let known : Running f a.r 16 (byte_at sum) (held_plane held 8) a.count = (run.0, λ p b hp. run.1 p b (omega arith)) in
-    let part : a.at + 16 - a.at ≡ 16 = omega arith in
+    let row = c.put_sixteen in
     λ n le done.
-    rw (part, c.copy_from_slice.ensures.after)
-    (summed_more (leaf_byte a.tree.now a.w a.delta) a.count a.r a.w a.u.now (put_mid a.at 16 a.u.now sum) a.planes.now rows.new.planes a.at n le done
-    (λ b h. put_in a.at 16 a.u.now sum (omega arith) c.hold.array_long b h ∙ run.0 b h)
-    (λ b h. put_before a.at 16 a.u.now sum (omega arith) c.hold.array_long b h)
+    summed_more (leaf_byte a.tree.now a.w a.delta) a.count a.r a.w a.u.now row.new.out a.planes.now rows.new.planes a.at n le done
+    (λ b h. row.ensures.by_index b h ∙ run.0 b h)
+    (λ b h. row.ensures.by_index_2 b (λ low high. omega arith))
     (λ p b hp h. rows.ensures.by_index p b hp h ∙ running_all f a.r 16 (byte_at sum) (held_plane held 8) a.count known c.requires.by_index p b hp h)
-    rows.ensures.by_index_2)
+    rows.ensures.by_index_2
