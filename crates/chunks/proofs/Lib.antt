@@ -3,3 +3,4 @@ pub mod HalfLaws
 pub mod PassLaws
 pub mod TurnLaws
 pub mod PrefixLaws
+pub mod PartLaws

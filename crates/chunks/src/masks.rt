@@ -7,21 +7,13 @@ ghost use Rattle.chunks.specs.Chunks.{chunk, Masks};
 use super::CHUNK;
 use strings::{BITS, MASK_BYTE};
 
-fn fill(dst: &mut [u8], x: u8)
-    ensures { (f : ℕ) → f < length dst.old → byte_at dst.new f ≡ x }
-{
-    for f in 0..dst.len() {
-        dst[f] = x;
-    }
-}
-
 pub fn fill_part(dst: &mut [u8], g: usize, w: usize, x: u8)
     requires { g * w + w ≤ length dst.old }
     ensures by_index { (j : ℕ) → j < w → byte_at dst.new (g * w + j) ≡ x }
     ensures rows_kept { RowsKept w g dst.old dst.new }
 {
     let at = g * w;
-    fill(&mut dst[at..at + w], x);
+    dst[at..at + w].fill(x);
 }
 
 // out[f] is all ones where bit b of v[f] is set, and 0 elsewhere.

@@ -15,8 +15,8 @@ pub const EIGHT_ROWS: usize = BITS * SIXTEEN;
 const HALF: usize = EIGHT_ROWS / 2;
 
 // The rows' first half and last half exchange the bits s places apart. Callers give s and mask as constants.
-fn exchange(out: &mut [u8], rows: &[u8], s: usize, mask: u8)
-    requires { (s < 8) × Step s mask × (length rows.now ≡ 128) × (length out.old ≡ 128) }
+fn exchange(out: &mut [u8; EIGHT_ROWS], rows: &[u8; EIGHT_ROWS], s: usize, mask: u8)
+    requires { (s < 8) × Step s mask }
     ensures { Exchanged s rows.now 64 out.new }
 {
     for j in 0..HALF {
@@ -29,8 +29,8 @@ fn exchange(out: &mut [u8], rows: &[u8], s: usize, mask: u8)
 }
 
 // Byte j of the first half and byte j of the last, side by side.
-fn merge(out: &mut [u8], rows: &[u8])
-    requires { (length rows.now ≡ 128) × (128 ≤ length out.old) }
+fn merge(out: &mut [u8], rows: &[u8; EIGHT_ROWS])
+    requires { 128 ≤ length out.old }
     ensures { (i : ℕ) → i < 128 → byte_at out.new i ≡ byte_at rows.now (i % 2 * 64 + i / 2) }
 {
     for j in 0..HALF {
@@ -40,8 +40,8 @@ fn merge(out: &mut [u8], rows: &[u8])
 }
 
 // A pass. In one loop the machine would take half registers only.
-fn one_pass(out: &mut [u8], rows: &[u8], s: usize, mask: u8)
-    requires { (s < 8) × Step s mask × (length rows.now ≡ 128) × (128 ≤ length out.old) }
+fn one_pass(out: &mut [u8], rows: &[u8; EIGHT_ROWS], s: usize, mask: u8)
+    requires { (s < 8) × Step s mask × (128 ≤ length out.old) }
     ensures { Passed s 64 rows.now 128 out.new }
 {
     let mut between = [0u8; EIGHT_ROWS];
@@ -51,8 +51,8 @@ fn one_pass(out: &mut [u8], rows: &[u8], s: usize, mask: u8)
 
 // Byte r of out becomes column r of the eight rows. Each pass moves one bit of a row's number from a byte's place to a
 // bit's place.
-pub fn turn(out: &mut [u8], rows: &[u8])
-    requires { (length rows.now ≡ 128) × (128 ≤ length out.old) }
+pub fn turn(out: &mut [u8], rows: &[u8; EIGHT_ROWS])
+    requires { 128 ≤ length out.old }
     ensures { Turned 16 rows.now out.new }
 {
     let mut one = [0u8; EIGHT_ROWS];
@@ -74,8 +74,8 @@ pub fn turn_rows(out: &mut [u8], src: &[u8], from: usize, width: usize)
 
 // Sixteen rows of eight bytes become eight columns of sixteen: each merge moves one bit of a row's number to the low
 // end of a byte's place.
-pub fn part(cols: &mut [u8], rows: &[u8])
-    requires { (length rows.now ≡ 128) × (128 ≤ length cols.old) }
+pub fn part(cols: &mut [u8], rows: &[u8; EIGHT_ROWS])
+    requires { 128 ≤ length cols.old }
     ensures { (i : ℕ) → i < 128 → byte_at cols.new i ≡ byte_at rows.now (i % 16 * 8 + i / 16) }
 {
     let mut one = [0u8; EIGHT_ROWS];

@@ -16,22 +16,12 @@ fn fits(table: &[u8], sums: &[u8], leaves: &[u8], tau: usize, w: usize, r: usize
     ensures trees_ready { result ≡ true → TreesReady table.now sums.now leaves.now tau w r }
     ensures fact { result ≡ false → TreesReady table.now sums.now leaves.now tau w r → ⊥ }
 {
-    if LANES < tau {
-        return false;
-    }
-    if MOST_LEAF < w {
-        return false;
-    }
-    if BITS < r {
-        return false;
-    }
-    if table.len() != BITS * w * LANES {
-        return false;
-    }
-    if sums.len() != tau * w {
-        return false;
-    }
-    leaves.len() == tau * leaves_of(r) * w
+    tau <= LANES
+        && w <= MOST_LEAF
+        && r <= BITS
+        && table.len() == BITS * w * LANES
+        && sums.len() == tau * w
+        && leaves.len() == tau * leaves_of(r) * w
 }
 
 // 01's u_e and v_e for every repetition e below tau, as the prover has them. It asks of the lengths first: where they

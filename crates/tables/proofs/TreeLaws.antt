@@ -10,7 +10,7 @@ use native.Mathlib.Decide.{dec_lt}
 use native.Mathlib.Numerals.{add-one}
 use native.Mathlib.Omega.{arith}
 use lib.Dec.{lit<}
-use lib.ListN.{length, drop, length-append, length-drop, get_or-append}
+use lib.ListN.{replicate, length-replicate, get_or-replicate, length, drop, length-append, length-drop, get_or-append}
 use lib.Pow.{pow_mono, pow_pos}
 use borrow.Rule.Slice.PartMut.{put_mid}
 use Rattle.protocol.specs.Lists.{block_at}
@@ -67,6 +67,10 @@ planes-byte planes w c x r h few small is none =
     go : (p : ℕ) → p < 8 → c / 8 < w → Dec (p < r) → bit_of (byte_at planes (p * w + c / 8)) (c % 8) ≡ bit_of x p
     go p k l (yes lt) = is p lt
     go p k l (no ge) = ap (λ y. bit_of y (c % 8)) (none p (c / 8) (omega arith) k l) ∙ bitOf_zero (c % 8) ∙ sym (high_bit x r p small (omega arith))
+
+-- a string of zeros
+pub none-there : (zeros : List ℕ) (n i : ℕ) → zeros ≡ replicate n 0 → i < length zeros → byte_at zeros i ≡ 0
+none-there zeros n i is h = let long : length zeros ≡ n = ap length is ∙ length-replicate n 0 in ap (λ l. byte_at l i) is ∙ get_or-replicate n i 0 0 (omega (arith, long, h))
 
 -- room for eight planes, of which the first r were written apart, and the others cleared
 module _ (r w : ℕ) (low old zeros : List ℕ) (few : r ≤ 8) (front : length low ≡ r * w) (room : length old ≡ 8 * w) where

@@ -35,7 +35,7 @@ pub fn sum_tree(u: &mut [u8], planes: &mut [u8], tree: &[u8], delta: usize, r: u
     let w = u.len();
     let end = r * w;
     tree_sums(u, &mut planes[..end], r, tree, leaves_of(r), delta, w);
-    strings::clear(&mut planes[end..]);
+    planes[end..].fill(0);
 }
 
 // The byte whose bit p is bit i of byte b of plane p.

@@ -12,8 +12,8 @@ use lanes::LANES;
 use strings::{BITS, SIXTEEN};
 
 // Writes lane e of as many coordinates as there are columns, from c on.
-fn put_lane(table: &mut [u8], e: usize, c: usize, columns: &[u8])
-    requires { ((c + eight_rows) * lanes ≤ length table.old) × (length columns.now ≡ eight_rows) × (e < lanes) }
+fn put_lane(table: &mut [u8], e: usize, c: usize, columns: &[u8; EIGHT_ROWS])
+    requires { ((c + eight_rows) * lanes ≤ length table.old) × (e < lanes) }
     ensures by_index { (i : ℕ) → i < eight_rows → byte_at table.new ((c + i) * lanes + e) ≡ from_bits 8 (bit_of (byte_at columns.now i)) }
     ensures by_index_2 { (d q : ℕ) → q < lanes → (q ≡ e → d < c) → byte_at table.new (d * lanes + q) ≡ byte_at table.old (d * lanes + q) }
 {
@@ -40,10 +40,8 @@ pub fn spread_parts(table: &mut [u8], e: usize, planes: &[u8], w: usize)
     ensures lanes_kept { LanesKept e table.old table.new }
 {
     let last = w - SIXTEEN;
-    let mut at = 0;
-    while at < last {
-        spread_part(table, e, planes, w, at);
-        at += SIXTEEN;
+    for k in 0..last.div_ceil(SIXTEEN) {
+        spread_part(table, e, planes, w, k * SIXTEEN);
     }
     spread_part(table, e, planes, w, last);
 }

@@ -69,7 +69,7 @@ pub fn load_opened(
             &mut u[..w],
             &mut planes[..BITS * w],
             strings::row_at(opened, len, e),
-            strings::wide(delta[e]),
+            usize::from(delta[e]),
             corrections,
             e,
             r,

@@ -8,7 +8,7 @@ use mathlib.Core.Path.{◌≡◌, refl, sym, ap, ap₂, ◌∙◌}
 use mathlib.Core.Bool.{cond}
 use mathlib.Core.List.{List}
 use native.Mathlib.Nat.{add-mul, one-mul, mul-zero}
-use native.Mathlib.Decide.{dec_lt}
+use Rattle.std.proofs.Common.{min}
 use native.Mathlib.Omega.{arith}
 use lib.Bits.{bit_xor, xor_zero_r}
 use lib.ListN.{length}
@@ -67,10 +67,6 @@ module _ (f a : ℕ → ℕ → ℕ) (r j : ℕ) (u x y u' : ℕ → ℕ) (run :
       ∙ ap (λ z. bit_xor z (bit_of 3 p * y b)) (xor_swap (a p b) (differing j p * u' b) (bit_of 1 p * x b))
       ∙ xor_swap (bit_xor (a p b) (bit_of 1 p * x b)) (differing j p * u' b) (bit_of 3 p * y b))
 
--- a sum added from its front on
-pub from_front : (l l' s : List ℕ) → ((i : ℕ) → i < 16 → byte_at l' i ≡ bit_xor (byte_at l i) (byte_at s (0 + i))) → (i : ℕ) → i < 16 → byte_at l' i ≡ bit_xor (byte_at l i) (byte_at s i)
-from_front l l' s done i h = let e : 0 + i ≡ i = omega arith in done i h ∙ ap (λ k. bit_xor (byte_at l i) (byte_at s k)) e
-
 -- ---- sums of 0
 
 pub low-none : (a : ℕ → ℕ → ℕ) (x y : ℕ → ℕ) (p b : ℕ) → x b ≡ 0 → y b ≡ 0 → with_low a x y p b ≡ a p b
@@ -89,9 +85,9 @@ running_same f r j u u' planes planes' su sp run = (λ b h. su b h ∙ run.0 b h
 abbrev pub Fits : ℕ → ℕ → ℕ → ℕ → ℕ → Type 0
 Fits j to skip w n = (j % 4 ≡ 0) × (skip ≤ j) × (j + 4 ≤ to) × ((to - skip) * w ≤ n)
 
--- four leaves that begin below `to` end within the tree
-pub four-fits : (from to skip j w n : ℕ) → from ≤ j → (to - j) % 4 ≡ 0 → (j - from) % 4 ≡ 0 → (from < to → (from % 4 ≡ 0) × (skip ≤ from) × ((to - skip) * w ≤ n)) → j < to → Fits j to skip w n
-four-fits from to skip j w n le rest passed known lt =
+-- four leaves of a span of whole fours end within the tree
+pub four-fits : (from to skip k w n : ℕ) → from ≤ to → (to - from) % 4 ≡ 0 → (from < to → (from % 4 ≡ 0) × (skip ≤ from) × ((to - skip) * w ≤ n)) → k < (to - from) / 4 → Fits (from + k * 4) to skip w n
+four-fits from to skip k w n le whole known lt =
     let all = known (omega arith) in
     (omega arith, omega arith, omega arith, all.2)
 
@@ -124,17 +120,6 @@ module _ (tree : List ℕ) (w δ count : ℕ) (fits : TreeFits tree w δ count) 
   pub after-fits : δ + 1 < n → (n - 1) * w ≤ length tree
   after-fits high = full-rows (n - 1 - 1) (n - 1) w (length tree) (omega arith) (rw (place-above δ (n - 1) (omega arith)) at (fits (n - 1) (omega arith) (λ e. omega arith)))
 
--- m is the lesser of a and b, and below b
-first-least : (m a b : ℕ) → m ≤ a → (m < a → m ≡ b) → m < b → m ≡ a
-first-least m a b le other lt = go (dec_lt m a)
-  where
-    go : Dec (m < a) → m ≡ a
-    go (yes below) = absurd (omega (arith, other below))
-    go (no above) = omega arith
-
 -- where leaves are left after the four that are cut out, the leaf that is left out is among these
-pub cut_out : (δ count m next : ℕ) → m ≤ δ → (m < δ → m ≡ count) → next ≤ m / 4 * 4 + 4 → (next < m / 4 * 4 + 4 → next ≡ count) → next < count → (next % 4 ≡ 0) × (δ < next)
-cut_out δ count m next le other le' other' lt =
-    let after : next ≡ m / 4 * 4 + 4 = first-least next (m / 4 * 4 + 4) count le' other' lt in
-    let here : m ≡ δ = first-least m δ count le other (omega arith) in
-    (omega arith, omega arith)
+pub cut_out : (δ count next : ℕ) → next ≡ min count (min δ count / 4 * 4 + 4) → next < count → (next % 4 ≡ 0) × (δ < next)
+cut_out δ count next is lt = (omega arith, omega arith)

@@ -70,8 +70,8 @@ fn sum_rows(
     requires by_index { (p : ℕ) → p < r → bit_of count p ≡ 0 }
     ensures { TreeSummed tree.now w delta count r u.new planes.new w }
 {
-    strings::clear(u);
-    strings::clear(planes);
+    u.fill(0);
+    planes.fill(0);
     for j in 0..count {
         add_leaf(u, tree, delta, j);
         absorb(planes, r, j ^ (j + 1), u);

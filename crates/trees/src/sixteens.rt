@@ -14,29 +14,18 @@ ghost use Rattle.strings.specs.Rows.{RowAdded, RowsKept};
 ghost use Rattle.trees.specs.Trees.{leaf_byte, TreeFits, TreeSummed};
 ghost use Rattle.trees.specs.Partial.{held_plane, RunningLeaves};
 
-use super::fours::hold_fours;
+use super::fours::{Run, hold_fours};
 use super::opened_leaf;
 use field::Gf256;
-use strings::{SIXTEEN, least};
+use strings::{SIXTEEN, add_at, xor_row};
 
 // A row for each plane, and one.
 pub const HELD: usize = (Gf256::DEGREE + 1) * SIXTEEN;
 
-// sum[i] ^= s[from + i], for each i. The count is a constant, here and below, so that a caller's local array stays in
-// registers.
-pub fn add_sixteen(sum: &mut [u8; SIXTEEN], s: &[u8], from: usize)
-    requires { (from + 16 ≤ length s.now) × (length sum.old ≡ 16) }
-    ensures sum_len { length sum.new ≡ 16 }
-    ensures by_index { (i : ℕ) → i < 16 → byte_at sum.new i ≡ bit_xor (byte_at sum.old i) (byte_at s.now (from + i)) }
-{
-    for i in 0..SIXTEEN {
-        sum[i] ^= s[from + i];
-    }
-}
-
-// out[from + i] = sum[i], for each i.
-pub fn put_sixteen(out: &mut [u8], from: usize, sum: &[u8; SIXTEEN])
-    requires { (from + 16 ≤ length out.old) × (length sum.now ≡ 16) }
+// out[from + i] = sum[i], for each i. A loop, and not copy_from_slice: that asks at run time whether the two overlap, so
+// that sum leaves its register, and the leaf sums take 2 to 3 % more.
+fn put_sixteen(out: &mut [u8], from: usize, sum: &[u8; SIXTEEN])
+    requires { from + 16 ≤ length out.old }
     ensures by_index { (i : ℕ) → i < 16 → byte_at out.new (from + i) ≡ byte_at sum.now i }
     ensures by_index_2 { (i : ℕ) → (from ≤ i → i < from + 16 → ⊥) → byte_at out.new i ≡ byte_at out.old i }
 {
@@ -45,38 +34,24 @@ pub fn put_sixteen(out: &mut [u8], from: usize, sum: &[u8; SIXTEEN])
     }
 }
 
-// Adds sum to a row of what is held.
-pub fn add_held(held: &mut [u8; HELD], row: usize, sum: &[u8; SIXTEEN])
-    requires { (row ≤ 8) × (length held.old ≡ 144) × (length sum.now ≡ 16) }
-    ensures held_len { length held.new ≡ 144 }
-    ensures row_added { RowAdded 16 row sum.now held.old held.new }
-    ensures rows_kept { RowsKept 16 row held.old held.new }
-{
-    let at = row * SIXTEEN;
-    for i in 0..SIXTEEN {
-        held[at + i] ^= sum[i];
-    }
-}
-
 // The row that takes the running sum of the leaves up to j: the bits that change from j to j + 1 are those up to the
 // zeros at the end of j + 1.
-pub fn held_row(j: usize, r: usize) -> usize
-    requires { (j < 65536) × (r ≤ 8) }
-    ensures upper_bound { result ≤ r }
-    ensures by_index { (p : ℕ) → p < r → bit_of (bit_xor j (j + 1)) p ≡ cond (ltb result (r + 1 - p)) 1 0 }
+pub fn held_row(j: usize) -> usize
+    requires { j < 65536 }
+    ensures upper_bound { result ≤ 8 }
+    ensures by_index { (p : ℕ) → p < 8 → bit_of (bit_xor j (j + 1)) p ≡ cond (ltb result (8 + 1 - p)) 1 0 }
 {
-    let zeros = usize::trailing_zeros(j + 1) as usize;
-    if zeros < r { r - zeros } else { 0 }
+    let zeros = (j + 1).trailing_zeros() as usize;
+    Gf256::DEGREE - zeros.min(Gf256::DEGREE)
 }
 
 // Adds sixteen bytes of leaf j, from `at` on, and nothing for the leaf that is left out.
 fn add_part(sum: &mut [u8; SIXTEEN], tree: &[u8], w: usize, delta: usize, j: usize, at: usize)
-    requires { ((j ≡ delta → ⊥) → place delta j * w + w ≤ length tree.now) × (at + 16 ≤ w) × (length sum.old ≡ 16) }
-    ensures sum_len { length sum.new ≡ 16 }
-    ensures by_index { (b : ℕ) → b < 16 → byte_at sum.new b ≡ bit_xor (byte_at sum.old b) (leaf_byte tree.now w delta j (at + b)) }
+    requires { ((j ≡ delta → ⊥) → place delta j * w + w ≤ length tree.now) × (at + 16 ≤ w) }
+    ensures { (b : ℕ) → b < 16 → byte_at sum.new b ≡ bit_xor (byte_at sum.old b) (leaf_byte tree.now w delta j (at + b)) }
 {
     if j != delta {
-        add_sixteen(sum, opened_leaf(tree, w, delta, j), at);
+        add_at(sum, opened_leaf(tree, w, delta, j), at);
     }
 }
 
@@ -85,7 +60,6 @@ fn add_part(sum: &mut [u8; SIXTEEN], tree: &[u8], w: usize, delta: usize, j: usi
 fn hold_leaves(
     sum: &mut [u8; SIXTEEN],
     held: &mut [u8; HELD],
-    r: usize,
     tree: &[u8],
     delta: usize,
     w: usize,
@@ -93,14 +67,13 @@ fn hold_leaves(
     from: usize,
     to: usize,
 )
-    requires { (length sum.old ≡ 16) × (length held.old ≡ 144) × (r ≤ 8) × (from ≤ to) × (to < 65536) × (at + 16 ≤ w) × TreeFits tree.now w delta to }
-    ensures sum_len { (length sum.new ≡ 16) × (length held.new ≡ 144) }
-    ensures running_leaves { RunningLeaves tree.now w delta at r sum.old held.old from
-        → RunningLeaves tree.now w delta at r sum.new held.new to }
+    requires { (from ≤ to) × (to < 65536) × (at + 16 ≤ w) × TreeFits tree.now w delta to }
+    ensures { RunningLeaves tree.now w delta at 8 sum.old held.old from
+        → RunningLeaves tree.now w delta at 8 sum.new held.new to }
 {
     for j in from..to {
         add_part(sum, tree, w, delta, j, at);
-        add_held(held, held_row(j, r), sum);
+        xor_row(held, held_row(j), sum);
     }
 }
 
@@ -116,25 +89,36 @@ fn hold(
     w: usize,
     at: usize,
 )
-    requires sum_len { (length sum.old ≡ 16) × (length held.old ≡ 144) × (count < 65536) × (at + 16 ≤ w) × TreeFits tree.now w delta count }
-    requires by_index { ((i : ℕ) → i < 16 → byte_at sum.old i ≡ 0) × ((i : ℕ) → i < 144 → byte_at held.old i ≡ 0) }
-    ensures sum_len_2 { (length sum.new ≡ 16) × (length held.new ≡ 144) }
-    ensures running_leaves { RunningLeaves tree.now w delta at 8 sum.new held.new count }
+    requires fits { (count < 65536) × (at + 16 ≤ w) × TreeFits tree.now w delta count }
+    requires nothing { ((i : ℕ) → i < 16 → byte_at sum.old i ≡ 0) × ((i : ℕ) → i < 144 → byte_at held.old i ≡ 0) }
+    ensures { RunningLeaves tree.now w delta at 8 sum.new held.new count }
 {
-    let cut = least(delta, count) / 4 * 4;
-    let next = least(cut + 4, count);
+    let cut = delta.min(count) / 4 * 4;
+    let next = count.min(cut + 4);
     let end = next + (count - next) / 4 * 4;
-    hold_fours(sum, held, Gf256::DEGREE, tree, w, at, 0, 0, cut);
+    let before = Run {
+        at,
+        skip: 0,
+        from: 0,
+        to: cut,
+    };
+    hold_fours(sum, held, tree, w, before);
     if cut < count {
-        hold_leaves(sum, held, Gf256::DEGREE, tree, delta, w, at, cut, next);
-        hold_fours(sum, held, Gf256::DEGREE, tree, w, at, 1, next, end);
-        hold_leaves(sum, held, Gf256::DEGREE, tree, delta, w, at, end, count);
+        let after = Run {
+            at,
+            skip: 1,
+            from: next,
+            to: end,
+        };
+        hold_leaves(sum, held, tree, delta, w, at, cut, next);
+        hold_fours(sum, held, tree, w, after);
+        hold_leaves(sum, held, tree, delta, w, at, end, count);
     }
 }
 
 // Sixteen bytes of plane p, from `at` on, where p is one of the r planes.
 fn put_plane(planes: &mut [u8], p: usize, r: usize, w: usize, at: usize, sum: &[u8; SIXTEEN])
-    requires { (length planes.old ≡ r * w) × (length sum.now ≡ 16) × (at + 16 ≤ w) }
+    requires { (length planes.old ≡ r * w) × (at + 16 ≤ w) }
     ensures b_after { p < r → (b : ℕ) → b < 16 → byte_at planes.new (p * w + at + b) ≡ byte_at sum.now b }
     ensures by_index { (i : ℕ) → (p * w + at ≤ i → i < p * w + at + 16 → ⊥) → byte_at planes.new i ≡ byte_at planes.old i }
 {
@@ -145,17 +129,15 @@ fn put_plane(planes: &mut [u8], p: usize, r: usize, w: usize, at: usize, sum: &[
 
 // Sixteen bytes of each of r planes, from `at` on: the sums of the first rows of what is held for eight.
 fn put_planes(planes: &mut [u8], held: &[u8; HELD], r: usize, w: usize, at: usize)
-    requires { (length planes.old ≡ r * w) × (length held.now ≡ 144) × (r ≤ 8) × (at + 16 ≤ w) }
+    requires { (length planes.old ≡ r * w) × (r ≤ 8) × (at + 16 ≤ w) }
     ensures by_index { (p b : ℕ) → p < r → b < 16 → byte_at planes.new (p * w + (at + b)) ≡ held_plane held.now 8 p b }
     ensures by_index_2 { (p b : ℕ) → p < r → b < at → byte_at planes.new (p * w + b) ≡ byte_at planes.old (p * w + b) }
 {
     let mut sum = [0u8; SIXTEEN];
-    add_sixteen(&mut sum, held, 0);
-    let mut k = 0;
-    while k < Gf256::DEGREE {
-        k += 1;
-        add_sixteen(&mut sum, held, k * SIXTEEN);
-        put_plane(planes, Gf256::DEGREE - k, r, w, at, &sum);
+    add_at(&mut sum, held, 0);
+    for k in 0..Gf256::DEGREE {
+        add_at(&mut sum, held, (k + 1) * SIXTEEN);
+        put_plane(planes, Gf256::DEGREE - 1 - k, r, w, at, &sum);
     }
 }
 
@@ -197,10 +179,8 @@ pub fn sum_sixteens(
     ensures { TreeSummed tree.now w delta count r u.new planes.new w }
 {
     let last = w - SIXTEEN;
-    let mut at = 0;
-    while at < last {
-        sum_sixteen(u, planes, r, tree, count, delta, w, at);
-        at += SIXTEEN;
+    for k in 0..last.div_ceil(SIXTEEN) {
+        sum_sixteen(u, planes, r, tree, count, delta, w, k * SIXTEEN);
     }
     sum_sixteen(u, planes, r, tree, count, delta, w, last);
 }

@@ -18,6 +18,3 @@ term d both p v f z = bit_xor (bit_of (cell_at both 0 f) z * byte_product d (alp
 
 abbrev pub invariant-loop-f : goal.invariant-loop-f
 invariant-loop-f l = let t₀ = l.initial.t in let p = l.p in let both = l.both in let masks = l.masks in let t = l.t in let f = l.f in (f ≤ chunk) × (length t ≡ planes * chunk) × ((d : ℕ) (v : List ℕ) (g z : ℕ) → Masks v masks → byte_at v g < 2 ^ degree_of d → g < f → stack_at d t g z ≡ bit_xor (stack_at d t₀ g z) (term d both p v g z)) × ((q g : ℕ) → f ≤ g → g < chunk → cell_at t q g ≡ cell_at t₀ q g)
-
-abbrev pub decreases-loop-f : goal.decreases-loop-f
-decreases-loop-f l = chunk - l.f

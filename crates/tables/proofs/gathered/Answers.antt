@@ -15,7 +15,7 @@ use Rattle.tables.proofs.gathered.Goals as goal
 -- src/lib.rt:61:5
 pub loop-p-init : goal.loop-p-init
 unfolding xor_sum
-loop-p-init c = (search rules, refl)
+loop-p-init c = refl
 
 -- src/lib.rt:62:24
 pub overflow_mul-sum : goal.overflow_mul-sum
@@ -35,11 +35,9 @@ unfolding bit_of
 loop-p-preserved c =
     let a = c.args in
     let l = c.loop-p in
-    let x = bit_of (byte_at a.planes.now (l.p * a.w + a.b)) a.i in (
-      omega arith,
-      ap₂ bit_xor l.invariant.1 (bit_shifted x l.p (bitOf_lt (byte_at a.planes.now (l.p * a.w + a.b)) a.i) (omega arith))
-          ∙ sym (sum_more l.p (λ q. bit_of (byte_at a.planes.now (q * a.w + a.b)) a.i * 2 ^ q)),
-    )
+    let x = bit_of (byte_at a.planes.now (l.p * a.w + a.b)) a.i in
+    ap₂ bit_xor l.invariant (bit_shifted x l.p (bitOf_lt (byte_at a.planes.now (l.p * a.w + a.b)) a.i) (omega arith))
+    ∙ sym (sum_more l.p (λ q. bit_of (byte_at a.planes.now (q * a.w + a.b)) a.i * 2 ^ q))
 
 -- src/lib.rt:55:1
 pub returns : goal.returns
@@ -47,4 +45,4 @@ returns c =
     let a = c.args in
     let l = c.loop-p in
     let e : l.p ≡ 8 = omega arith in
-    rw e at l.invariant.1 ∙ bits-sum 8 (λ q. bit_of (byte_at a.planes.now (q * a.w + a.b)) a.i) (λ q. bitOf_lt (byte_at a.planes.now (q * a.w + a.b)) a.i)
+    rw e at l.invariant ∙ bits-sum 8 (λ q. bit_of (byte_at a.planes.now (q * a.w + a.b)) a.i) (λ q. bitOf_lt (byte_at a.planes.now (q * a.w + a.b)) a.i)

@@ -1,12 +1,13 @@
 -- `tables::sum_tree` meets its contract. The first r planes are those of the tree, and the others are cleared.
 -- Assumes nothing.
-use Prim.Native.Nat.{ℕ, ◌*◌, ◌-◌, ◌^◌}
+use Prim.Native.Nat.{ℕ, ◌*◌, ◌-◌, ◌^◌, ◌<◌}
 use mathlib.Core.Path.{◌≡◌, refl, ◌∙◌}
 use mathlib.Core.List.{◌++◌}
 use native.Mathlib.Nat.{mul-le-mul_right}
 use native.Mathlib.Omega.{arith}
 use lib.ListN.{length, drop, length-take, length-drop, length-append}
-use Rattle.tables.proofs.TreeLaws.{leaves-most, leaves_even, planes-kept, planes-none}
+use Rattle.strings.specs.Sums.{byte_at}
+use Rattle.tables.proofs.TreeLaws.{leaves-most, leaves_even, none-there, planes-kept, planes-none}
 use Rattle.tables.proofs.sum_tree.Goals as goal
 
 pub overflow_mul-end : goal.overflow_mul-end
@@ -39,15 +40,15 @@ tree_sums-requires c =
       by_index = leaves_even a.r;
     })
 
-pub slice_bounds-clear-count : goal.slice_bounds-clear-count
-slice_bounds-clear-count c =
+pub slice_bounds-fill-count : goal.slice_bounds-fill-count
+slice_bounds-fill-count c =
     let a = c.args in
     let sums = c.tree_sums in
     let front : length sums.new.planes ≡ a.r * length a.u.now = sums.auto.planes ∙ simp length-take (omega (arith, c.requires.0, mul-le-mul_right (length a.u.now) c.requires.1)) in
     simp length-append (omega (arith, front))
 
-pub slice_bounds-clear-start : goal.slice_bounds-clear-start
-slice_bounds-clear-start c =
+pub slice_bounds-fill-start : goal.slice_bounds-fill-start
+slice_bounds-fill-start c =
     let a = c.args in
     let sums = c.tree_sums in
     let front : length sums.new.planes ≡ a.r * length a.u.now = sums.auto.planes ∙ simp length-take (omega (arith, c.requires.0, mul-le-mul_right (length a.u.now) c.requires.1)) in
@@ -60,12 +61,13 @@ returns c =
     let sums = c.tree_sums in
     let low = sums.new.planes in
     let old = a.planes.now in
-    let zeros = c.clear.new.dst in
+    let zeros = c.fill.new.self in
     let count : c.leaves_of.result ≡ 2 ^ a.r = c.leaves_of.ensures in
     let front : length low ≡ a.r * w = sums.auto.planes ∙ simp length-take (omega (arith, c.requires.0, mul-le-mul_right w c.requires.1)) in
     let rest : ℕ = length (low ++ drop (a.r * w) old) - a.r * w in
-    let same : length zeros ≡ rest = c.clear.auto.dst ∙ simp (length-take, length-drop) (omega arith) in
+    let same : length zeros ≡ rest = c.fill.ensures.len ∙ simp (length-take, length-drop) (omega arith) in
+    let cleared : (i : ℕ) → i < rest → byte_at zeros i ≡ 0 = λ i k. none-there zeros _ i (c.fill.ensures.after (λ y e. e)) (omega (arith, same, k)) in
     let is = rw count at sums.ensures in record {
-      tree_summed = ((λ b h. is.0 b h), (λ p b h l. planes-kept a.r w low old zeros c.requires.1 front c.requires.0 same (λ i k. c.clear.ensures i (omega arith)) p b h l ∙ is.1 p b h l));
-      no_planes_from = planes-none a.r w low old zeros c.requires.1 front c.requires.0 same (λ i k. c.clear.ensures i (omega arith));
+      tree_summed = ((λ b h. is.0 b h), (λ p b h l. planes-kept a.r w low old zeros c.requires.1 front c.requires.0 same cleared p b h l ∙ is.1 p b h l));
+      no_planes_from = planes-none a.r w low old zeros c.requires.1 front c.requires.0 same cleared;
     }

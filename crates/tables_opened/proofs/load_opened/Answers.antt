@@ -2,11 +2,11 @@
 -- Assumes nothing.
 use borrow.Author.Rules.{rules}
 use Prim.Native.Nat.{ℕ, ◌*◌, ◌-◌, ◌^◌, ◌≤◌, ◌<◌}
-use mathlib.Core.Path.{◌≡◌, refl, ap₂, ◌∙◌}
+use mathlib.Core.Path.{◌≡◌, ap₂, ◌∙◌}
 use mathlib.Core.List.{List}
 use native.Mathlib.Nat.{mul_assoc, mul-le-mul, mul-le-mul_right}
 use native.Mathlib.Omega.{arith}
-use lib.ListN.{length, take, length-take, length-drop, length-append}
+use lib.ListN.{length, take, length-take}
 use lib.Pow.{pow_pos}
 use Rattle.protocol.specs.Lists.{block_at}
 use Rattle.strings.specs.Sums.{byte_at}
@@ -35,7 +35,7 @@ overflow_mul-len c =
 
 pub loop-e-init : goal.loop-e-init
 loop-e-init c =
-    (search rules, refl, refl, refl, λ e c h. absurd (omega arith))
+    λ e c h. absurd (omega arith)
 
 pub slice_bounds-load_lane-end : goal.slice_bounds-load_lane-end
 slice_bounds-load_lane-end c = simp length-take (omega arith)
@@ -59,7 +59,7 @@ load_lane-requires c =
       omega arith,
       simp length-take (omega arith),
       omega arith,
-      rw c.wide.ensures.0 (c.requires.7 l.e (search rules)),
+      rw c.from.ensures (c.requires.7 l.e (search rules)),
       omega (arith, mul-le-mul_right a.w (below l.e a.tau (omega arith))),
       rw count at c.row_at.ensures.1,
       c.requires.6,
@@ -75,16 +75,9 @@ loop-e-preserved c =
     let trees : ℕ → List ℕ = block_at a.opened.now ((2 ^ a.r - 1) * a.w) in
     let tree : c.row_at.result.now ≡ trees l.e = rw count at c.row_at.ensures.0 in
     let long : length (take a.w l.u) ≡ a.w = simp length-take (omega arith) in
-    let kept-u : length call.new.u ≡ a.w = call.auto.u ∙ long in
-    let kept-planes : length call.new.planes ≡ 8 * a.w = call.auto.planes ∙ simp length-take (omega arith) in (
-      omega arith,
-      call.auto.table ∙ l.invariant.1,
-      simp (length-append, length-drop) (omega (arith, kept-u)),
-      simp (length-append, length-drop) (omega (arith, kept-planes)),
-      lanes_more (λ e d. w_byte (trees e) C (2 ^ a.r) a.w e (byte_at a.delta.now e) d) a.w l.e l.table call.new.table (omega arith) l.invariant.4
-          (λ d h. (rw long at call.ensures.lane_is) d h ∙ ap₂ (λ (t : List ℕ) (δ : ℕ). w_byte t C (2 ^ a.r) a.w l.e δ d) tree c.wide.ensures.0)
-          call.ensures.lanes_kept,
-    )
+    lanes_more (λ e d. w_byte (trees e) C (2 ^ a.r) a.w e (byte_at a.delta.now e) d) a.w l.e l.table call.new.table (omega arith) l.invariant
+    (λ d h. (rw long at call.ensures.lane_is) d h ∙ ap₂ (λ (t : List ℕ) (δ : ℕ). w_byte t C (2 ^ a.r) a.w l.e δ d) tree c.from.ensures)
+    call.ensures.lanes_kept
 
 pub returns : goal.returns
-returns c = λ e d h. c.loop-e.invariant.4 e d (omega arith)
+returns c = λ e d h. c.loop-e.invariant e d (omega arith)

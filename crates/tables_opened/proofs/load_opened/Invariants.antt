@@ -1,15 +1,9 @@
 -- `tables_opened::load_opened` meets its contract. The invariant: the lanes of the repetitions below e are done.
 -- Assumes nothing.
-use Prim.Native.Nat.{◌*◌, ◌-◌, ◌^◌, ◌≤◌}
-use mathlib.Core.Path.{◌≡◌}
-use lib.ListN.{length}
-use Rattle.format.specs.Limits.{most_leaf}
+use Prim.Native.Nat.{◌^◌}
 use Rattle.tables_opened.specs.Opened.{OpenedTableIs}
 use Rattle.tables_opened.proofs.load_opened.Given as goal
 
 abbrev pub invariant-loop-e : goal.invariant-loop-e
 invariant-loop-e l =
-    (l.e ≤ l.tau) × (length l.table ≡ length l.initial.table) × (length l.u ≡ most_leaf) × (length l.planes ≡ 8 * most_leaf) × OpenedTableIs l.table l.opened l.delta l.corrections l.e l.w (2 ^ l.r)
-
-abbrev pub decreases-loop-e : goal.decreases-loop-e
-decreases-loop-e l = l.tau - l.e
+    OpenedTableIs l.table l.opened l.delta l.corrections l.e l.w (2 ^ l.r)

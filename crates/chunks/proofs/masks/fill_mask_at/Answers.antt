@@ -1,22 +1,15 @@
 -- `chunks::masks::fill_mask_at` meets its contract. The part that was lent is mask b, and the others stand outside it.
 -- Assumes nothing.
-use Prim.Native.Nat.{◌+◌, ◌*◌, ◌-◌, ◌≤◌}
-use mathlib.Core.Path.{◌≡◌, ◌∙◌}
-use native.Mathlib.Nat.{add-sub_cancel_left}
-use native.Mathlib.Omega.{arith}
-use lib.ListN.{length, take, drop, length-take, length-drop}
-use Rattle.strings.proofs.Rows.{put_in, put_other}
+use Rattle.std.proofs.Common.{◌≡◌, ◌+◌, ◌*◌, ◌≤◌, length, ◌∙◌, arith}
 use Rattle.chunks.specs.Chunks.{chunk}
+use Rattle.chunks.proofs.PartLaws.{part-is, others-kept}
 use Rattle.chunks.proofs.masks.fill_mask_at.Goals as goal
 
 pub returns : goal.returns
 returns c =
     let a = c.args in
-    let l = a.masks.now in
-    let at = a.b * chunk in
-    let r = c.fill_mask.new.out in
-    let e : at + chunk - at ≡ chunk = add-sub_cancel_left at chunk in
-    let fits : at + chunk ≤ length l = omega arith in
-    let long : length (take chunk (drop at l)) ≡ chunk = simp (length-take, length-drop) (omega arith) in
-    let kept : length r ≡ chunk = rw e at c.fill_mask.auto.out ∙ long in
-    rw e (record { by_index = (λ i h. put_in at chunk l r fits kept i h ∙ c.fill_mask.ensures i h); rows_kept = put_other a.b chunk l r fits kept })
+    let filled = c.fill_mask in
+    let fits : a.b * chunk + chunk ≤ length a.masks.now = omega arith in record {
+      by_index = (λ i h. part-is a.b chunk a.masks.now filled.new.out fits filled.auto.out i h ∙ filled.ensures i h);
+      rows_kept = others-kept a.b chunk a.masks.now filled.new.out fits filled.auto.out;
+    }

@@ -91,8 +91,6 @@ pub loop-s-init : goal.loop-s-init
 loop-s-init c =
     let a = c.args in
     let filled = c.fill_part in (
-      omega arith,
-      refl,
       refl,
       (λ v f h k.
           let none : v ≡ 0 = omega arith in
@@ -158,19 +156,16 @@ fill_next-requires c =
     let a = c.args in
     let l = c.loop-s in
     let long : length (c.add_row.new.dst ++ drop a.w zeros) ≡ 48 = whole a.w c.add_row.new.dst pre.4 (c.add_row.auto.dst ∙ front a.w pre.4) in
-    let twice = doubled a.size l.s l.count c.loop-s-test.true pre.3 l.invariant.1 in
+    let twice = doubled a.size l.s l.count c.loop-s-test.true pre.3 l.invariant.0 in
     let inside : a.g * a.entries + l.count + l.count ≤ a.g * a.entries + a.entries = omega (arith, twice.0, pre.2) in
-    (omega (arith, pre.0, l.invariant.2, c.fill_part.auto.dst, mul-le-mul_right a.w inside), length-take-le a.w (c.add_row.new.dst ++ drop a.w zeros) (omega (arith, pre.4, long)), pre.4, pre.5)
+    (omega (arith, pre.0, l.auto.sums, c.fill_part.auto.dst, mul-le-mul_right a.w inside), length-take-le a.w (c.add_row.new.dst ++ drop a.w zeros) (omega (arith, pre.4, long)), pre.4, pre.5)
 
 pub overflow_mul-count : goal.overflow_mul-count
 overflow_mul-count c =
     let l = c.loop-s in
     let a = c.args in
-    let more = doubled a.size l.s l.count c.loop-s-test.true c.requires.3 l.invariant.1 in
+    let more = doubled a.size l.s l.count c.loop-s-test.true c.requires.3 l.invariant.0 in
     omega (arith, more.0, more.2)
-
-pub loop-s-smaller : goal.loop-s-smaller
-loop-s-smaller c = omega (arith, c.loop-s-test.true)
 
 pub loop-s-preserved : goal.loop-s-preserved
 loop-s-preserved c =
@@ -181,12 +176,10 @@ loop-s-preserved c =
     let added = c.add_row in
     let done = c.fill_next in
     let long : length added.new.dst ≡ a.w = added.auto.dst ∙ front a.w pre.4 in (
-      omega (arith, hs),
-      (doubled a.size l.s l.count hs pre.3 l.invariant.1).1,
-      done.auto.sums ∙ l.invariant.2,
-      more a.table.now l.sums done.new.sums (take a.w (added.new.dst ++ drop a.w zeros)) a.w a.size a.entries a.g l.s l.count hs l.invariant.1 l.invariant.3
+      (doubled a.size l.s l.count hs pre.3 l.invariant.0).1,
+      more a.table.now l.sums done.new.sums (take a.w (added.new.dst ++ drop a.w zeros)) a.w a.size a.entries a.g l.s l.count hs l.invariant.0 l.invariant.1
           (row_is a.w (a.g * a.size + l.s) added.new.dst a.table.now pre.4 long added.ensures) done.ensures.by_index done.ensures.by_index_2,
-      (λ q f h k. done.ensures.by_index_2 q f (omega (arith, h)) k ∙ l.invariant.4 q f h k),
+      (λ q f h k. done.ensures.by_index_2 q f (omega (arith, h)) k ∙ l.invariant.2 q f h k),
     )
 
 pub returns : goal.returns
@@ -194,6 +187,6 @@ returns c =
     let a = c.args in
     let pre = c.requires in
     let l = c.loop-s in
-    let end : l.s ≡ a.size = omega (arith, l.invariant.0, c.loop-s-test) in
-    let all : l.count ≡ a.entries = l.invariant.1 ∙ ap (λ (x : ℕ). 2 ^ x) end ∙ sym pre.2 in
-    record { group_filled = (λ v f h k. l.invariant.3 v f (omega (arith, all, h)) k); by_index = λ q f h k. l.invariant.4 q f h k ∙ c.fill_part.ensures.rows_kept q f (λ e. omega (arith, h, e)) k }
+    let end : l.s ≡ a.size = omega arith in
+    let all : l.count ≡ a.entries = l.invariant.0 ∙ ap (λ (x : ℕ). 2 ^ x) end ∙ sym pre.2 in
+    record { group_filled = (λ v f h k. l.invariant.1 v f (omega (arith, all, h)) k); by_index = λ q f h k. l.invariant.2 q f h k ∙ c.fill_part.ensures.rows_kept q f (λ e. omega (arith, h, e)) k }

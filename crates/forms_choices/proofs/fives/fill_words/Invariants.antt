@@ -9,6 +9,3 @@ use Rattle.forms_choices.proofs.fives.fill_words.Given as goal
 
 abbrev pub invariant-loop-e : goal.invariant-loop-e
 invariant-loop-e l = let words = l.words in let e = l.e in (e ≤ l.tau) × (length words ≡ length l.initial.words) × ((q : ℕ) → q < e * 8 → Chosen (λ r i. byte_at l.chi (r * l.stride + l.from + i)) l.m words q)
-
-abbrev pub decreases-loop-e : goal.decreases-loop-e
-decreases-loop-e l = l.tau - l.e

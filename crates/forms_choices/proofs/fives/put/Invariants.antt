@@ -13,6 +13,3 @@ word picks at k x = fives_word picks (at + k * 10)
 
 abbrev pub invariant-loop-k : goal.invariant-loop-k
 invariant-loop-k l = (l.k ≤ 4) × (l.row ≡ changed (word l.picks l.at) l.initial.row l.k) × (length l.row ≡ length l.initial.row)
-
-abbrev pub decreases-loop-k : goal.decreases-loop-k
-decreases-loop-k l = 4 - l.k

@@ -11,6 +11,3 @@ use Rattle.forms_choices.proofs.fives.put_rows.Given as goal
 abbrev pub invariant-loop-p : goal.invariant-loop-p
 invariant-loop-p l = let words = l.words in let p = l.p in (p ≤ 8) × (length words ≡ length l.initial.words) × ((q k : ℕ) → q < p → k < 4 → byte_at words ((l.e * 8 + q) * 4 + k) ≡ fives_word l.picks (q * 32 + k * 10))
     × ((q k : ℕ) → q < l.e * 8 → k < 4 → byte_at words (q * 4 + k) ≡ byte_at l.initial.words (q * 4 + k))
-
-abbrev pub decreases-loop-p : goal.decreases-loop-p
-decreases-loop-p l = 8 - l.p

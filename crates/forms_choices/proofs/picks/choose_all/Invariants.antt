@@ -9,6 +9,3 @@ use Rattle.forms_choices.proofs.picks.choose_all.Given as goal
 
 abbrev pub invariant-loop-p : goal.invariant-loop-p
 invariant-loop-p l = (l.p ≤ 8) × (length l.picks ≡ length l.initial.picks) × RowsAre (choice (in_rows l.rows)) l.picks l.p 32
-
-abbrev pub decreases-loop-p : goal.decreases-loop-p
-decreases-loop-p l = 8 - l.p

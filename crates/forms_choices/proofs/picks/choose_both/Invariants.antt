@@ -9,6 +9,3 @@ use Rattle.forms_choices.proofs.picks.choose_both.Given as goal
 
 abbrev pub invariant-loop-g : goal.invariant-loop-g
 invariant-loop-g l = let plane = l.plane in let g = l.g in (g ≤ 16) × (length plane ≡ length l.initial.plane) × ((k : ℕ) → k < g → (byte_at plane k ≡ choice (in_rows l.rows) l.p (0 * 16 + k)) × (byte_at plane (16 + k) ≡ choice (in_rows l.rows) l.p (1 * 16 + k)))
-
-abbrev pub decreases-loop-g : goal.decreases-loop-g
-decreases-loop-g l = 16 - l.g

@@ -1,13 +1,8 @@
 -- `trees::fours::add_fours` meets its contract. The invariant: where `Running` held of the leaves below `from`, it
--- holds of those below j.
+-- holds of those of the k fours passed too.
 -- Assumes nothing.
-use borrow.Author.Rules.{rules}
-use Prim.Native.Nat.{ℕ, ◌+◌, ◌-◌, ◌≤◌, ◌<◌}
-use mathlib.Core.Path.{◌≡◌, refl, sym, ap, ◌∙◌}
-use mathlib.Core.List.{List}
-use native.Mathlib.Omega.{arith}
+use Rattle.std.proofs.Common.{◌≡◌, ℕ, ◌+◌, ◌*◌, ◌-◌, ◌<◌, ◌≤◌, List, length, refl, sym, ap, ◌∙◌, arith}
 use lib.Bits.{bit_xor}
-use lib.ListN.{length}
 use Rattle.protocol.specs.Lists.{block_at}
 use Rattle.strings.specs.Sums.{byte_at}
 use Rattle.strings.proofs.Rows.{row-end}
@@ -16,143 +11,66 @@ use Rattle.trees.proofs.SixteenLaws.{held_put}
 use Rattle.trees.proofs.FourLaws.{four-fits, held_more}
 use Rattle.trees.proofs.fours.add_fours.Goals as goal
 
-pub loop-j-init : goal.loop-j-init
-loop-j-init c =
-    let a = c.args in (
-      search rules,
-      search rules,
-      search rules,
-      search rules,
-      four-fits a.s.from a.s.to a.s.skip a.s.from a.w (length a.tree.now) (omega arith) (omega arith) (omega arith) c.requires.fours_fit.5,
-      c.requires.sum_len,
-      λ f placed run. run,
-    )
-
-pub overflow_sub-place : goal.overflow_sub-place
-overflow_sub-place c =
-    let l = c.loop-j in
-    let fits = l.invariant.4 (omega arith) in
-    omega arith
-
-pub row_at-requires : goal.row_at-requires
-row_at-requires c =
+pub row_at-requires-in-loop-k : goal.row_at-requires-in-loop-k
+row_at-requires-in-loop-k c =
     let a = c.args in
-    let l = c.loop-j in
-    let fits = l.invariant.4 (omega arith) in
-    omega (arith, row-end (l.j - a.s.skip) (a.s.to - a.s.skip) a.w (omega arith))
+    let run = a.run in
+    let place = run.from + c.loop-k.k * 4 - run.skip in
+    let fits = four-fits run.from run.to run.skip c.loop-k.k a.w (length a.tree.now) c.requires.3 c.requires.4 c.requires.5 (omega arith) in
+    omega (arith, row-end (place + 1) (run.to - run.skip) a.w (omega arith))
 
-pub overflow_add-place : goal.overflow_add-place
-overflow_add-place c =
-    let l = c.loop-j in
-    let fits = l.invariant.4 (omega arith) in
-    omega arith
-
-pub row_at-requires-in-loop-j : goal.row_at-requires-in-loop-j
-row_at-requires-in-loop-j c =
+pub row_at-requires-in-loop-k-2 : goal.row_at-requires-in-loop-k-2
+row_at-requires-in-loop-k-2 c =
     let a = c.args in
-    let l = c.loop-j in
-    let fits = l.invariant.4 (omega arith) in
-    omega (arith, row-end (l.j - a.s.skip + 1) (a.s.to - a.s.skip) a.w (omega arith))
+    let run = a.run in
+    let place = run.from + c.loop-k.k * 4 - run.skip in
+    let fits = four-fits run.from run.to run.skip c.loop-k.k a.w (length a.tree.now) c.requires.3 c.requires.4 c.requires.5 (omega arith) in
+    omega (arith, row-end (place + 2) (run.to - run.skip) a.w (omega arith))
 
-pub overflow_add-place-in-loop-j : goal.overflow_add-place-in-loop-j
-overflow_add-place-in-loop-j c =
-    let l = c.loop-j in
-    let fits = l.invariant.4 (omega arith) in
-    omega arith
-
-pub row_at-requires-in-loop-j-2 : goal.row_at-requires-in-loop-j-2
-row_at-requires-in-loop-j-2 c =
+pub row_at-requires-in-loop-k-3 : goal.row_at-requires-in-loop-k-3
+row_at-requires-in-loop-k-3 c =
     let a = c.args in
-    let l = c.loop-j in
-    let fits = l.invariant.4 (omega arith) in
-    omega (arith, row-end (l.j - a.s.skip + 2) (a.s.to - a.s.skip) a.w (omega arith))
+    let run = a.run in
+    let place = run.from + c.loop-k.k * 4 - run.skip in
+    let fits = four-fits run.from run.to run.skip c.loop-k.k a.w (length a.tree.now) c.requires.3 c.requires.4 c.requires.5 (omega arith) in
+    omega (arith, row-end (place + 3) (run.to - run.skip) a.w (omega arith))
 
-pub add_three-requires : goal.add_three-requires
-add_three-requires c =
-    let l = c.loop-j in
-    (l.invariant.5.0, l.invariant.5.2, l.invariant.5.3, omega (arith, c.row_at.ensures.1), omega (arith, c.row_at-in-loop-j.ensures.1), omega (arith, c.row_at-in-loop-j-2.ensures.1))
-
-pub overflow_add-place-in-loop-j-2 : goal.overflow_add-place-in-loop-j-2
-overflow_add-place-in-loop-j-2 c =
-    let l = c.loop-j in
-    let fits = l.invariant.4 (omega arith) in
-    omega arith
-
-pub row_at-requires-in-loop-j-3 : goal.row_at-requires-in-loop-j-3
-row_at-requires-in-loop-j-3 c =
+pub loop-k-preserved : goal.loop-k-preserved
+loop-k-preserved c =
     let a = c.args in
-    let l = c.loop-j in
-    let fits = l.invariant.4 (omega arith) in
-    omega (arith, row-end (l.j - a.s.skip + 3) (a.s.to - a.s.skip) a.w (omega arith))
-
-pub add_sixteen-requires : goal.add_sixteen-requires
-add_sixteen-requires c = (omega (arith, c.row_at-in-loop-j-3.ensures.1), c.add_three.ensures.sum_len.0)
-
-pub overflow_add-j : goal.overflow_add-j
-overflow_add-j c =
-    let l = c.loop-j in
-    let fits = l.invariant.4 (omega arith) in
-    omega arith
-
-pub held_row-requires : goal.held_row-requires
-held_row-requires c =
-    let l = c.loop-j in
-    let fits = l.invariant.4 (omega (arith, c.loop-j-test)) in
-    (omega (arith, c.requires.fours_fit.1), omega (arith, c.requires.fours_fit.0))
-
-pub add_held-requires : goal.add_held-requires
-add_held-requires c = (omega (arith, c.held_row.ensures.upper_bound, c.requires.fours_fit.0), c.loop-j.invariant.5.1, c.add_sixteen.ensures.sum_len)
-
-pub overflow_add-j-in-loop-j : goal.overflow_add-j-in-loop-j
-overflow_add-j-in-loop-j c =
-    let l = c.loop-j in
-    let fits = l.invariant.4 (omega (arith, c.loop-j-test)) in
-    omega (arith, c.requires.fours_fit.1)
-
-pub loop-j-preserved : goal.loop-j-preserved
-loop-j-preserved c =
-    let a = c.args in
+    let run = a.run in
     let tree = a.tree.now in
-    let l = c.loop-j in
-    let j = l.j in
+    let l = c.loop-k in
+    let j = run.from + l.k * 4 in
     let one = c.row_at in
-    let two = c.row_at-in-loop-j in
-    let three = c.row_at-in-loop-j-2 in
+    let two = c.row_at-in-loop-k in
+    let three = c.row_at-in-loop-k-2 in
     let added = c.add_three in
-    let four = c.row_at-in-loop-j-3 in
-    let leaf = c.add_sixteen in
+    let four = c.row_at-in-loop-k-3 in
+    let leaf = c.add_at in
     let row = c.held_row in
-    let more = c.add_held in
-    let below = c.loop-j-test in
-    let fits = l.invariant.4 (omega (arith, below)) in (
-      omega arith,
-      omega arith,
-      omega arith,
-      omega arith,
-      four-fits a.s.from a.s.to a.s.skip (j + 4) a.w (length tree) (omega arith) (omega arith) (omega arith) c.requires.fours_fit.5,
-      (leaf.ensures.sum_len, more.ensures.held_len, added.ensures.sum_len.1, added.ensures.sum_len.2),
-      (λ f placed run.
-          let handed : (i k : ℕ) (s : List ℕ) → j ≤ i → i < a.s.to → i - a.s.skip ≡ k → s ≡ block_at tree a.w k → Handed f i s a.s.at =
-          λ i k s low high is same b h. placed i (omega arith) high b h ∙ sym (ap (λ t. byte_at t (a.s.at + b)) (same ∙ ap (block_at tree a.w) (sym is))) in
-          let run3 =
-          added.ensures.three_added f (held_plane l.held a.r) a.r j fits.0
-          (handed j (j - a.s.skip) one.result.now (omega arith) (omega arith) refl one.ensures.0)
-          (handed (j + 1) (j - a.s.skip + 1) two.result.now (omega arith) (omega arith) (omega arith) two.ensures.0)
-          (handed (j + 2) (j - a.s.skip + 2) three.result.now (omega arith) (omega arith) (omega arith) three.ensures.0)
-          (l.invariant.6 f placed run) in
-          let run4 =
-          held_more f (held_plane l.held a.r) a.r (j + 3) (byte_at added.new.sum) (byte_at added.new.first) (byte_at added.new.second) (byte_at leaf.new.sum) run3
-          (λ b h. leaf.ensures.by_index b h ∙ ap (bit_xor (byte_at added.new.sum b)) (sym (handed (j + 3) (j - a.s.skip + 3) four.result.now (omega arith) (omega arith) (omega arith) four.ensures.0 b h)))
-          (held_plane more.new.held a.r)
-          (λ p b hp hb.
-          held_put l.held more.new.held a.r row.result p b (byte_at leaf.new.sum b) _ (row.ensures.by_index p hp) (more.ensures.row_added b hb) (λ k other. more.ensures.rows_kept k b other hb)) in
-          let end : j + 3 + 1 ≡ j + 4 = omega arith in
-          rw end at run4),
-    )
+    let more = c.xor_row in
+    let fits = four-fits run.from run.to run.skip l.k a.w (length tree) c.requires.3 c.requires.4 c.requires.5 (omega arith) in
+    λ f placed running.
+    let handed : (i k : ℕ) (s : List ℕ) → j ≤ i → i < run.to → i - run.skip ≡ k → s ≡ block_at tree a.w k → Handed f i s run.at =
+    λ i k s low high is same b h. placed i (omega arith) high b h ∙ sym (ap (λ t. byte_at t (run.at + b)) (same ∙ ap (block_at tree a.w) (sym is))) in
+    let run3 =
+    added.ensures f (held_plane l.held 8) 8 j fits.0
+    (handed j (j - run.skip) one.result.now (omega arith) (omega arith) refl one.ensures.0)
+    (handed (j + 1) (j - run.skip + 1) two.result.now (omega arith) (omega arith) (omega arith) two.ensures.0)
+    (handed (j + 2) (j - run.skip + 2) three.result.now (omega arith) (omega arith) (omega arith) three.ensures.0)
+    (l.invariant f placed running) in
+    let run4 =
+    held_more f (held_plane l.held 8) 8 (j + 3) (byte_at added.new.sum) (byte_at added.new.first) (byte_at added.new.second) (byte_at leaf.new.dst) run3
+    (λ b h. leaf.ensures b h ∙ ap (bit_xor (byte_at added.new.sum b)) (sym (handed (j + 3) (j - run.skip + 3) four.result.now (omega arith) (omega arith) (omega arith) four.ensures.0 b h)))
+    (held_plane more.new.table 8)
+    (λ p b hp hb.
+    held_put l.held more.new.table leaf.new.dst 8 row.result p b _ leaf.array_long hb (row.ensures.by_index p hp) more.ensures.row_added more.ensures.rows_kept) in
+    let end : j + 3 + 1 ≡ run.from + (l.k + 1) * 4 = omega arith in
+    rw end at run4
 
 pub returns : goal.returns
 returns c =
-    let a = c.args in
-    let l = c.loop-j in
-    let end : l.j ≡ a.s.to = omega arith in
-    record { sum_len_2 = l.invariant.5; by_index = λ f placed run. rw end at (l.invariant.6 f placed run) }
+    let run = c.args.run in
+    let end : run.from + c.loop-k.k * 4 ≡ run.to = omega arith in
+    λ f placed running. rw end at (c.loop-k.invariant f placed running)

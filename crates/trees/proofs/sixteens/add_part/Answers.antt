@@ -19,19 +19,14 @@ opened_leaf-requires c =
 pub returns-then-j-delta : goal.returns-then-j-delta
 returns-then-j-delta c =
     let a = c.args in
-    let leaf = opened_leaf a.w a.delta a.tree.now a.j in record {
-      sum_len = c.add_sixteen.ensures.sum_len;
-      by_index = λ b h.
-          c.add_sixteen.ensures.by_index b h
-          ∙ ap (λ (s : List ℕ). bit_xor (byte_at a.sum.now b) (byte_at s (a.at + b))) c.opened_leaf.ensures.0
-          ∙ sym (ap (λ q. bit_xor (byte_at a.sum.now b) (cond q 0 (byte_at leaf (a.at + b)))) (eqb-other a.j a.delta (λ e. omega arith)));
-    }
+    let leaf = opened_leaf a.w a.delta a.tree.now a.j in
+    λ b h.
+    c.add_at.ensures b h
+    ∙ ap (λ (s : List ℕ). bit_xor (byte_at a.sum.now b) (byte_at s (a.at + b))) c.opened_leaf.ensures.0
+    ∙ sym (ap (λ q. bit_xor (byte_at a.sum.now b) (cond q 0 (byte_at leaf (a.at + b)))) (eqb-other a.j a.delta (λ e. omega arith)))
 
 pub returns-else-j-delta : goal.returns-else-j-delta
 returns-else-j-delta c =
     let a = c.args in
-    let leaf = opened_leaf a.w a.delta a.tree.now a.j in record {
-      sum_len = c.requires.2;
-      by_index = λ b h.
-          sym (ap (λ q. bit_xor (byte_at a.sum.now b) (cond q 0 (byte_at leaf (a.at + b)))) (eqb_same a.j a.delta (omega arith)) ∙ xor_zero_r (byte_at a.sum.now b));
-    }
+    let leaf = opened_leaf a.w a.delta a.tree.now a.j in
+    λ b h. sym (ap (λ q. bit_xor (byte_at a.sum.now b) (cond q 0 (byte_at leaf (a.at + b)))) (eqb_same a.j a.delta (omega arith)) ∙ xor_zero_r (byte_at a.sum.now b))

@@ -1,15 +1,11 @@
 -- `trees::sixteens::hold` meets its contract: `Running` holds of no leaf, and then of those below each cut, up to all.
 -- Assumes nothing.
-use Prim.Native.Nat.{ℕ, ◌+◌, ◌*◌, ◌-◌, ◌/◌, ◌<◌}
-use mathlib.Core.Path.{◌≡◌, refl, ◌∙◌}
-use mathlib.Core.List.{List}
-use native.Mathlib.Omega.{arith}
+use Rattle.std.proofs.Common.{◌≡◌, ℕ, ◌+◌, ◌*◌, ◌-◌, ◌/◌, ◌<◌, List, refl, ◌∙◌, arith}
 use Rattle.strings.specs.Sums.{byte_at}
 use Rattle.strings.proofs.SumLaws.{sum_same, sum-none}
 use Rattle.trees.specs.Trees.{leaf_byte}
 use Rattle.trees.specs.Partial.{held_plane, RunningHeld}
 use Rattle.trees.proofs.PartialLaws.{running_none}
-use Rattle.strings.proofs.LeastLaws.{under_least}
 use Rattle.trees.proofs.FourLaws.{below-leaf, above-leaf, before-fits, after-fits, cut_out}
 use Rattle.trees.proofs.sixteens.hold.Goals as goal
 
@@ -22,69 +18,54 @@ nothing-held f sum held no-sum no_rows =
 pub hold_fours-requires : goal.hold_fours-requires
 hold_fours-requires c =
     let a = c.args in
-    let m = c.least in record {
-      sum_len = (c.requires.sum_len.0, c.requires.sum_len.1);
-      fours_fit = (omega arith, omega arith, omega arith, omega arith, omega arith, λ lt. (refl, omega arith, before-fits a.tree.now a.w a.delta a.count c.requires.sum_len.4 (m.result / 4 * 4) (omega arith) (omega arith) lt));
-    }
+    let fits = c.requires.fits in
+    let cut = c.min.result / 4 * 4 in
+    (omega arith, omega arith, fits.1, omega arith, omega arith, λ lt. (refl, omega arith, before-fits a.tree.now a.w a.delta a.count fits.2 cut (omega arith) (omega arith) lt))
 
 pub hold_leaves-requires : goal.hold_leaves-requires
 hold_leaves-requires c =
-    let m = c.least in
-    let next = c.least-next in
-    let fours = c.hold_fours in
-    (fours.ensures.sum_len_2.0, fours.ensures.sum_len_2.1, omega arith, under_least (m.result / 4 * 4) next.result (m.result / 4 * 4 + 4) c.args.count next.ensures.2 (omega arith) (omega arith), omega arith, omega arith, λ j lt other. c.requires.sum_len.4 j (omega arith) other)
+    (omega arith, omega arith, c.requires.fits.1, λ j lt other. c.requires.fits.2 j (omega arith) other)
 
 pub hold_fours-requires-then-cut-count : goal.hold_fours-requires-then-cut-count
 hold_fours-requires-then-cut-count c =
     let a = c.args in
-    let m = c.least in
-    let next = c.least-next in
-    let leaves = c.hold_leaves in record {
-      sum_len = (leaves.ensures.sum_len.0, leaves.ensures.sum_len.1);
-      fours_fit = (
-        omega arith,
-        omega arith,
-        omega arith,
-        omega arith,
-        omega arith,
-        λ lt.
-            let cut = cut_out a.delta a.count m.result next.result m.ensures.0 m.ensures.2 next.ensures.0 next.ensures.2 (omega arith) in
-            (cut.0, omega arith, after-fits a.tree.now a.w a.delta a.count c.requires.sum_len.4 (next.result + (a.count - next.result) / 4 * 4) (omega arith) (omega arith)),
-      );
-    }
+    let fits = c.requires.fits in
+    let next = c.min-next.result in (
+      omega arith,
+      omega arith,
+      fits.1,
+      omega arith,
+      omega arith,
+      λ lt.
+          let cut = cut_out a.delta a.count next (omega arith) (omega arith) in
+          (cut.0, omega arith, after-fits a.tree.now a.w a.delta a.count fits.2 (next + (a.count - next) / 4 * 4) (omega arith) (omega arith)),
+    )
 
 pub hold_leaves-requires-then-cut-count : goal.hold_leaves-requires-then-cut-count
-hold_leaves-requires-then-cut-count c =
-    let fours = c.hold_fours-then-cut-count in
-    let within = c.least-next.ensures.1 in
-    (fours.ensures.sum_len_2.0, fours.ensures.sum_len_2.1, omega arith, omega arith, omega arith, omega arith, c.requires.sum_len.4)
+hold_leaves-requires-then-cut-count c = (omega arith, c.requires.fits.0, c.requires.fits.1, c.requires.fits.2)
 
 pub returns-then-cut-count : goal.returns-then-cut-count
 returns-then-cut-count c =
     let a = c.args in
     let tree = a.tree.now in
     let f : ℕ → ℕ → ℕ = λ i b. leaf_byte tree a.w a.delta i (a.at + b) in
-    let m = c.least in
-    let next = c.least-next in
-    let leaves = c.hold_leaves-then-cut-count in
-    let run0 = nothing-held f a.sum.now a.held.now c.requires.by_index.0 c.requires.by_index.1 in
-    let run1 = c.hold_fours.ensures.by_index f (λ i low high b hb. below-leaf tree a.w a.delta i (omega arith) (a.at + b)) run0 in
-    let run2 = c.hold_leaves.ensures.running_leaves run1 in
+    let next = c.min-next.result in
+    let run0 = nothing-held f a.sum.now a.held.now c.requires.nothing.0 c.requires.nothing.1 in
+    let run1 = c.hold_fours.ensures f (λ i low high b hb. below-leaf tree a.w a.delta i (omega arith) (a.at + b)) run0 in
+    let run2 = c.hold_leaves.ensures run1 in
     let run3 =
-    c.hold_fours-then-cut-count.ensures.by_index f
+    c.hold_fours-then-cut-count.ensures f
     (λ i low high b hb.
-    let cut = cut_out a.delta a.count m.result next.result m.ensures.0 m.ensures.2 next.ensures.0 next.ensures.2 (omega arith) in
+    let cut = cut_out a.delta a.count next (omega arith) (omega arith) in
     above-leaf tree a.w a.delta i (omega arith) (a.at + b)) run2 in
-    record { sum_len_2 = leaves.ensures.sum_len; running_leaves = leaves.ensures.running_leaves run3 }
+    c.hold_leaves-then-cut-count.ensures run3
 
 pub returns-else-cut-count : goal.returns-else-cut-count
 returns-else-cut-count c =
     let a = c.args in
     let tree = a.tree.now in
     let f : ℕ → ℕ → ℕ = λ i b. leaf_byte tree a.w a.delta i (a.at + b) in
-    let m = c.least in
-    let fours = c.hold_fours in
-    let run0 = nothing-held f a.sum.now a.held.now c.requires.by_index.0 c.requires.by_index.1 in
-    let run1 = fours.ensures.by_index f (λ i low high b hb. below-leaf tree a.w a.delta i (omega arith) (a.at + b)) run0 in
-    let all : m.result / 4 * 4 ≡ a.count = omega arith in
-    record { sum_len_2 = fours.ensures.sum_len_2; running_leaves = rw all at run1 }
+    let run0 = nothing-held f a.sum.now a.held.now c.requires.nothing.0 c.requires.nothing.1 in
+    let run1 = c.hold_fours.ensures f (λ i low high b hb. below-leaf tree a.w a.delta i (omega arith) (a.at + b)) run0 in
+    let all : c.min.result / 4 * 4 ≡ a.count = omega arith in
+    rw all at run1

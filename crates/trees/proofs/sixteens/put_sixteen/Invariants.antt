@@ -1,14 +1,8 @@
 -- `trees::sixteens::put_sixteen` meets its contract. The invariant: i bytes are put, and the others are as they were.
 -- Assumes nothing.
-use Prim.Native.Nat.{◌-◌, ◌≤◌}
-use mathlib.Core.Path.{◌≡◌}
-use lib.ListN.{length}
 use Rattle.strings.specs.Sums.{byte_at}
 use Rattle.trees.proofs.SixteenLaws.{Changed}
 use Rattle.trees.proofs.sixteens.put_sixteen.Given as goal
 
 abbrev pub invariant-loop-i : goal.invariant-loop-i
-invariant-loop-i l = (l.i ≤ 16) × (length l.out ≡ length l.initial.out) × Changed (λ k x. byte_at l.sum k) l.initial.out l.out l.from l.i
-
-abbrev pub decreases-loop-i : goal.decreases-loop-i
-decreases-loop-i l = 16 - l.i
+invariant-loop-i l = Changed (λ k x. byte_at l.sum k) l.initial.out l.out l.from l.i
