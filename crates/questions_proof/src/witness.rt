@@ -9,7 +9,6 @@ ghost use Rattle.format.specs.Verdict.{answer_of};
 ghost use Rattle.questions.specs.Facts.{TestFacts};
 ghost use Rattle.questions_proof.specs.Solved.{ErrorsAs};
 
-use equations::Found;
 use format::sizes::{MOST_EQUATIONS, Sizes};
 use format::{Reason, Verdict};
 
@@ -18,10 +17,9 @@ fn answer(errors: &[u8]) -> Verdict
     requires { length errors.now ≤ 65536 }
     ensures { ErrorsAs errors.now (answer_of result) }
 {
-    let found = equations::first_failing(errors);
-    match found {
-        Found::At(i) => format::refuse(Reason::EquationFails, i as u16),
-        Found::Nothing => Verdict::Accepted,
+    match equations::first_failing(errors) {
+        Some(i) => format::refuse(Reason::EquationFails, i as u16),
+        None => Verdict::Accepted,
     }
 }
 

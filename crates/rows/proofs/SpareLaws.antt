@@ -2,25 +2,27 @@
 -- them all.
 -- Assumes nothing.
 use mathlib.Core.Path.{◌≡◌, refl, sym, ap, ap₂, ◌∙◌}
-use mathlib.Core.Bool.{Bool, true, false, ◌&&◌}
-use mathlib.Core.List.{List}
+use mathlib.Core.Bool.{Bool, true, ◌&&◌, and_assoc}
+use mathlib.Core.List.{List, [], ◌∷◌, map}
 use Prim.Native.Nat.{ℕ, zero, suc, ◌+◌, ◌*◌, ◌-◌, ◌/◌, ◌%◌, ◌^◌, ◌≤◌, ◌<◌}
 use native.Mathlib.Nat.{zero-div, zero-mul, min-le_left}
-use native.Mathlib.Numerals.{add-one}
 use native.Mathlib.Omega.{arith}
+use denote.Ref.{Bor}
+use Rattle.std.proofs.lemmas.Nat.{div-mul-add}
+use Rattle.std.proofs.Common.{Option, Some, None, IfSome, slice_get}
+use Rattle.std.specs.List.{fold, IsSubsliceAt}
 use lib.Bits.{bit_or, or_zero_l, or_add_and, and_le_l, and_le_r}
 use lib.Dec.{eqb, ltb}
 use lib.ListN.{length, get_or, drop, length-take}
 use lib.Pow.{shr-shr, shr_lt}
 use lib.Seq.{take_all}
 use Rattle.algebra.proofs.CountLaws.{and_left, and_right}
-use Rattle.galois.specs.Gf16.{gf16}
 use Rattle.protocol.specs.Lists.{all_below, part, block_at}
 use Rattle.protocol.specs.Strings.{bytes_for, bit, from_bits, spare_zero}
 use Rattle.protocol.specs.Setting.{Setting, alphabet_of}
 use Rattle.protocol.specs.Key.{rows_spare}
-use Rattle.rows.specs.Spare.{bits_spare}
-use Rattle.theorems.proofs.TestLaws.{eqb_same, eqb_eq, ltb_yes, and-true, both_true, bool_iff, all_of}
+use Rattle.rows.specs.Spare.{bits_spare, narrow}
+use Rattle.theorems.proofs.TestLaws.{eqb_same, eqb_eq, ltb_yes, and-true, both_true, bool_iff, all_of, all_congr}
 use Rattle.theorems.proofs.ElementLaws.{ltb_lt}
 use Rattle.theorems.proofs.ListLaws.{row-end, length-block, block_getD}
 use Rattle.theorems.proofs.StringLaws.{bits_of, bits_congr, spare-at}
@@ -39,11 +41,24 @@ or-zero a b =
 pub all_more : (n : ℕ) (p : ℕ → Bool) → all_below (suc n) p ≡ (all_below n p && p n)
 unfolding all_below
 all_more zero p = and-true (p 0)
-all_more (suc n) p = ap (λ b. p 0 && b) (all_more n (λ i. p (suc i))) ∙ assoc (p 0) _ _
-  where
-    assoc : (a b c : Bool) → (a && (b && c)) ≡ (a && b && c)
-    assoc true b c = refl
-    assoc false b c = refl
+all_more (suc n) p = ap (λ b. p 0 && b) (all_more n (λ i. p (suc i))) ∙ sym (and_assoc (p 0) _ _)
+
+-- ---- what a fold by or has found
+
+-- nothing, where f of each item is 0 and nothing was found before
+pub fold-or : {A : Type 0} (f : A → ℕ) (found : ℕ) (items : List A)
+    → eqb (fold (λ found x. bit_or found (f x)) found items) 0 ≡ (eqb found 0 && all_below (length items) (λ k. eqb (get_or (map f items) k 0) 0))
+unfolding all_below
+fold-or f found [] = sym (and-true (eqb found 0))
+fold-or f found (x ∷ xs) =
+    fold-or f (bit_or found (f x)) xs
+    ∙ ap (λ b. b && all_below (length xs) (λ k. eqb (get_or (map f xs) k 0) 0)) (or-zero found (f x))
+    ∙ and_assoc (eqb found 0) (eqb (f x) 0) _
+
+pub at-mapped : {A : Type 0} (f : A → ℕ) (Q : ℕ → Type 0) (items : List A) (k : ℕ) → k < length items → IfSome (slice_get items k) (λ x. Q (f x)) → Q (get_or (map f items) k 0)
+at-mapped f Q [] k h q = absurd (omega arith)
+at-mapped f Q (x ∷ xs) zero h q = q
+at-mapped f Q (x ∷ xs) (suc k) h q = at-mapped f Q xs k (omega arith) q
 
 -- ---- one row
 
@@ -109,7 +124,11 @@ last-is : (L i : ℕ) → 1 ≤ L % 8 → i * bytes_for L + L / 8 ≡ i * bytes_
 unfolding bytes_for
 last-is L i h = omega arith
 
--- a turn of the loop over the rows
+-- chunk k, of so many bytes, of s
+abbrev pub IsChunk : ℕ → List ℕ → ℕ → Bor (List ℕ) → Type 0
+IsChunk w s k chunk = (length chunk.now ≡ w) × (k * w + w ≤ length s) × IsSubsliceAt w s (k * w) chunk.now
+
+-- the rows, one after the other
 module _ (s : List ℕ) (L rows : ℕ) (len : length s ≡ rows * bytes_for L) (part : 1 ≤ L % 8) (byte : (i : ℕ) → get_or s i 0 < 256) where
   pub row_fits : (i : ℕ) → i < rows → (1 ≤ i * bytes_for L + bytes_for L) × (i * bytes_for L + bytes_for L ≤ length s)
   row_fits i h = (omega (arith, last_lt L part), omega (arith, row-end i rows (bytes_for L) h))
@@ -122,14 +141,39 @@ module _ (s : List ℕ) (L rows : ℕ) (len : length s ≡ rows * bytes_for L) (
       let b : get_or (block_at s w i) (L / 8) 0 ≡ get_or s (i * w + w - 1) 0 = block_getD s w i (L / 8) q ∙ ap (λ k. get_or s k 0) e in
       spare-high (block_at s w i) L (length-block s w i (row_fits i h).1) part (rw b (byte (i * w + w - 1))) ∙ ap (λ x. eqb (x / 2 ^ (L % 8)) 0) b
 
-  pub rows_more : (i found : ℕ) → i < rows → eqb found 0 ≡ bits_spare L i s
-      → eqb (bit_or found (get_or s (i * bytes_for L + bytes_for L - 1) 0 / 2 ^ (L % 8))) 0 ≡ bits_spare L (i + 1) s
-  unfolding bits_spare
-  rows_more i found h e = or-zero found _ ∙ ap₂ ◌&&◌ e (sym (row-high i h)) ∙ rw add-one (sym (all_more i (λ i. spare_zero (block_at s (bytes_for L) i) L)))
+  -- the rows of a fold over them: each has its last byte where row k of s has it
+  abbrev pub IsRow : ℕ → Bor (List ℕ) → Type 0
+  IsRow k row = get_or row.now (bytes_for L - 1) 0 ≡ get_or s (k * bytes_for L + bytes_for L - 1) 0
 
-pub no_rows : (L : ℕ) (s : List ℕ) → eqb 0 0 ≡ bits_spare L 0 s
-unfolding bits_spare all_below
-no_rows L s = refl
+  pub rows-fold : (items : List (Bor (List ℕ))) → length items ≡ rows → ((k : ℕ) → IfSome (slice_get items k) (IsRow k))
+      → eqb (fold (λ found row. bit_or found (get_or row.now (bytes_for L - 1) 0 / 2 ^ (L % 8))) 0 items) 0 ≡ bits_spare L rows s
+  unfolding bits_spare
+  rows-fold items e are =
+      let f : Bor (List ℕ) → ℕ = λ row. get_or row.now (bytes_for L - 1) 0 / 2 ^ (L % 8) in
+      fold-or f 0 items
+      ∙ rw e (all_congr rows _ _ (λ k h. at-mapped f (λ y. eqb y 0 ≡ spare_zero (block_at s (bytes_for L) k) L) items k (omega arith) (weaker k (slice_get items k) h (are k))))
+    where
+      weaker : (k : ℕ) (o : Option (Bor (List ℕ))) → k < rows → IfSome o (IsRow k)
+          → IfSome o (λ row. eqb (get_or row.now (bytes_for L - 1) 0 / 2 ^ (L % 8)) 0 ≡ spare_zero (block_at s (bytes_for L) k) L)
+      weaker k None h i = tt
+      weaker k (Some row) h i = ap (λ b. eqb (b / 2 ^ (L % 8)) 0) i ∙ sym (row-high k h)
+
+  -- the chunks of s, of a row each, are the rows
+  pub chunks-fold : (items : List (Bor (List ℕ))) (len : ℕ) (item : ℕ → Option (Bor (List ℕ))) → len ≡ length items → ((k : ℕ) → item k ≡ slice_get items k)
+      → len ≡ length s / bytes_for L → ((k : ℕ) → IfSome (item k) (IsChunk (bytes_for L) s k))
+      → eqb (fold (λ found row. bit_or found (get_or row.now (bytes_for L - 1) 0 / 2 ^ (L % 8))) 0 items) 0 ≡ bits_spare L rows s
+  chunks-fold items n item e at many are =
+      let w : 0 < bytes_for L = omega (arith, last_lt L part) in
+      let z : rows * bytes_for L + 0 ≡ length s = omega (arith, len) in
+      let q : length s / bytes_for L ≡ rows = rw (← z) (div-mul-add rows (bytes_for L) 0 w) in
+      rows-fold items (sym e ∙ many ∙ q) (λ k. rw (← at k) (row k (item k) (are k)))
+    where
+      row : (k : ℕ) (o : Option (Bor (List ℕ))) → IfSome o (IsChunk (bytes_for L) s k) → IfSome o (IsRow k)
+      row k None h = tt
+      row k (Some x) h =
+          let l : bytes_for L - 1 < bytes_for L = omega (arith, last_lt L part) in
+          let e : k * bytes_for L + (bytes_for L - 1) ≡ k * bytes_for L + bytes_for L - 1 = omega (arith, last_lt L part) in
+          h.2.2 (bytes_for L - 1) 0 l ∙ ap (λ i. get_or s i 0) e
 
 -- rows of bits, in every setting
 pub rows_are : (g : Setting) (L rows : ℕ) (s : List ℕ) {b : Bool} → b ≡ bits_spare L rows s → b ≡ rows_spare (alphabet_of g) L rows s
@@ -138,19 +182,16 @@ rows_are g L rows s h = h
 
 -- ---- bytes that are elements of the smaller field
 
--- the first i bytes are
-unfoldable pub narrow_to : ℕ → List ℕ → Bool
-narrow_to i s = all_below i (λ k. ltb (get_or s k 0) gf16.base.size)
-
-pub narrow-none : (s : List ℕ) → eqb 0 0 ≡ narrow_to 0 s
-unfolding narrow_to all_below
-narrow-none s = refl
-
 below_sixteen : (x : ℕ) → eqb (x / 16) 0 ≡ ltb x 16
 below_sixteen x = bool_iff _ _ (λ h. let e : x / 16 ≡ 0 = eqb_eq (x / 16) 0 h in ltb_yes x 16 (omega arith)) (λ h. let l : x < 16 = ltb_lt x 16 h in eqb_same (x / 16) 0 (omega arith))
 
-pub narrow_more : (i : ℕ) (s : List ℕ) (found : ℕ) → eqb found 0 ≡ narrow_to i s → eqb (bit_or found (get_or s i 0 / 16)) 0 ≡ narrow_to (i + 1) s
-unfolding narrow_to
-narrow_more i s found h =
-    or-zero found (get_or s i 0 / 16) ∙ ap₂ ◌&&◌ h (below_sixteen (get_or s i 0)) ∙ sym (all_more i (λ k. ltb (get_or s k 0) gf16.base.size))
-    ∙ ap (λ n. all_below n (λ k. ltb (get_or s k 0) gf16.base.size)) (sym (add-one i))
+pub narrow-fold : (s : List ℕ) → eqb (fold (λ found x. bit_or found (x / 16)) 0 s) 0 ≡ narrow s
+unfolding narrow
+narrow-fold s =
+    fold-or (λ x. x / 16) 0 s
+    ∙ all_congr (length s) _ _ (λ k h. at-mapped (λ x. x / 16) (λ y. eqb y 0 ≡ ltb (get_or s k 0) 16) s k h (narrow-at s k h))
+  where
+    narrow-at : (s : List ℕ) (k : ℕ) → k < length s → IfSome (slice_get s k) (λ x. eqb (x / 16) 0 ≡ ltb (get_or s k 0) 16)
+    narrow-at [] k h = absurd (omega arith)
+    narrow-at (x ∷ s) zero h = below_sixteen x
+    narrow-at (x ∷ s) (suc k) h = narrow-at s k (omega arith)

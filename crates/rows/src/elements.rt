@@ -11,11 +11,7 @@ use field::Gf16;
 fn above_narrow(s: &[u8]) -> u8
     ensures { eqb result 0 ≡ narrow s.now }
 {
-    let mut found: u8 = 0;
-    for i in 0..s.len() {
-        found |= s[i] / Gf16::SIZE as u8;
-    }
-    found
+    s.iter().fold(0, |found, x| found | x / Gf16::SIZE as u8)
 }
 
 // Is each byte an element of the field of the degree?

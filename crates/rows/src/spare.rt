@@ -14,11 +14,8 @@ fn spare_bits(s: &[u8], bits: usize, rows: usize) -> u8
 {
     let width = bytes_for(bits);
     let used = bits % BITS;
-    let mut found: u8 = 0;
-    for i in 0..rows {
-        found |= s[i * width + width - 1] >> used;
-    }
-    found
+    s.chunks_exact(width)
+        .fold(0, |found, row| found | row[width - 1] >> used)
 }
 
 // Are the spare bits of each row 0? The rows are of so many bits each, and fill s.

@@ -6,11 +6,11 @@ use Rattle.questions_proof.proofs.witness.answer.Goals as goal
 
 pub overflow_cast-i : goal.overflow_cast-i
 overflow_cast-i c =
-    let first = rw c.in-At.is at c.first_failing-found.ensures in
+    let first = rw c.in-Some.is at c.first_failing.ensures in
     omega (arith, first.0, c.requires)
 
-pub returns-in-At : goal.returns-in-At
-returns-in-At c = rw c.refuse.ensures (refl, rw c.in-At.is at c.first_failing-found.ensures)
+pub returns-in-Some : goal.returns-in-Some
+returns-in-Some c = rw c.refuse.ensures (refl, rw c.in-Some.is at c.first_failing.ensures)
 
-pub returns-in-Nothing : goal.returns-in-Nothing
-returns-in-Nothing c = rw c.in-Nothing.is at c.first_failing-found.ensures
+pub returns-in-None : goal.returns-in-None
+returns-in-None c = rw c.in-None.is at c.first_failing.ensures

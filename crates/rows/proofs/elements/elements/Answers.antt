@@ -1,4 +1,4 @@
--- `sections::elements::elements` meets its contract: at degree 4 the test is the definition's, and at any other every
+-- `rows::elements::elements` meets its contract: at degree 4 the test is the definition's, and at any other every
 -- byte is an element.
 -- Assumes nothing.
 use Rattle.rows.proofs.ElementLaws.{tested-elements}

@@ -1,4 +1,4 @@
--- `sections::spare::row_spare` meets its contract. One row is a table of one row.
+-- `rows::spare::row_spare` meets its contract. One row is a table of one row.
 -- Assumes nothing.
 use mathlib.Core.Path.{◌∙◌}
 use Rattle.rows.proofs.SpareLaws.{one-row}

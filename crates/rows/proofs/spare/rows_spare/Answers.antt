@@ -1,4 +1,4 @@
--- `sections::spare::rows_spare` meets its contract. Rows of whole bytes have no spare bits.
+-- `rows::spare::rows_spare` meets its contract. Rows of whole bytes have no spare bits.
 -- Assumes nothing.
 use mathlib.Core.Path.{sym}
 use Rattle.rows.proofs.SpareLaws.{whole-bytes}
