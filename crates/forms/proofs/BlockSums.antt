@@ -5,6 +5,8 @@ use mathlib.Core.Path.{◌≡◌, sym, ap, ap₂, ◌∙◌}
 use mathlib.Core.List.{List}
 use Prim.Native.Nat.{ℕ, ◌+◌, ◌*◌, ◌≤◌, ◌<◌}
 use native.Mathlib.Nat.{add_assoc, add-mul, mul-le-mul, le_refl}
+use Rattle.std.proofs.Common.{arith}
+use Rattle.std.specs.Int.{div_ceil}
 use lib.ListN.{take, drop}
 use lib.Bits.{bit_xor}
 use Rattle.algebra.specs.Coded.{mul_byte}
@@ -17,6 +19,11 @@ use Rattle.equations.specs.Equations.{row_of, matrix_of}
 use Rattle.equations.proofs.BlockLaws.{block-part}
 use Rattle.forms.specs.Forms.{form_byte, middle_byte}
 use Rattle.forms.specs.Batch.{block_forms, block_middles}
+
+-- the bytes of a row, as the code counts them
+pub width_is : (n w : ℕ) → w ≡ div_ceil n 8 → w ≡ bytes_for n
+unfolding bytes_for
+width_is n w is = omega (arith, is)
 
 -- a block of rows is inside the rows
 pub part-inside : (from count m w : ℕ) {long : ℕ} → from + count ≤ m → long ≡ m * w → from * w + count * w ≤ long

@@ -14,10 +14,10 @@ use chunks::{CHUNK, MOST_BLOCK};
 use format::sizes::MOST_VARIABLES;
 use forms_batching::lines::LINES;
 use forms_batching::panels::Batch;
-use forms_choices::fives::ROW_WORDS;
+use forms_choices::fives::{ROW_WORDS, fill_words, groups_for};
 use forms_pieces::add_forms;
 use lanes::{Dimensions, LANES};
-use strings::{BITS, least};
+use strings::BITS;
 
 // The words of the choices: a row for each bit of a byte, for each of as many repetitions as a key may have.
 const WORDS: usize = BITS * LANES * ROW_WORDS;
@@ -38,7 +38,7 @@ fn put_table(lines: &mut [u8], g: usize, b: &[u8], width: usize, m: usize)
     ensures by_index { (i f : ℕ) → i < m → f < chunk → g * chunk + f < width → cell_at lines.new (g * m + i) f ≡ byte_at b.now (i * width + (g * chunk + f)) }
     ensures by_index_2 { (r f : ℕ) → r < g * m → f < chunk → cell_at lines.new r f ≡ cell_at lines.old r f }
 {
-    let len = least(width - g * CHUNK, CHUNK);
+    let len = CHUNK.min(width - g * CHUNK);
     for i in 0..m {
         put_chunk(lines, g * m + i, b, i * width + g * CHUNK, len);
     }
@@ -49,10 +49,8 @@ fn put_lines(lines: &mut [u8], b: &[u8], width: usize, m: usize)
     requires { LinesFit m lines.old × (length b.now ≡ m * width) × (width ≤ lines_tables * chunk) }
     ensures { LinesAre m width b.now lines.new }
 {
-    let mut g = 0;
-    while g * CHUNK < width {
+    for g in 0..width.div_ceil(CHUNK) {
         put_table(lines, g, b, width, m);
-        g += 1;
     }
 }
 
@@ -63,64 +61,6 @@ fn rows_at(table: &[u8], width: usize, first: usize, count: usize) -> &[u8]
 {
     let at = first * width;
     &table[at..at + count * width]
-}
-
-// A block of a key's equations: `count` of its m, from `from` on, in n variables, for tau repetitions. The polar form
-// is asked for or not. The degree of the field.
-#[derive(Clone, Copy)]
-pub struct Block {
-    pub n: usize,
-    pub m: usize,
-    pub tau: usize,
-    pub from: usize,
-    pub count: usize,
-    pub polar: bool,
-    pub degree: usize,
-}
-
-// What a block of equations adds: see `batch_forms`. The sections a and b are lent from the block's first equation to
-// its last.
-fn batch_block(
-    quad: &mut [u8; LANES],
-    lin: &mut [u8; LANES],
-    cells: &mut [u8],
-    a: &[u8],
-    b: &[u8],
-    xs: &[u8],
-    chi: &[u8],
-    vectors: &[u8],
-    k: Block,
-)
-    requires { BlockInputs k.degree k.n k.m k.tau k.from k.count quad.old lin.old cells.old a.now b.now xs.now chi.now vectors.now k.polar }
-    ensures lanes_added { LanesAdded k.tau (λ e. block_forms k.degree k.n k.m k.from k.count a.now chi.now e (coordinate_of vectors.now e))
-        quad.old quad.new }
-    ensures lanes_added_2 { LanesAdded k.tau
-        (λ e. block_middles k.degree k.n k.m k.from k.count a.now b.now (byte_at xs.now) chi.now e (coordinate_of vectors.now e))
-        lin.old lin.new }
-{
-    let n = k.n;
-    let m = k.m;
-    let tau = k.tau;
-    let from = k.from;
-    let count = k.count;
-    let polar = k.polar;
-    let degree = k.degree;
-    let groups = forms_choices::fives::groups_for(count);
-    let width = (n + 7) / BITS;
-    let mut words = [0u64; WORDS];
-    let mut lines = [0u8; LINES];
-    forms_choices::fives::fill_words(&mut words, chi, m, from, count, tau);
-    put_lines(&mut lines, b, width, count);
-    let s = Batch {
-        n,
-        width,
-        m: count,
-        tau,
-        groups,
-        polar,
-        degree,
-    };
-    add_forms(quad, lin, &mut lines, cells, a, &words, vectors, xs, s);
 }
 
 // How many equations there are, of how many variables, for how many repetitions; whether the polar form is asked for;
@@ -134,11 +74,58 @@ pub struct Forms {
     pub degree: usize,
 }
 
+// A block of a key's equations: `count` of them, from `from` on.
+#[derive(Clone, Copy)]
+pub struct Block {
+    pub forms: Forms,
+    pub from: usize,
+    pub count: usize,
+}
+
+// What a block of equations adds: see `batch_forms`. The sections a and b are lent from the block's first equation to
+// its last.
+fn batch_block(
+    quad: &mut [u8],
+    lin: &mut [u8; LANES],
+    cells: &mut [u8],
+    a: &[u8],
+    b: &[u8],
+    xs: &[u8],
+    chi: &[u8],
+    vectors: &[u8],
+    k: Block,
+)
+    requires { BlockInputs k.forms.degree k.forms.n k.forms.m k.forms.tau k.from k.count quad.old lin.old cells.old a.now b.now xs.now chi.now vectors.now k.forms.polar }
+    ensures lanes_added { LanesAdded k.forms.tau (λ e. block_forms k.forms.degree k.forms.n k.forms.m k.from k.count a.now chi.now e (coordinate_of vectors.now e))
+        quad.old quad.new }
+    ensures lanes_added_2 { LanesAdded k.forms.tau
+        (λ e. block_middles k.forms.degree k.forms.n k.forms.m k.from k.count a.now b.now (byte_at xs.now) chi.now e (coordinate_of vectors.now e))
+        lin.old lin.new }
+{
+    let f = k.forms;
+    let groups = groups_for(k.count);
+    let width = f.n.div_ceil(BITS);
+    let mut words = [0u64; WORDS];
+    let mut lines = [0u8; LINES];
+    fill_words(&mut words, chi, f.m, k.from, k.count, f.tau);
+    put_lines(&mut lines, b, width, k.count);
+    let s = Batch {
+        n: f.n,
+        width,
+        m: k.count,
+        tau: f.tau,
+        groups,
+        polar: f.polar,
+        degree: f.degree,
+    };
+    add_forms(quad, lin, &mut lines, cells, a, &words, vectors, xs, s);
+}
+
 // The batched forms of a key, added to what stands there: fᵀ·A·f to quad, and xᵀ·A·f + (A·x)ᵀ·f + b·f to lin, where f
 // is the vector of repetition e. The bits of x are lent one to a byte, 0 from n on. Where the polar form is not asked
 // for they are all 0, and lin gets b·f. The equations go through the kernels block after block. `cells` is space.
 pub fn batch_forms(
-    quad: &mut [u8; LANES],
+    quad: &mut [u8],
     lin: &mut [u8; LANES],
     cells: &mut [u8],
     a: &[u8],
@@ -155,25 +142,15 @@ pub fn batch_forms(
         (λ e. middles_byte f.degree f.n f.m a.now b.now (byte_at xs.now) chi.now e (coordinate_of vectors.now e))
         lin.old lin.new }
 {
-    let n = f.n;
-    let m = f.m;
-    let tau = f.tau;
-    let polar = f.polar;
-    let degree = f.degree;
-    let width = (n + 7) / BITS;
-    let size = n * width;
-    let mut from = 0;
-    while from < m {
-        let rest = m - from;
-        let count = least(rest, MOST_BLOCK);
+    let width = f.n.div_ceil(BITS);
+    let size = f.n * width;
+    for g in 0..f.m.div_ceil(MOST_BLOCK) {
+        let from = g * MOST_BLOCK;
+        let count = MOST_BLOCK.min(f.m - from);
         let k = Block {
-            n,
-            m,
-            tau,
+            forms: f,
             from,
             count,
-            polar,
-            degree,
         };
         batch_block(
             quad,
@@ -186,14 +163,13 @@ pub fn batch_forms(
             vectors,
             k,
         );
-        from += count;
     }
 }
 
 // The batched coefficients of the tau repetitions, added to what stands in qs0 and qs1, of the sections a and b of a
 // key at the witness x. `cells` is space.
 pub fn batch_lanes(
-    qs0: &mut [u8; LANES],
+    qs0: &mut [u8],
     qs1: &mut [u8; LANES],
     cells: &mut [u8],
     a: &[u8],
@@ -210,18 +186,14 @@ pub fn batch_lanes(
         (λ e. middles_byte d.degree d.n d.m a.now b.now (bit x.now) chi.now e (coordinate_of vectors.now e))
         qs1.old qs1.new }
 {
-    let n = d.n;
-    let m = d.m;
-    let tau = d.tau;
-    let degree = d.degree;
     let mut xs = [0u8; MOST_VARIABLES];
-    equations::unpack(&mut xs, x, n);
+    equations::unpack(&mut xs, x, d.n);
     let f = Forms {
-        n,
-        m,
-        tau,
+        n: d.n,
+        m: d.m,
+        tau: d.tau,
         polar: true,
-        degree,
+        degree: d.degree,
     };
     batch_forms(qs0, qs1, cells, a, b, &xs, chi, vectors, f);
 }

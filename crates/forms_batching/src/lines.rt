@@ -21,7 +21,8 @@ use chunks::turns::{EIGHT_ROWS, turn_rows};
 use chunks::{CHUNK, MOST_BLOCK};
 use field::{Field, Gf16, Gf256};
 use format::sizes::MOST_VARIABLES;
-use strings::{BITS, SIXTEEN, least};
+use lanes::LANES;
+use strings::{BITS, SIXTEEN};
 
 // As many planes as a turn takes rows, each a chunk.
 const ELEMENT_PLANES: usize = BITS * CHUNK;
@@ -40,9 +41,8 @@ pub const LINES: usize = LINES_TABLES * MOST_BLOCK * CHUNK;
 
 // Adds the chunk at `at`, both its halves under the same sixteen masks.
 fn add_masked(acc: &mut [u8; CHUNK], cells: &[u8], at: usize, bits: &[u8], from: usize)
-    requires { (length acc.old ≡ chunk) × (at + chunk ≤ length cells.now) × (from + 16 ≤ length bits.now) }
-    ensures acc_len { length acc.new ≡ chunk }
-    ensures by_index { (k : ℕ) → k < chunk
+    requires { (at + chunk ≤ length cells.now) × (from + 16 ≤ length bits.now) }
+    ensures { (k : ℕ) → k < chunk
         → byte_at acc.new k ≡ bit_xor (byte_at acc.old k) (bit_and (byte_at cells.now (at + k)) (byte_at bits.now (from + k % 16))) }
 {
     for f in 0..SIXTEEN {
@@ -53,9 +53,16 @@ fn add_masked(acc: &mut [u8; CHUNK], cells: &[u8], at: usize, bits: &[u8], from:
 
 // Chunk i of the sums becomes the sum of the chunks of matrix i, in the rows whose bits are set: those of `rows`
 // sixteens, the first of which is the sixteen `top` of the matrix.
-fn sum_left(sums: &mut [u8], i: usize, cells: &[u8], bits: &[u8], m: usize, top: usize, rows: usize)
-    requires { (i < m) × (m * chunk ≤ length sums.old) × PartCells m rows cells.now × (length bits.now ≡ most_variables)
-        × (m ≤ most_block) × ((top + rows) * 16 ≤ most_variables) }
+fn sum_left(
+    sums: &mut [u8],
+    i: usize,
+    cells: &[u8],
+    bits: &[u8; MOST_VARIABLES],
+    m: usize,
+    top: usize,
+    rows: usize,
+)
+    requires { (i < m) × (m * chunk ≤ length sums.old) × PartCells m rows cells.now × (m ≤ most_block) × ((top + rows) * 16 ≤ most_variables) }
     ensures by_index { (k : ℕ) → k < chunk → cell_at sums.new i k ≡ left_byte cells.now m bits.now i top rows k }
     ensures rows_kept { RowsKept chunk i sums.old sums.new }
 {
@@ -73,9 +80,15 @@ fn sum_left(sums: &mut [u8], i: usize, cells: &[u8], bits: &[u8], m: usize, top:
 }
 
 // The same for each of the m matrices.
-fn sum_each(sums: &mut [u8], cells: &[u8], bits: &[u8], m: usize, top: usize, rows: usize)
-    requires { (m * chunk ≤ length sums.old) × PartCells m rows cells.now × (length bits.now ≡ most_variables)
-        × (m ≤ most_block) × ((top + rows) * 16 ≤ most_variables) }
+fn sum_each(
+    sums: &mut [u8],
+    cells: &[u8],
+    bits: &[u8; MOST_VARIABLES],
+    m: usize,
+    top: usize,
+    rows: usize,
+)
+    requires { (m * chunk ≤ length sums.old) × PartCells m rows cells.now × (m ≤ most_block) × ((top + rows) * 16 ≤ most_variables) }
     ensures { (i k : ℕ) → i < m → k < chunk → cell_at sums.new i k ≡ left_byte cells.now m bits.now i top rows k }
 {
     for i in 0..m {
@@ -111,20 +124,22 @@ pub struct Part {
 
 // Adds to each line a part of a panel of its folded matrix, times the bits from the left, where the polar form is asked
 // for. `cells` holds the part; the bits are lent as masks. `sums` is space.
-pub fn add_left(lines: &mut [u8], sums: &mut [u8], cells: &[u8], bits: &[u8], polar: bool, s: Part)
-    requires { LinesFit s.m lines.old × (s.m * chunk ≤ length sums.old) × PartCells s.m s.rows cells.now × (length bits.now ≡ most_variables)
-        × (s.m ≤ most_block) × (s.panel * 16 < most_variables) × ((s.top + s.rows) * 16 ≤ most_variables) }
+pub fn add_left(
+    lines: &mut [u8],
+    sums: &mut [u8],
+    cells: &[u8],
+    bits: &[u8; MOST_VARIABLES],
+    polar: bool,
+    s: Part,
+)
+    requires { LinesFit s.m lines.old × (s.m * chunk ≤ length sums.old) × PartCells s.m s.rows cells.now × (s.m ≤ most_block) × (s.panel * 16 < most_variables) × ((s.top + s.rows) * 16 ≤ most_variables) }
     ensures left_added { polar ≡ true → LeftAdded s.m s.panel s.top s.rows bits.now cells.now lines.old lines.new }
     ensures lines_beside { LinesBeside s.m s.panel lines.old lines.new }
     ensures lines_unchanged { polar ≡ false → lines.new ≡ lines.old }
 {
-    let m = s.m;
-    let panel = s.panel;
-    let top = s.top;
-    let rows = s.rows;
     if polar {
-        sum_each(sums, cells, bits, m, top, rows);
-        add_each(lines, sums, m, panel);
+        sum_each(sums, cells, bits, s.m, s.top, s.rows);
+        add_each(lines, sums, s.m, s.panel);
     }
 }
 
@@ -153,8 +168,15 @@ fn dot(f: &[u8], t: &[u8; ELEMENTS], degree: usize) -> u8
 }
 
 // Plane p becomes the sum of the entries that row r of the words chooses.
-fn look_up_plane(planes: &mut [u8], p: usize, words: &[u64], r: usize, groups: usize, sums: &[u8])
-    requires { (p * chunk + chunk ≤ length planes.old) × (r * 4 + 4 ≤ length words.now) × InWords groups × (most_sums ≤ length sums.now) }
+fn look_up_plane(
+    planes: &mut [u8; ELEMENT_PLANES],
+    p: usize,
+    words: &[u64],
+    r: usize,
+    groups: usize,
+    sums: &[u8],
+)
+    requires { (p < 8) × (r * 4 + 4 ≤ length words.now) × InWords groups × (most_sums ≤ length sums.now) }
     ensures by_index { (f : ℕ) → f < chunk → cell_at planes.new p f ≡ looked_up sums.now words.now r groups f }
     ensures rows_kept { RowsKept chunk p planes.old planes.new }
 {
@@ -163,8 +185,14 @@ fn look_up_plane(planes: &mut [u8], p: usize, words: &[u64], r: usize, groups: u
 }
 
 // The eight planes of the batched line whose rows of words begin with row `base`.
-fn look_up_planes(planes: &mut [u8], words: &[u64], base: usize, groups: usize, sums: &[u8])
-    requires { (length planes.old ≡ 8 * chunk) × ((base + 8) * 4 ≤ length words.now) × InWords groups × (most_sums ≤ length sums.now) }
+fn look_up_planes(
+    planes: &mut [u8; ELEMENT_PLANES],
+    words: &[u64],
+    base: usize,
+    groups: usize,
+    sums: &[u8],
+)
+    requires { ((base + 8) * 4 ≤ length words.now) × InWords groups × (most_sums ≤ length sums.now) }
     ensures { (p f : ℕ) → p < 8 → f < chunk → cell_at planes.new p f ≡ looked_up sums.now words.now (base + p) groups f }
 {
     for p in 0..Gf256::DEGREE {
@@ -173,8 +201,8 @@ fn look_up_planes(planes: &mut [u8], words: &[u64], base: usize, groups: usize, 
 }
 
 // Sixteen bytes of each plane become 128 elements, one for each coordinate.
-fn turn_half(elements: &mut [u8], h: usize, planes: &[u8])
-    requires { (h * 128 + 128 ≤ length elements.old) × (length planes.now ≡ 8 * chunk) × (h < 2) }
+fn turn_half(elements: &mut [u8], h: usize, planes: &[u8; ELEMENT_PLANES])
+    requires { (h * 128 + 128 ≤ length elements.old) × (h < 2) }
     ensures by_index { (r p : ℕ) → r < 128 → p < 8 → bit_of (byte_at elements.new (h * 128 + r)) p ≡ bit_of (cell_at planes.now p (h * 16 + r / 8)) (r % 8) }
     ensures rows_kept { RowsKept 128 h elements.old elements.new }
     ensures by_index_2 { (k : ℕ) → byte_at elements.new k < byte_values }
@@ -216,7 +244,7 @@ fn line_product(
 
 // Adds to each of the first tau places of mid the product of its repetition.
 fn add_products(
-    mid: &mut [u8],
+    mid: &mut [u8; LANES],
     tau: usize,
     words: &[u64],
     groups: usize,
@@ -226,7 +254,7 @@ fn add_products(
     count: usize,
     degree: usize,
 )
-    requires { (length mid.old ≡ lanes) × (tau ≤ lanes) × WordsFit tau words.now × InWords groups × (most_sums ≤ length sums.now) × VectorsFit tau vectors.now
+    requires { (tau ≤ lanes) × WordsFit tau words.now × InWords groups × (most_sums ≤ length sums.now) × VectorsFit tau vectors.now
         × (from + count ≤ most_variables) × (count ≤ chunk_bits) }
     ensures { (S : List ℕ) (χ : ℕ → ℕ → ℕ) (m e : ℕ) → WeighedAll S χ m sums.now words.now groups tau → e < tau
         → byte_at mid.new e ≡ bit_xor (byte_at mid.old e) (line_product degree vectors.now e from count (weighed_line S (χ e) m)) }
@@ -239,30 +267,26 @@ fn add_products(
 // Adds to each place of mid the batched line of its repetition times its vector: for each table of chunks, the
 // coordinates that it has. `sums` is space for the tables of sums of the lines.
 pub fn add_lines(
-    mid: &mut [u8],
+    mid: &mut [u8; LANES],
     sums: &mut [u8],
     lines: &[u8],
     words: &[u64],
     vectors: &[u8],
     s: Batch,
 )
-    requires { (length mid.old ≡ lanes) × SumsRoom sums.old × LinesFit s.m lines.now × (s.n ≤ most_variables) × (s.m ≤ most_block) × (s.tau ≤ lanes)
+    requires { SumsRoom sums.old × LinesFit s.m lines.now × (s.n ≤ most_variables) × (s.m ≤ most_block) × (s.tau ≤ lanes)
         × GroupsFor s.m s.groups × WordsFit s.tau words.now × VectorsFit s.tau vectors.now × VectorsEnd s.n s.tau vectors.now }
     ensures { (χ : ℕ → ℕ → ℕ) (e : ℕ) → IsBytes χ → ChosenAll χ s.m s.tau words.now → e < s.tau
         → byte_at mid.new e
         ≡ bit_xor (byte_at mid.old e) (line_form s.degree s.n lines.now s.m χ e (coordinate_of vectors.now e)) }
 {
-    let n = s.n;
-    let m = s.m;
-    let tau = s.tau;
-    let groups = s.groups;
-    let degree = s.degree;
-    let mut g = 0;
-    while g * ELEMENTS < n {
+    for g in 0..s.n.div_ceil(ELEMENTS) {
         let from = g * ELEMENTS;
-        forms_sums::sums::fill_sums(sums, groups, m, strings::row_at(lines, m * CHUNK, g));
-        let count = least(ELEMENTS, MOST_VARIABLES - from);
-        add_products(mid, tau, words, groups, sums, vectors, from, count, degree);
-        g += 1;
+        let count = ELEMENTS.min(MOST_VARIABLES - from);
+        let table = strings::row_at(lines, s.m * CHUNK, g);
+        forms_sums::sums::fill_sums(sums, s.groups, s.m, table);
+        add_products(
+            mid, s.tau, words, s.groups, sums, vectors, from, count, s.degree,
+        );
     }
 }

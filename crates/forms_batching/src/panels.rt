@@ -36,7 +36,6 @@ pub fn stack_part(
     requires { CollectFits s.m s.tau s.groups top rows stacks.old sums.old cells.now words.now vectors.now }
     ensures { PartStacked s.degree s.tau top rows s.m words.now cells.now vectors.now stacks.new }
 {
-    let tau = s.tau;
-    strings::clear(&mut stacks[..tau * STACK]);
+    stacks[..s.tau * STACK].fill(0);
     super::stacks::collect(stacks, sums, cells, words, vectors, top, rows, s);
 }

@@ -9,7 +9,7 @@ ghost use Rattle.strings.specs.Rows.{RowsKept};
 ghost use Rattle.lanes.specs.Lanes.{lanes, lane_at};
 ghost use Rattle.chunks.specs.Chunks.{chunk, Masks};
 ghost use Rattle.forms_choices.specs.Entries.{most_sums, up_to, InWords, WordsFit, Weighed};
-ghost use Rattle.forms_columns.specs.Stacks.{byte_product, planes, stack_at, stack_of, coordinate_of, VectorsRoom, StacksFit};
+ghost use Rattle.forms_columns.specs.Stacks.{byte_product, planes, stack_at, stack_of, coordinate_of, StacksFit};
 ghost use Rattle.forms_batching.specs.Batched.{weighed_bit, WeighedAll, VectorsFit, VectorsNarrow, VectorsAre, SixteenTurned, BesideSixteen, plane_times, row_times, CollectFits, Collected};
 ghost use Rattle.forms_batching.specs.Lines.{VectorsEnd};
 
@@ -36,13 +36,12 @@ pub const VECTORS: usize = LANES * MOST_VARIABLES;
 const VECTOR_SIXTEENS: usize = MOST_VARIABLES / SIXTEEN;
 
 // Sixteen coordinates, from 16·c on, of the first tau repetitions: eight repetitions at a time, turned.
-fn turn_sixteen(vectors: &mut [u8], tau: usize, table: &[u8], c: usize)
-    requires { VectorsRoom vectors.old × (tau ≤ lanes) × ((c * 16 + 16) * lanes ≤ length table.now) × (c * 16 + 16 ≤ most_variables) }
+fn turn_sixteen(vectors: &mut [u8; VECTORS], tau: usize, table: &[u8], c: usize)
+    requires { (tau ≤ lanes) × ((c * 16 + 16) * lanes ≤ length table.now) × (c * 16 + 16 ≤ most_variables) }
     ensures sixteen_turned { SixteenTurned tau c table.now vectors.new }
     ensures beside_sixteen { BesideSixteen c vectors.old vectors.new }
 {
-    let mut b = 0;
-    while b * BITS < tau {
+    for b in 0..tau.div_ceil(BITS) {
         let from = c * SIXTEEN * LANES + b * BITS;
         turn_block(
             vectors,
@@ -52,13 +51,12 @@ fn turn_sixteen(vectors: &mut [u8], tau: usize, table: &[u8], c: usize)
             from,
             LANES,
         );
-        b += 1;
     }
 }
 
 // The same for the first `count` sixteens of coordinates.
-fn turn_sixteens(vectors: &mut [u8], tau: usize, table: &[u8], count: usize)
-    requires { VectorsRoom vectors.old × (tau ≤ lanes) × (count * 16 * lanes ≤ length table.now) × (count * 16 ≤ most_variables) }
+fn turn_sixteens(vectors: &mut [u8; VECTORS], tau: usize, table: &[u8], count: usize)
+    requires { (tau ≤ lanes) × (count * 16 * lanes ≤ length table.now) × (count * 16 ≤ most_variables) }
     ensures { (e k : ℕ) → e < tau → k < count * 16 → coordinate_of vectors.new e k ≡ lane_at table.now k e }
 {
     for c in 0..count {
@@ -84,8 +82,8 @@ fn fill_vector(v: &mut [u8], from: usize, table: &[u8], n: usize, e: usize)
     }
 }
 
-fn put_vector(vectors: &mut [u8], e: usize, from: usize, table: &[u8], n: usize)
-    requires { (n * lanes ≤ length table.now) × (e < lanes) × (from ≤ most_variables) × VectorsRoom vectors.old }
+fn put_vector(vectors: &mut [u8; VECTORS], e: usize, from: usize, table: &[u8], n: usize)
+    requires { (n * lanes ≤ length table.now) × (e < lanes) × (from ≤ most_variables) }
     ensures by_index { (c : ℕ) → from ≤ c → c < most_variables → coordinate_of vectors.new e c ≡ up_to n (λ k. lane_at table.now k e) c }
     ensures by_index_2 { (f c : ℕ) → c < most_variables → (f ≡ e → from ≤ c → ⊥) → coordinate_of vectors.new f c ≡ coordinate_of vectors.old f c }
 {
@@ -100,8 +98,8 @@ fn put_vector(vectors: &mut [u8], e: usize, from: usize, table: &[u8], n: usize)
 }
 
 // The coordinates from `from` on, of the first tau repetitions.
-fn fill_rest(vectors: &mut [u8], tau: usize, from: usize, table: &[u8], n: usize)
-    requires { (n * lanes ≤ length table.now) × (tau ≤ lanes) × (from ≤ most_variables) × VectorsRoom vectors.old }
+fn fill_rest(vectors: &mut [u8; VECTORS], tau: usize, from: usize, table: &[u8], n: usize)
+    requires { (n * lanes ≤ length table.now) × (tau ≤ lanes) × (from ≤ most_variables) }
     ensures by_index { (e c : ℕ) → e < tau → from ≤ c → c < most_variables → coordinate_of vectors.new e c ≡ up_to n (λ k. lane_at table.now k e) c }
     ensures by_index_2 { (e c : ℕ) → c < from → coordinate_of vectors.new e c ≡ coordinate_of vectors.old e c }
 {
@@ -112,8 +110,8 @@ fn fill_rest(vectors: &mut [u8], tau: usize, from: usize, table: &[u8], n: usize
 
 // The vectors one after the other: the coordinates of a repetition stand together, 0 from n on. Whole sixteens of
 // coordinates are turned; the others are taken one by one.
-pub fn fill_vectors(vectors: &mut [u8], tau: usize, table: &[u8], n: usize)
-    requires { (n * lanes ≤ length table.now) × (n ≤ most_variables) × (tau ≤ lanes) × VectorsRoom vectors.old }
+pub fn fill_vectors(vectors: &mut [u8; VECTORS], tau: usize, table: &[u8], n: usize)
+    requires { (n * lanes ≤ length table.now) × (n ≤ most_variables) × (tau ≤ lanes) }
     ensures vectors_are { VectorsAre n tau table.now vectors.new }
     ensures vectors_end { VectorsEnd n tau vectors.new }
 {
@@ -123,8 +121,8 @@ pub fn fill_vectors(vectors: &mut [u8], tau: usize, table: &[u8], n: usize)
 }
 
 // Both halves of a chunk become sixteen bytes of src, from `from` on.
-fn fill_halves(v: &mut [u8], src: &[u8], from: usize)
-    requires { (length v.old ≡ chunk) × (from + 16 ≤ length src.now) }
+fn fill_halves(v: &mut [u8; CHUNK], src: &[u8], from: usize)
+    requires { from + 16 ≤ length src.now }
     ensures { (h f : ℕ) → h < 2 → f < 16 → byte_at v.new (h * 16 + f) ≡ byte_at src.now (from + f) }
 {
     copy_part(v, 0, SIXTEEN, src, from);
@@ -139,9 +137,9 @@ fn absorb_two(
     base: usize,
     groups: usize,
     sums: &[u8],
-    masks: &[u8],
+    masks: &[u8; MASKS],
 )
-    requires { (length t.old ≡ planes * chunk) × (k < 4) × ((base + 8) * 4 ≤ length words.now) × InWords groups × (most_sums ≤ length sums.now) × (length masks.now ≡ 8 * chunk) }
+    requires { (length t.old ≡ planes * chunk) × (k < 4) × ((base + 8) * 4 ≤ length words.now) × InWords groups × (most_sums ≤ length sums.now) }
     ensures { (d : ℕ) (S v : List ℕ) (χ : ℕ → ℕ) (m f z : ℕ) → Weighed S χ m sums.now words.now groups base
         → Masks v masks.now → byte_at v f < 2 ^ degree_of d → f < chunk
         → stack_at d t.new f z ≡ bit_xor (stack_at d t.old f z) (bit_xor (plane_times d v S χ m f z (2 * k)) (plane_times d v S χ m f z (2 * k + 1))) }
@@ -160,10 +158,10 @@ fn absorb(
     base: usize,
     groups: usize,
     sums: &[u8],
-    masks: &[u8],
+    masks: &[u8; MASKS],
     r: usize,
 )
-    requires { (length t.old ≡ planes * chunk) × ((base + 8) * 4 ≤ length words.now) × InWords groups × (most_sums ≤ length sums.now) × (length masks.now ≡ 8 * chunk) }
+    requires { (length t.old ≡ planes * chunk) × ((base + 8) * 4 ≤ length words.now) × InWords groups × (most_sums ≤ length sums.now) }
     ensures { (d : ℕ) (S v : List ℕ) (χ : ℕ → ℕ) (m f z : ℕ) → r ≡ degree_of d → Weighed S χ m sums.now words.now groups base
         → Masks v masks.now → byte_at v f < 2 ^ degree_of d → f < chunk
         → stack_at d t.new f z ≡ bit_xor (stack_at d t.old f z) (byte_product d (byte_at v f) (weighed_bit S χ m f z)) }
@@ -247,18 +245,16 @@ pub fn collect(
     requires { CollectFits s.m s.tau s.groups top rows stacks.old sums.old cells.now words.now vectors.now }
     ensures { Collected s.degree s.tau top rows s.m words.now cells.now vectors.now stacks.old stacks.new }
 {
-    let m = s.m;
-    let tau = s.tau;
-    let groups = s.groups;
     let r = field::degree_of(s.degree);
     for q in 0..rows {
-        forms_sums::sums::fill_sums(sums, groups, m, strings::row_at(cells, m * CHUNK, q));
+        let table = strings::row_at(cells, s.m * CHUNK, q);
+        forms_sums::sums::fill_sums(sums, s.groups, s.m, table);
         forms_sums::sums::add_first(stacks, sums);
         absorb_lanes(
             stacks,
-            tau,
+            s.tau,
             words,
-            groups,
+            s.groups,
             sums,
             vectors,
             (top + q) * SIXTEEN,

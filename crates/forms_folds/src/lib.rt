@@ -61,11 +61,9 @@ fn fold_all(
     ensures set_folded { SetFolded width (drop from src.now) piece.first piece.end piece.count m i piece.count cells.new }
     ensures others_kept { OthersKept m i cells.old cells.new }
 {
-    let first = piece.first;
-    let count = piece.count;
-    for q in 0..count {
+    for q in 0..piece.count {
         let mut made = [0u8; EIGHT_ROWS];
-        part_rows(&mut made, src, from, width, first, q);
+        part_rows(&mut made, src, from, width, piece.first, q);
         put_rows(cells, &made, turned, piece, q, m, i);
     }
 }
@@ -86,10 +84,7 @@ fn fold_matrix(
     ensures set_folded { SetFolded width (drop from src.now) piece.first piece.end piece.count m i piece.count cells.new }
     ensures others_kept { OthersKept m i cells.old cells.new }
 {
-    let first = piece.first;
-    let end = piece.end;
-    let count = piece.count;
-    reflect_all(turned, src, from, width, first, end, count);
+    reflect_all(turned, src, from, width, piece);
     fold_all(cells, turned, src, from, width, piece, m, i);
 }
 

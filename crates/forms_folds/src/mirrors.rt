@@ -5,10 +5,10 @@ ghost use Rattle.strings.specs.Rows.{RowsKept};
 ghost use Rattle.forms_folds.specs.Folds.{piece_sixteens, piece_rows, most_panels, bytes_past};
 ghost use Rattle.forms_folds.specs.Sets.{Mirrored, Reflected, Mirrors, TurnedFits, ColumnFits};
 
-use super::PIECE_SIXTEENS;
+use super::{PIECE_SIXTEENS, Piece};
 use chunks::masks::fill_part;
 use chunks::turns::{EIGHT_ROWS, turn_rows};
-use strings::{BITS, SIXTEEN, least};
+use strings::{BITS, SIXTEEN};
 
 // The most rows of a piece. A row of `turned` has a byte for each.
 pub const PIECE_ROWS: usize = PIECE_SIXTEENS * SIXTEEN;
@@ -98,25 +98,15 @@ fn reflect(
     clear_own(turned, k, col);
 }
 
-// The byte columns of the panels first, .., end - 1 of the matrix that stands in src from `from` on, for `count`
-// sixteens of rows. From `width` on a row has no bytes: nothing is turned there.
-pub fn reflect_all(
-    turned: &mut [u8],
-    src: &[u8],
-    from: usize,
-    width: usize,
-    first: usize,
-    end: usize,
-    count: usize,
-)
-    requires { (first < end) × (end ≤ first + 4) × (end ≤ most_panels) × (count ≤ piece_sixteens) × (8 < count → end ≤ piece_sixteens)
-        × TurnedFits turned.old × (from + end * 16 * width + bytes_past ≤ length src.now) }
-    ensures { Mirrors width (drop from src.now) first end count turned.new }
+// The byte columns of the piece's panels of the matrix that stands in src from `from` on, for its sixteens of rows. From `width` on a row has no bytes: nothing is turned there.
+pub fn reflect_all(turned: &mut [u8], src: &[u8], from: usize, width: usize, piece: Piece)
+    requires { (piece.first < piece.end) × (piece.end ≤ piece.first + 4) × (piece.end ≤ most_panels) × (piece.count ≤ piece_sixteens)
+        × (8 < piece.count → piece.end ≤ piece_sixteens) × TurnedFits turned.old × (from + piece.end * 16 * width + bytes_past ≤ length src.now) }
+    ensures { Mirrors width (drop from src.now) piece.first piece.end piece.count turned.new }
 {
-    let last = least(2 * end, width);
-    let mut k = 0;
-    while 2 * first + k < last {
-        reflect(turned, k, src, from, width, 2 * first + k, count);
-        k += 1;
+    let start = 2 * piece.first;
+    let end = width.min(2 * piece.end);
+    for col in start..end {
+        reflect(turned, col - start, src, from, width, col, piece.count);
     }
 }

@@ -35,9 +35,8 @@ pub fn begin(first: usize, count: usize, p: usize) -> usize
 // Adds to each of a chunk's two columns of bytes one of `turned`: the first column's stands from `at` on, the second's
 // a row further. The count is a constant, so that the chunk stays in registers.
 fn add_turned(sum: &mut [u8; CHUNK], turned: &[u8], at: usize)
-    requires { (length sum.old ≡ chunk) × (at + piece_rows + 16 ≤ length turned.now) }
-    ensures sum_len { length sum.new ≡ chunk }
-    ensures by_index { (e : ℕ) → e < chunk → byte_at sum.new e ≡ bit_xor (byte_at sum.old e) (byte_at turned.now (at + (e / 16 * piece_rows + e % 16))) }
+    requires { at + piece_rows + 16 ≤ length turned.now }
+    ensures { (e : ℕ) → e < chunk → byte_at sum.new e ≡ bit_xor (byte_at sum.old e) (byte_at turned.now (at + (e / 16 * piece_rows + e % 16))) }
 {
     for f in 0..SIXTEEN {
         sum[f] ^= turned[at + f];
@@ -49,7 +48,7 @@ fn add_turned(sum: &mut [u8; CHUNK], turned: &[u8], at: usize)
 // at once would not fit registers.
 fn put_panel(
     cells: &mut [u8],
-    made: &[u8],
+    made: &[u8; EIGHT_ROWS],
     turned: &[u8],
     piece: Piece,
     p: usize,
@@ -63,15 +62,19 @@ fn put_panel(
     ensures by_index { (at e : ℕ) → (q ≤ piece.first + p → at ≡ chunk_place piece.first piece.count p q m i → ⊥) → e < chunk
         → cell_at cells.new at e ≡ cell_at cells.old at e }
 {
-    let first = piece.first;
-    let end = piece.end;
-    let count = piece.count;
-    if q <= first + p {
-        if first + p < end {
+    let panel = piece.first + p;
+    if q <= panel {
+        if panel < piece.end {
             let mut sum = [0u8; CHUNK];
             copy_front(&mut sum, made, p * CHUNK, CHUNK);
             add_turned(&mut sum, turned, 2 * p * PIECE_ROWS + q * SIXTEEN);
-            copy_part(cells, (begin(first, count, p) + q) * m + i, CHUNK, &sum, 0);
+            copy_part(
+                cells,
+                (begin(piece.first, piece.count, p) + q) * m + i,
+                CHUNK,
+                &sum,
+                0,
+            );
         }
     }
 }
@@ -79,7 +82,7 @@ fn put_panel(
 // What was made of the sixteen rows q is put for each panel of the piece.
 pub fn put_rows(
     cells: &mut [u8],
-    made: &[u8],
+    made: &[u8; EIGHT_ROWS],
     turned: &[u8],
     piece: Piece,
     q: usize,
@@ -98,8 +101,15 @@ pub fn put_rows(
 // The sixteen rows q of the matrix that stands in src from `from` on: eight bytes of each are taken, and parted into
 // columns. They are taken in two halves, so that the addresses of the rows fit registers, and all is made in local
 // arrays of constant length, which stay there.
-pub fn part_rows(made: &mut [u8], src: &[u8], from: usize, width: usize, first: usize, q: usize)
-    requires { (length made.old ≡ 128) × (first < most_panels) × (q < piece_sixteens) × (from + (q * 16 + 16) * width + bytes_past ≤ length src.now) }
+pub fn part_rows(
+    made: &mut [u8; EIGHT_ROWS],
+    src: &[u8],
+    from: usize,
+    width: usize,
+    first: usize,
+    q: usize,
+)
+    requires { (first < most_panels) × (q < piece_sixteens) × (from + (q * 16 + 16) * width + bytes_past ≤ length src.now) }
     ensures { Parted width (drop from src.now) first q made.new }
 {
     let mut rows = [0u8; EIGHT_ROWS];

@@ -7,6 +7,7 @@ use Prim.Native.Nat.{ℕ, zero, suc, ◌+◌, ◌*◌, ◌-◌, ◌/◌, ◌%◌
 use native.Mathlib.Nat.{one-mul}
 use native.Mathlib.Decide.{dec_lt, ℕ_discrete}
 use native.Mathlib.Omega.{arith}
+use Rattle.std.proofs.Common.{min}
 use lib.Bits.{bit_xor}
 use lib.Dec.{ltb, eqb, lit<}
 use Rattle.theorems.proofs.TestLaws.{ltb_yes, ltb_no, leb_yes, leb_no, eqb_same, eqb-other}
@@ -24,6 +25,10 @@ use Rattle.forms_pieces.specs.declared.Place.{Place}
 use Rattle.forms_batching.specs.Lines.{line_byte, left_bit, LinesBeside}
 use Rattle.forms_pieces.proofs.LeftLaws.{AddedUpTo, PartFolded, added_more, added_beside}
 use Rattle.forms_pieces.specs.Pieces.{panels_of, end_of, short_piece, rows_of, piece_end, PieceAt, NextPlace, Walk, Walked}
+
+-- the lesser of two numbers
+pub least_of : (a b x : ℕ) → x ≡ min a b → (x ≤ a) × (x ≤ b) × (x < a → x ≡ b)
+least_of a b x is = (omega (arith, is), omega (arith, is), λ h. omega (arith, is, h))
 
 -- ---- the end of a set
 

@@ -23,7 +23,7 @@ use forms_columns::STACK;
 use forms_folds::{PANELS, PIECE_SIXTEENS, Piece};
 use forms_sums::sums::ENTRIES;
 use lanes::LANES;
-use strings::{MASK_BYTE, SIXTEEN, least};
+use strings::{MASK_BYTE, SIXTEEN};
 
 // The table of sums of as many equations as a block may have: 32 entries for each five. Before it is filled, space for
 // a matrix, and for a chunk of each line.
@@ -33,11 +33,11 @@ const SUMS: usize = MOST_BLOCK / 5 * ENTRIES * CHUNK;
 const SHORT_PIECE: usize = 6;
 
 // The bits of a witness, each as a mask.
-fn widen(bits: &mut [u8], xs: &[u8])
-    requires { (length bits.old ≤ length xs.now) × ((c : ℕ) → byte_at xs.now c < 2) }
-    ensures { (c : ℕ) → c < length bits.old → byte_at bits.new c ≡ byte_at xs.now c * mask_byte }
+fn widen(bits: &mut [u8; MOST_VARIABLES], xs: &[u8])
+    requires { (most_variables ≤ length xs.now) × ((c : ℕ) → byte_at xs.now c < 2) }
+    ensures { (c : ℕ) → c < most_variables → byte_at bits.new c ≡ byte_at xs.now c * mask_byte }
 {
-    for c in 0..bits.len() {
+    for c in 0..MOST_VARIABLES {
         bits[c] = xs[c] * MASK_BYTE;
     }
 }
@@ -65,48 +65,47 @@ fn rows_of(first: usize, end: usize) -> usize
     SHORT_PIECE
 }
 
-// The piece of the set from `first` on that begins at the sixteen `top`, of matrices of n columns.
-fn piece_at(first: usize, top: usize, n: usize) -> Piece
-    requires { (top ≤ first) × (first * 16 < n) × (n ≤ most_variables) }
-    ensures { PieceAt n first top result }
-{
-    let from = first - top;
-    let end = least(first + PANELS, (n + 15) / SIXTEEN) - top;
-    let count = rows_of(from, end);
-    Piece {
-        top,
-        first: from,
-        end,
-        count,
+impl Place {
+    // Its piece of matrices of n columns.
+    fn piece(self, n: usize) -> Piece
+        requires { (self.top ≤ self.first) × (self.first * 16 < n) × (n ≤ most_variables) }
+        ensures { PieceAt n self.first self.top result }
+    {
+        let first = self.first - self.top;
+        let end = (self.first + PANELS).min(n.div_ceil(SIXTEEN)) - self.top;
+        let count = rows_of(first, end);
+        Piece {
+            top: self.top,
+            first,
+            end,
+            count,
+        }
     }
-}
 
-// After the last panel of a piece comes the next piece of the set, and after the last piece the next set.
-fn next(first: usize, p: usize, piece: Piece) -> Place
-    requires { (first ≤ most_variables) × (p < 4) × (piece.top ≤ most_variables) × (piece.end ≤ most_variables) × (piece.count ≤ most_variables) }
-    ensures { NextPlace first p piece result }
-{
-    let top = piece.top;
-    let end = piece.end;
-    let count = piece.count;
-    if first + p + 1 < top + end {
-        return Place {
-            first,
-            top,
-            p: p + 1,
-        };
-    }
-    if count < end {
-        return Place {
-            first,
-            top: top + count,
+    // After the last panel of a piece comes the next piece of the set, and after the last piece the next set.
+    fn next(self, piece: Piece) -> Place
+        requires { (self.first ≤ most_variables) × (self.p < 4) × (piece.top ≤ most_variables) × (piece.end ≤ most_variables) × (piece.count ≤ most_variables) }
+        ensures { NextPlace self.first self.p piece result }
+    {
+        if self.first + self.p + 1 < piece.top + piece.end {
+            return Place {
+                first: self.first,
+                top: piece.top,
+                p: self.p + 1,
+            };
+        }
+        if piece.count < piece.end {
+            return Place {
+                first: self.first,
+                top: piece.top + piece.count,
+                p: 0,
+            };
+        }
+        Place {
+            first: self.first + PANELS,
+            top: 0,
             p: 0,
-        };
-    }
-    Place {
-        first: first + PANELS,
-        top: 0,
-        p: 0,
+        }
     }
 }
 
@@ -136,7 +135,7 @@ fn load(
 // of each equation, and is added to its line. Where `polar` is not asked for the bits are 0, and so is the polar form.
 // `cells` is space.
 pub fn add_forms(
-    quad: &mut [u8; LANES],
+    quad: &mut [u8],
     mid: &mut [u8; LANES],
     lines: &mut [u8],
     cells: &mut [u8],
@@ -155,40 +154,42 @@ pub fn add_forms(
         ≡ bit_xor (bit_xor (byte_at mid.old e) (polar_sum s.degree s.n s.width s.m a.now χ e (byte_at xs.now) (coordinate_of vectors.now e)))
         (line_form s.degree s.n lines.old s.m χ e (coordinate_of vectors.now e)) }
 {
-    let n = s.n;
-    let m = s.m;
-    let tau = s.tau;
-    let width = s.width;
-    let polar = s.polar;
-    let degree = s.degree;
     let mut sums = [0u8; SUMS];
     let mut bits = [0u8; MOST_VARIABLES];
     let mut stacks = [0u8; LANES * STACK];
     widen(&mut bits, xs);
-    let mut first = 0;
-    let mut top = 0;
-    let mut p = 0;
-    while first * SIXTEEN < n {
-        let piece = piece_at(first, top, n);
-        let from = piece.first;
-        let count = piece.count;
-        load(cells, &mut sums, a, n, width, m, piece, p);
-        let held = forms_folds::panel_of(cells, m, from, count, p);
-        let rows = least(from + p + 1, count);
-        let panel = first + p;
+    let mut place = Place {
+        first: 0,
+        top: 0,
+        p: 0,
+    };
+    while place.first * SIXTEEN < s.n {
+        let piece = place.piece(s.n);
+        load(cells, &mut sums, a, s.n, s.width, s.m, piece, place.p);
+        let held = forms_folds::panel_of(cells, s.m, piece.first, piece.count, place.p);
+        let rows = (piece.first + place.p + 1).min(piece.count);
+        let panel = place.first + place.p;
         let part = Part {
-            m,
+            m: s.m,
             panel,
-            top,
+            top: place.top,
             rows,
         };
-        forms_batching::lines::add_left(lines, &mut sums, held, &bits, polar, part);
-        stack_part(&mut stacks, &mut sums, held, words, vectors, top, rows, s);
-        forms_columns::finish(quad, mid, &stacks, panel, tau, vectors, xs, polar, degree);
-        let then = next(first, p, piece);
-        first = then.first;
-        top = then.top;
-        p = then.p;
+        forms_batching::lines::add_left(lines, &mut sums, held, &bits, s.polar, part);
+        stack_part(
+            &mut stacks,
+            &mut sums,
+            held,
+            words,
+            vectors,
+            place.top,
+            rows,
+            s,
+        );
+        forms_columns::finish(
+            quad, mid, &stacks, panel, s.tau, vectors, xs, s.polar, s.degree,
+        );
+        place = place.next(piece);
     }
     forms_batching::lines::add_lines(mid, &mut sums, lines, words, vectors, s);
 }

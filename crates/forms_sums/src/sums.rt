@@ -4,12 +4,13 @@ ghost use Rattle.std.specs.Prelude.{◌≡◌, ℕ, ◌+◌, ◌*◌, ◌-◌, �
 ghost use Rattle.std.specs.Int.Bits.{bit_xor};
 ghost use Rattle.strings.specs.Sums.{byte_at};
 ghost use Rattle.strings.specs.Rows.{RowsKept};
-ghost use Rattle.chunks.specs.Chunks.{chunk, pair, cell_at};
+ghost use Rattle.chunks.specs.Chunks.{chunk, cell_at};
 ghost use Rattle.forms_choices.specs.Entries.{fives, most_sums, Tabled, five, word_byte, looked_up, InWords};
 
-use chunks::CHUNK;
 use chunks::subsets::fill_group;
+use chunks::{CHUNK, PAIR};
 use forms_choices::fives::ROW_WORDS;
+use strings::add_at;
 
 // The rows of a group.
 const FIVE: usize = 5;
@@ -17,19 +18,8 @@ const FIVE: usize = 5;
 // The entries of the table of sums for five rows, one for each value of five bits.
 pub const ENTRIES: usize = 32;
 
-// dst[f] ^= s[at + f], for a chunk. The count is a constant, so that a caller's local array stays in registers.
-fn add_at(dst: &mut [u8; CHUNK], s: &[u8], at: usize)
-    requires { (at + chunk ≤ length s.now) × (length dst.old ≡ chunk) }
-    ensures dst_len { length dst.new ≡ chunk }
-    ensures by_index { (f : ℕ) → f < chunk → byte_at dst.new f ≡ bit_xor (byte_at dst.old f) (byte_at s.now (at + f)) }
-{
-    for f in 0..CHUNK {
-        dst[f] ^= s[at + f];
-    }
-}
-
 fn store(sums: &mut [u8], k: usize, src: &[u8; CHUNK])
-    requires { (k * chunk + chunk ≤ length sums.old) × (length src.now ≡ chunk) }
+    requires { k * chunk + chunk ≤ length sums.old }
     ensures by_index { (f : ℕ) → f < chunk → cell_at sums.new k f ≡ byte_at src.now f }
     ensures rows_kept { RowsKept chunk k sums.old sums.new }
 {
@@ -56,33 +46,32 @@ fn entry_place(w: u64, g: usize, j: usize) -> usize
     (g * ENTRIES + ((w >> (5 * j)) % 32) as usize) * CHUNK
 }
 
-// Adds the entries that word k chooses, w for the first and x for the second: side by side, so that neither waits for
-// the other.
-fn add_ten(first: &mut [u8; CHUNK], second: &mut [u8; CHUNK], w: u64, x: u64, sums: &[u8], k: usize)
-    requires { (length first.old ≡ chunk) × (length second.old ≡ chunk) × (k < 3) × (most_sums ≤ length sums.now) }
-    ensures first_len { (length first.new ≡ chunk) × (length second.new ≡ chunk) }
-    ensures by_index { (f : ℕ) → f < chunk → byte_at first.new f ≡ bit_xor (byte_at first.old f) (word_byte sums.now k 10 w f) }
-    ensures by_index_2 { (f : ℕ) → f < chunk → byte_at second.new f ≡ bit_xor (byte_at second.old f) (word_byte sums.now k 10 x f) }
+// Adds the entry that five j of word k chooses.
+fn add_five(sum: &mut [u8; CHUNK], w: u64, sums: &[u8], k: usize, j: usize)
+    requires { (j < 10) × (k * 10 + j < fives) × (most_sums ≤ length sums.now) }
+    ensures { (f : ℕ) → f < chunk → byte_at sum.new f ≡ bit_xor (byte_at sum.old f) (cell_at sums.now ((k * 10 + j) * 32 + five w j) f) }
 {
-    for j in 0..10 {
-        let g = k * 10 + j;
-        add_at(first, sums, entry_place(w, g, j));
-        add_at(second, sums, entry_place(x, g, j));
-    }
+    add_at(sum, sums, entry_place(w, k * 10 + j, j));
 }
 
-// The same of the last word, of which the first two fives are looked up. A function of its own, so that the count is a
-// constant and each of the two is called from one place.
-fn add_two(first: &mut [u8; CHUNK], second: &mut [u8; CHUNK], w: u64, x: u64, sums: &[u8])
-    requires { (length first.old ≡ chunk) × (length second.old ≡ chunk) × (most_sums ≤ length sums.now) }
-    ensures first_len { (length first.new ≡ chunk) × (length second.new ≡ chunk) }
-    ensures by_index { (f : ℕ) → f < chunk → byte_at first.new f ≡ bit_xor (byte_at first.old f) (word_byte sums.now 3 2 w f) }
-    ensures by_index_2 { (f : ℕ) → f < chunk → byte_at second.new f ≡ bit_xor (byte_at second.old f) (word_byte sums.now 3 2 x f) }
+// Adds the entries that the first N fives of word k choose, w for the first and x for the second: side by side, so that
+// neither waits for the other. The last word has two fives to look up, the others ten: the count is a constant, and
+// each of the two functions that this makes is called from one place, so that the compiler inlines it.
+fn add_words<const N: usize>(
+    first: &mut [u8; CHUNK],
+    second: &mut [u8; CHUNK],
+    w: u64,
+    x: u64,
+    sums: &[u8],
+    k: usize,
+)
+    requires { (N ≤ 10) × (k * 10 + N ≤ fives) × (most_sums ≤ length sums.now) }
+    ensures by_index { (f : ℕ) → f < chunk → byte_at first.new f ≡ bit_xor (byte_at first.old f) (word_byte sums.now k N w f) }
+    ensures by_index_2 { (f : ℕ) → f < chunk → byte_at second.new f ≡ bit_xor (byte_at second.old f) (word_byte sums.now k N x f) }
 {
-    for j in 0..2 {
-        let g = 30 + j;
-        add_at(first, sums, entry_place(w, g, j));
-        add_at(second, sums, entry_place(x, g, j));
+    for j in 0..N {
+        add_five(first, w, sums, k, j);
+        add_five(second, x, sums, k, j);
     }
 }
 
@@ -95,20 +84,19 @@ fn add_last(
     groups: usize,
     sums: &[u8],
 )
-    requires { (length first.old ≡ chunk) × (length second.old ≡ chunk) × InWords groups × (most_sums ≤ length sums.now) }
-    ensures first_len { (length first.new ≡ chunk) × (length second.new ≡ chunk) }
+    requires { InWords groups × (most_sums ≤ length sums.now) }
     ensures by_index { (f : ℕ) → f < chunk → byte_at first.new f ≡ bit_xor (byte_at first.old f) (word_byte sums.now 3 (groups - 30) w f) }
     ensures by_index_2 { (f : ℕ) → f < chunk → byte_at second.new f ≡ bit_xor (byte_at second.old f) (word_byte sums.now 3 (groups - 30) x f) }
 {
     if groups > 30 {
-        add_two(first, second, w, x, sums);
+        add_words::<2>(first, second, w, x, sums, 3);
     }
 }
 
 // Chunk 0 of out is the sum of the entries that row r of the words chooses for so many groups of five, and chunk 1 that
 // of row r + 1.
-pub fn look_up_two(out: &mut [u8], words: &[u64], r: usize, groups: usize, sums: &[u8])
-    requires { (length out.old ≡ pair) × (r * 4 + 8 ≤ length words.now) × InWords groups × (most_sums ≤ length sums.now) }
+pub fn look_up_two(out: &mut [u8; PAIR], words: &[u64], r: usize, groups: usize, sums: &[u8])
+    requires { (r * 4 + 8 ≤ length words.now) × InWords groups × (most_sums ≤ length sums.now) }
     ensures by_index { (f : ℕ) → f < chunk → cell_at out.new 0 f ≡ looked_up sums.now words.now r groups f }
     ensures by_index_2 { (f : ℕ) → f < chunk → cell_at out.new 1 f ≡ looked_up sums.now words.now (r + 1) groups f }
 {
@@ -116,7 +104,7 @@ pub fn look_up_two(out: &mut [u8], words: &[u64], r: usize, groups: usize, sums:
     let mut second = [0u8; CHUNK];
     let at = r * ROW_WORDS;
     for k in 0..groups / 10 {
-        add_ten(
+        add_words::<10>(
             &mut first,
             &mut second,
             words[at + k],
@@ -138,7 +126,8 @@ pub fn look_up_two(out: &mut [u8], words: &[u64], r: usize, groups: usize, sums:
 }
 
 // dst[f] ^= sums[f] for a chunk. As the first entry is 0 this changes nothing; but it is an access to the start of two
-// arrays, from which the compiler learns that it may align them, and so add from memory at once.
+// arrays, from which the compiler learns that it may align them, and so add from memory at once. A loop, and not
+// `add_at` on the first chunk of dst: how long that array is after the call stood in no fact that a proof could use.
 pub fn add_first(dst: &mut [u8], sums: &[u8])
     requires { (chunk ≤ length dst.old) × (chunk ≤ length sums.now) }
     ensures by_index { (f : ℕ) → f < chunk → byte_at dst.new f ≡ bit_xor (byte_at dst.old f) (byte_at sums.now f) }
@@ -149,25 +138,18 @@ pub fn add_first(dst: &mut [u8], sums: &[u8])
     }
 }
 
-// Adds the entries that the first n fives of word k choose.
-fn add_word(sum: &mut [u8; CHUNK], w: u64, n: usize, sums: &[u8], k: usize)
-    requires { (length sum.old ≡ chunk) × (n ≤ 10) × (k * 10 + n ≤ fives) × (most_sums ≤ length sums.now) }
-    ensures sum_len { length sum.new ≡ chunk }
-    ensures by_index { (f : ℕ) → f < chunk → byte_at sum.new f ≡ bit_xor (byte_at sum.old f) (word_byte sums.now k n w f) }
+// Adds the entries that the first N fives of word k choose.
+fn add_word<const N: usize>(sum: &mut [u8; CHUNK], w: u64, sums: &[u8], k: usize)
+    requires { (N ≤ 10) × (k * 10 + N ≤ fives) × (most_sums ≤ length sums.now) }
+    ensures { (f : ℕ) → f < chunk → byte_at sum.new f ≡ bit_xor (byte_at sum.old f) (word_byte sums.now k N w f) }
 {
-    for j in 0..n {
-        add_at(sum, sums, entry_place(w, k * 10 + j, j));
+    for j in 0..N {
+        add_five(sum, w, sums, k, j);
     }
 }
 
-// The fives of the last word, where there are so many groups.
-fn last_fives(groups: usize) -> usize
-    ensures { result ≡ groups - 30 }
-{
-    if groups > 30 { groups - 30 } else { 0 }
-}
-
-// The sum of the entries that row r of the words chooses for so many groups of five.
+// The sum of the entries that row r of the words chooses for so many groups of five. `look_up_two` stands beside it
+// for speed: a function that is called from two places was not inlined, and a row alone waits for its own sum.
 pub fn look_up(out: &mut [u8], words: &[u64], r: usize, groups: usize, sums: &[u8])
     requires { (length out.old ≡ chunk) × (r * 4 + 4 ≤ length words.now) × InWords groups × (most_sums ≤ length sums.now) }
     ensures { (f : ℕ) → f < chunk → byte_at out.new f ≡ looked_up sums.now words.now r groups f }
@@ -175,8 +157,10 @@ pub fn look_up(out: &mut [u8], words: &[u64], r: usize, groups: usize, sums: &[u
     let mut sum = [0u8; CHUNK];
     let at = r * ROW_WORDS;
     for k in 0..groups / 10 {
-        add_word(&mut sum, words[at + k], 10, sums, k);
+        add_word::<10>(&mut sum, words[at + k], sums, k);
     }
-    add_word(&mut sum, words[at + 3], last_fives(groups), sums, 3);
+    if groups > 30 {
+        add_word::<2>(&mut sum, words[at + 3], sums, 3);
+    }
     chunks::cells::copy_chunk(out, &sum);
 }

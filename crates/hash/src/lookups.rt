@@ -9,7 +9,7 @@ ghost use Rattle.hash.specs.Entries.{LanesTabled, byte_looked_up, RowSelected};
 
 use chunks::subsets::fill_group;
 use lanes::LANES;
-use strings::{BITS, wide};
+use strings::{BITS, add_at};
 
 // The coordinates of a group, which half a byte of a row chooses from.
 const GROUP: usize = BITS / 2;
@@ -18,17 +18,6 @@ const GROUP: usize = BITS / 2;
 const PER_GROUP: usize = 16;
 
 pub const PER_BYTE: usize = 2 * PER_GROUP;
-
-// dst[e] ^= T[c][e], for each lane. The count is a constant, so that a caller's local array stays in registers.
-pub fn add_lanes(dst: &mut [u8; LANES], table: &[u8], c: usize)
-    requires { (length dst.old ≡ lanes) × (c * lanes + lanes ≤ length table.now) }
-    ensures dst_len { length dst.new ≡ lanes }
-    ensures by_index { (e : ℕ) → e < lanes → byte_at dst.new e ≡ bit_xor (byte_at dst.old e) (lane_at table.now c e) }
-{
-    for e in 0..LANES {
-        dst[e] ^= table[c * LANES + e];
-    }
-}
 
 // The first entries of the table of sums: sixteen for each four of the n coordinates. Made once, they serve all
 // rows of a block.
@@ -44,23 +33,22 @@ pub fn fill_sums(sums: &mut [u8], count: usize, n: usize, table: &[u8])
 
 // Adds the two entries that byte b of a row, x, chooses. The row is public, so the table may be indexed by it.
 fn add_chosen(dst: &mut [u8; LANES], b: usize, x: u8, sums: &[u8])
-    requires { ((b * 32 + 32) * lanes ≤ length sums.now) × (length dst.old ≡ lanes) }
-    ensures dst_len { length dst.new ≡ lanes }
-    ensures by_index { (e : ℕ) → e < lanes → byte_at dst.new e ≡ bit_xor (byte_at dst.old e) (byte_looked_up b x sums.now e) }
+    requires { (b * 32 + 32) * lanes ≤ length sums.now }
+    ensures { (e : ℕ) → e < lanes → byte_at dst.new e ≡ bit_xor (byte_at dst.old e) (byte_looked_up b x sums.now e) }
 {
     let first = b * PER_BYTE;
-    add_lanes(dst, sums, first + wide(x % 16));
-    add_lanes(dst, sums, first + PER_GROUP + wide(x / 16));
+    add_at(dst, sums, (first + usize::from(x % 16)) * LANES);
+    add_at(dst, sums, (first + PER_GROUP + usize::from(x / 16)) * LANES);
 }
 
 // out[e] = Σ row(c)·T[c][e] over the n coordinates of the table T that was summed: two additions for eight of them.
-pub fn look_up_row(out: &mut [u8], row: &[u8], sums: &[u8])
-    requires { (length out.old ≡ lanes) × (length row.now * 32 * lanes ≤ length sums.now) }
+pub fn look_up_row(out: &mut [u8; LANES], row: &[u8], sums: &[u8])
+    requires { length row.now * 32 * lanes ≤ length sums.now }
     ensures { RowSelected row.now sums.now out.new }
 {
     let mut sum = [0u8; LANES];
     for b in 0..row.len() {
         add_chosen(&mut sum, b, row[b], sums);
     }
-    strings::copies::copy_into(out, &sum);
+    *out = sum;
 }

@@ -9,10 +9,10 @@ ghost use Rattle.format.specs.Sizes.{alphabet_for, shape_for};
 ghost use Rattle.hash.specs.Hashed.{BlockTabled, BlockFits, Column, Columns, Hashed};
 ghost use Rattle.questions.specs.Facts.{HashForm};
 
-use super::lookups::{PER_BYTE, add_lanes, fill_sums, look_up_row};
+use super::lookups::{PER_BYTE, fill_sums, look_up_row};
 use format::Sizes;
 use lanes::LANES;
-use strings::BITS;
+use strings::{BITS, add_at, row_of};
 
 // The bytes of a row of H' that one table of sums serves, so that the table does not grow with the rows.
 const BLOCK: usize = 21;
@@ -38,8 +38,8 @@ fn part_of(s: &[u8], at: usize, len: usize) -> &[u8]
 }
 
 // Takes the lanes below tau from column rho of a table of rows of t bytes, one row for each repetition.
-fn take_column(column: &mut [u8], out: &[u8], rho: usize, t: usize, tau: usize)
-    requires { (length out.now ≡ tau * t) × (rho < t) × (tau ≤ length column.old) }
+fn take_column(column: &mut [u8; LANES], out: &[u8], rho: usize, t: usize, tau: usize)
+    requires { (length out.now ≡ tau * t) × (rho < t) × (tau ≤ lanes) }
     ensures { (e : ℕ) → e < tau → byte_at column.new e ≡ byte_at out.now (e * t + rho) }
 {
     for e in 0..tau {
@@ -48,8 +48,8 @@ fn take_column(column: &mut [u8], out: &[u8], rho: usize, t: usize, tau: usize)
 }
 
 // Puts the lanes below tau into column rho of a table of rows of t bytes, one row for each repetition.
-fn put_column(out: &mut [u8], rho: usize, t: usize, tau: usize, column: &[u8])
-    requires { (length out.old ≡ tau * t) × (rho < t) × (tau ≤ length column.now) }
+fn put_column(out: &mut [u8], rho: usize, t: usize, tau: usize, column: &[u8; LANES])
+    requires { (length out.old ≡ tau * t) × (rho < t) × (tau ≤ lanes) }
     ensures by_index { (e : ℕ) → e < tau → byte_at out.new (e * t + rho) ≡ byte_at column.now e }
     ensures by_index_2 { (e r : ℕ) → e < tau → r < t → (r ≡ rho → ⊥) → byte_at out.new (e * t + r) ≡ byte_at out.old (e * t + r) }
 {
@@ -59,28 +59,22 @@ fn put_column(out: &mut [u8], rho: usize, t: usize, tau: usize, column: &[u8])
 }
 
 // Takes what row rho has in the output, where a block came before.
-fn take_before(taken: &mut [u8], out: &[u8], rho: usize, b: Block)
-    requires { (length out.now ≡ b.tau * b.t) × (rho < b.t) × (b.tau ≤ length taken.old) }
+fn take_before(taken: &mut [u8; LANES], out: &[u8], rho: usize, b: Block)
+    requires { (length out.now ≡ b.tau * b.t) × (rho < b.t) × (b.tau ≤ lanes) }
     ensures { (0 < b.from) → (e : ℕ) → e < b.tau → byte_at taken.new e ≡ byte_at out.now (e * b.t + rho) }
 {
-    let t = b.t;
-    let tau = b.tau;
     if b.from != 0 {
-        take_column(taken, out, rho, t, tau);
+        take_column(taken, out, rho, b.t, b.tau);
     }
 }
 
 // What a row has before the block at `from`: the identity's coordinate c before the first, and else what was taken. It
 // is handed on and not copied: so the row's sum stays in registers.
-fn start_of<'a>(taken: &'a [u8], table: &'a [u8], c: usize, from: usize) -> &'a [u8]
-    requires { (length taken.now ≡ lanes) × (c * lanes + lanes ≤ length table.now) }
-    ensures { (length result.now ≡ lanes) × ((from ≡ 0) → result.now ≡ block_at table.now lanes c) × ((0 < from) → result.now ≡ taken.now) }
+fn start_of<'a>(taken: &'a [u8; LANES], table: &'a [u8], c: usize, from: usize) -> &'a [u8; LANES]
+    requires { c * lanes + lanes ≤ length table.now }
+    ensures { ((from ≡ 0) → result.now ≡ block_at table.now lanes c) × ((0 < from) → result.now ≡ taken.now) }
 {
-    if from == 0 {
-        strings::row_at(table, LANES, c)
-    } else {
-        taken
-    }
+    if from == 0 { row_of(table, c) } else { taken }
 }
 
 // Row rho of a block: what its bytes of the row select is added, for each lane.
@@ -90,18 +84,13 @@ fn hash_row(out: &mut [u8], matrix: &[u8], table: &[u8], sums: &[u8], rho: usize
     ensures column { Column matrix.now table.now b (b.from + b.len) rho out.new }
     ensures by_index { (e r : ℕ) → e < b.tau → r < b.t → (r ≡ rho → ⊥) → byte_at out.new (e * b.t + r) ≡ byte_at out.old (e * b.t + r) }
 {
-    let t = b.t;
-    let tau = b.tau;
-    let from = b.from;
-    let at = rho * b.width + from;
-    let len = b.len;
-    let c = b.k + rho;
+    let at = rho * b.width + b.from;
     let mut taken = [0u8; LANES];
     take_before(&mut taken, out, rho, b);
     let mut sum = [0u8; LANES];
-    look_up_row(&mut sum, part_of(matrix, at, len), sums);
-    add_lanes(&mut sum, start_of(&taken, table, c, from), 0);
-    put_column(out, rho, t, tau, &sum);
+    look_up_row(&mut sum, part_of(matrix, at, b.len), sums);
+    add_at(&mut sum, start_of(&taken, table, b.k + rho, b.from), 0);
+    put_column(out, rho, b.t, b.tau, &sum);
 }
 
 // The rows of a block, after the blocks before it.
@@ -110,8 +99,7 @@ fn hash_block(out: &mut [u8], matrix: &[u8], table: &[u8], sums: &[u8], b: Block
     requires block_tabled { BlockTabled b.from b.len table.now sums.now × (0 < b.from → Columns matrix.now table.now b b.from out.old) }
     ensures { Columns matrix.now table.now b (b.from + b.len) out.new }
 {
-    let t = b.t;
-    for rho in 0..t {
+    for rho in 0..b.t {
         hash_row(out, matrix, table, sums, rho, b);
     }
 }
@@ -136,22 +124,19 @@ pub fn hash_all(out: &mut [u8], matrix: &[u8], table: &[u8], s: Sizes)
 {
     let k = format::sizes::hashed_bits(s);
     let width = format::sizes::bytes_for(k);
-    let t = s.t;
-    let tau = s.tau;
     let mut entries = [0u8; BLOCK * PER_BYTE * LANES];
-    let mut from = 0;
-    while from < width {
-        let len = strings::least(width - from, BLOCK);
+    for g in 0..width.div_ceil(BLOCK) {
+        let from = g * BLOCK;
+        let len = BLOCK.min(width - from);
         fill_entries(&mut entries, table, from, len);
         let b = Block {
             width,
             from,
             len,
             k,
-            t,
-            tau,
+            t: s.t,
+            tau: s.tau,
         };
         hash_block(out, matrix, table, &entries, b);
-        from += len;
     }
 }

@@ -29,12 +29,11 @@ fn load(table: &mut [u8], sums: &mut [u8], leaves: &[u8], s: Sizes)
     ensures { Loaded (alphabet_for s) (shape_for s) leaves.now table.new sums.new }
 {
     let w = leaf_bytes(s);
-    let tau = s.tau;
     tables::load_trees(
         &mut table[..BITS * w * LANES],
-        &mut sums[..tau * w],
+        &mut sums[..s.tau * w],
         leaves,
-        tau,
+        s.tau,
         w,
         degree_of(s),
     );

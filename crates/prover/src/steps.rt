@@ -38,7 +38,7 @@ pub fn hash_into(out: &mut [u8], matrix: &[u8], table: &[u8], sums: &[u8], s: Si
 }
 
 // Adds the masks of every repetition: A*₀, of its v_e, to qs0, and A*₁, of u_0, to qs1.
-fn add_masks(qs0: &mut [u8], qs1: &mut [u8], table: &[u8], sums: &[u8], s: Sizes)
+fn add_masks(qs0: &mut [u8; LANES], qs1: &mut [u8; LANES], table: &[u8], sums: &[u8], s: Sizes)
     requires { MasksReady (alphabet_for s) (shape_for s) table.now sums.now qs0.old qs1.old }
     ensures lanes_added { LanesAdded s.tau (λ e. mask_lane s.degree table.now (first_mask s e) e) qs0.old qs0.new }
     ensures lanes_added_2 { LanesAdded s.tau (λ e. mask_bits s.degree (block_at sums.now (w_of (alphabet_for s) (shape_for s)) 0) (first_mask s e))
@@ -51,8 +51,8 @@ fn add_masks(qs0: &mut [u8], qs1: &mut [u8], table: &[u8], sums: &[u8], s: Sizes
 
 // Adds what the equations of the key give at the vectors. `cells` is space.
 fn add_forms(
-    qs0: &mut [u8],
-    qs1: &mut [u8],
+    qs0: &mut [u8; LANES],
+    qs1: &mut [u8; LANES],
     cells: &mut [u8],
     key: &[u8],
     witness: &[u8],
@@ -69,10 +69,12 @@ fn add_forms(
         (bit witness.now) batching.now e (coordinate_of vectors.now e))
         qs1.old qs1.new }
 {
-    let n = s.n;
-    let m = s.m;
-    let tau = s.tau;
-    let degree = s.degree;
+    let d = Dimensions {
+        n: s.n,
+        m: s.m,
+        tau: s.tau,
+        degree: s.degree,
+    };
     forms::batch::batch_lanes(
         qs0,
         qs1,
@@ -82,7 +84,7 @@ fn add_forms(
         witness,
         batching,
         vectors,
-        Dimensions { n, m, tau, degree },
+        d,
     );
 }
 
@@ -99,15 +101,13 @@ pub fn batch_into(
     requires { BatchReady (alphabet_for s) (shape_for s) key.now witness.now batching.now space.old sums.now out.old }
     ensures { BatchWritten (alphabet_for s) (shape_for s) key.now witness.now batching.now space.old sums.now out.new }
 {
-    let n = s.n;
-    let tau = s.tau;
     let mut qs0 = [0u8; LANES];
     let mut qs1 = [0u8; LANES];
     let mut vectors = [0u8; VECTORS];
-    fill_vectors(&mut vectors, tau, space, n);
+    fill_vectors(&mut vectors, s.tau, space, s.n);
     add_masks(&mut qs0, &mut qs1, space, sums, s);
     add_forms(
         &mut qs0, &mut qs1, space, key, witness, batching, &vectors, s,
     );
-    put_two(out, &qs0[..tau], &qs1[..tau]);
+    put_two(out, &qs0[..s.tau], &qs1[..s.tau]);
 }

@@ -7,7 +7,7 @@ ghost use Rattle.format.specs.Sizes.{alphabet_for, shape_for};
 ghost use Rattle.prover_sections.specs.Framed.{CReady, CWritten, DReady, DWritten, UReady, UWritten, VReady, VWritten};
 
 use format::Sizes;
-use format::sizes::{hashed_bits, leaf_bytes};
+use format::sizes::{bytes_for, hashed_bits, leaf_bytes};
 use hash::vectors::hash_all;
 use lanes::LANES;
 use sections::COUNT;
@@ -21,9 +21,8 @@ pub fn write_c(out: &mut [u8], sums: &[u8], s: Sizes)
     ensures { CWritten (alphabet_for s) (shape_for s) sums.now out.new }
 {
     let w = leaf_bytes(s);
-    let tau = s.tau;
-    put_count(&mut out[..COUNT], (tau - 1) * w);
-    write_corrections(&mut out[COUNT..], sums, tau, w);
+    put_count(&mut out[..COUNT], (s.tau - 1) * w);
+    write_corrections(&mut out[COUNT..], sums, s.tau, w);
 }
 
 // d, from u_0 and the witness.
@@ -32,9 +31,8 @@ pub fn write_d(out: &mut [u8], witness: &[u8], sums: &[u8], s: Sizes)
     ensures { DWritten (alphabet_for s) (shape_for s) witness.now sums.now out.new }
 {
     let w = leaf_bytes(s);
-    let n = s.n;
     put_count(&mut out[..COUNT], witness.len());
-    write_difference(&mut out[COUNT..], witness, row_at(sums, w, 0), n);
+    write_difference(&mut out[COUNT..], witness, row_at(sums, w, 0), s.n);
 }
 
 // ũ, from u_0 and H'.
@@ -44,9 +42,8 @@ pub fn write_u(out: &mut [u8], matrix: &[u8], sums: &[u8], s: Sizes)
 {
     let w = leaf_bytes(s);
     let k = hashed_bits(s);
-    let t = s.t;
-    put_count(&mut out[..COUNT], format::sizes::bytes_for(t));
-    write_hash_bits(&mut out[COUNT..], matrix, row_at(sums, w, 0), k, t);
+    put_count(&mut out[..COUNT], bytes_for(s.t));
+    write_hash_bits(&mut out[COUNT..], matrix, row_at(sums, w, 0), k, s.t);
 }
 
 // Ṽ, from the v_e and H'.

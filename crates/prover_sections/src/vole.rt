@@ -7,6 +7,8 @@ ghost use Rattle.lanes.specs.Lanes.{lanes};
 ghost use Rattle.tables.specs.Sums.{CorrectionsAre};
 ghost use Rattle.prover_sections.specs.Hash.{hash_bit};
 
+use format::sizes::bytes_for;
+
 // C_(e+1) = u_(e+1) + u, as row e of the section.
 fn write_correction(out: &mut [u8], sums: &[u8], e: usize, w: usize)
     requires { (e < lanes) × (e * w + w ≤ length out.old) × ((e + 1) * w + w ≤ length sums.now) }
@@ -24,10 +26,8 @@ pub fn write_corrections(out: &mut [u8], sums: &[u8], tau: usize, w: usize)
     requires { (tau * w ≤ length sums.now) × (length out.old ≡ (tau - 1) * w) × (tau ≤ lanes) }
     ensures { CorrectionsAre out.new sums.now (tau - 1) w }
 {
-    let mut e = 0;
-    while e + 1 < tau {
-        write_correction(out, sums, e, w);
-        e += 1;
+    for e in 1..tau {
+        write_correction(out, sums, e - 1, w);
     }
 }
 
@@ -47,7 +47,7 @@ fn hash_bit(matrix: &[u8], u: &[u8], k: usize, rho: usize) -> u8
     requires { (rho * bytes_for k + bytes_for k ≤ length matrix.now) × (k + rho < length u.now * 8) × (length u.now ≤ 100000) }
     ensures { result ≡ hash_bit matrix.now u.now k rho }
 {
-    let width = (k + 7) / strings::BITS;
+    let width = bytes_for(k);
     let row = strings::row_at(matrix, width, rho);
     strings::parity::row_product(row, &u[..width]) ^ strings::bit_at(u, k + rho)
 }
@@ -57,7 +57,7 @@ pub fn write_hash_bits(out: &mut [u8], matrix: &[u8], u: &[u8], k: usize, t: usi
     requires { (length out.old ≡ bytes_for t) × (length matrix.now ≡ t * bytes_for k) × (k + t ≤ length u.now * 8) × (length u.now ≤ 100000) }
     ensures { out.new ≡ pack t (hash_bit matrix.now u.now k) }
 {
-    strings::clear(out);
+    out.fill(0);
     for rho in 0..t {
         strings::xor_bit(out, rho, hash_bit(matrix, u, k, rho));
     }

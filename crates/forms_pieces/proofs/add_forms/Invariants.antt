@@ -31,17 +31,17 @@ midTerm d n w m A vs xs χ e r J = part_term d n w m A χ e (byte_at xs) (coordi
 abbrev pub Held : ℕ → ℕ → ℕ → List ℕ → List ℕ → ℕ → ℕ → Type 0
 Held n w m A cells first top = FoldedSet n w m A top (first - top) (rows_of (first - top) (end_of n first - top)) cells
 
-abbrev pub invariant-loop-first : goal.invariant-loop-first
-invariant-loop-first l = let n = l.n in let polar = l.polar in let first = l.first in let top = l.top in let p = l.p in Walk first top × (first * 16 < n → first + p < end_of n first) × (first * 16 < n + 64) × (length l.quad ≡ lanes) × (length l.mid ≡ lanes) × SumsRoom l.sums
+abbrev pub invariant-loop-place : goal.invariant-loop-place
+invariant-loop-place l = let n = l.s.n in let polar = l.s.polar in let first = l.place.first in let top = l.place.top in let p = l.place.p in Walk first top × (first * 16 < n → first + p < end_of n first) × (first * 16 < n + 64) × (length l.quad ≡ lanes) × SumsRoom l.sums
     × (length l.stacks ≡ lanes * (planes * chunk))
-    × (length l.lines ≡ length l.initial.lines) × (length l.cells ≡ length l.initial.cells) × ((p ≡ 0 → ⊥) → Held n l.width l.m l.a l.cells first top)
-    × ((R : ℕ → ℕ) → Walked n first top p R → (χ : ℕ → ℕ → ℕ) (e : ℕ) → IsBytes χ → ChosenAll χ l.m l.tau l.words → e < l.tau
-    → byte_at l.quad e ≡ bit_xor (byte_at l.initial.quad e) (xor_sum (panels_of n) (λ J. quadTerm l.degree n l.width l.m l.a l.vectors χ e (R J) J)))
-    × ((R : ℕ → ℕ) → Walked n first top p R → (χ : ℕ → ℕ → ℕ) (e : ℕ) → IsBytes χ → ChosenAll χ l.m l.tau l.words → e < l.tau
-    → byte_at l.mid e ≡ bit_xor (byte_at l.initial.mid e) (xor_sum (panels_of n) (λ J. midTerm l.degree n l.width l.m l.a l.vectors l.xs χ e (R J) J)))
-    × (polar ≡ true → (R : ℕ → ℕ) → Walked n first top p R → (i c : ℕ) → i < l.m → c < n → AddedUpTo l.width (n * l.width) l.m l.a (byte_at l.xs) l.initial.lines l.lines i c (R (c / 16)))
+    × (length l.lines ≡ length l.initial.lines) × (length l.cells ≡ length l.initial.cells) × ((p ≡ 0 → ⊥) → Held n l.s.width l.s.m l.a l.cells first top)
+    × ((R : ℕ → ℕ) → Walked n first top p R → (χ : ℕ → ℕ → ℕ) (e : ℕ) → IsBytes χ → ChosenAll χ l.s.m l.s.tau l.words → e < l.s.tau
+    → byte_at l.quad e ≡ bit_xor (byte_at l.initial.quad e) (xor_sum (panels_of n) (λ J. quadTerm l.s.degree n l.s.width l.s.m l.a l.vectors χ e (R J) J)))
+    × ((R : ℕ → ℕ) → Walked n first top p R → (χ : ℕ → ℕ → ℕ) (e : ℕ) → IsBytes χ → ChosenAll χ l.s.m l.s.tau l.words → e < l.s.tau
+    → byte_at l.mid e ≡ bit_xor (byte_at l.initial.mid e) (xor_sum (panels_of n) (λ J. midTerm l.s.degree n l.s.width l.s.m l.a l.vectors l.xs χ e (R J) J)))
+    × (polar ≡ true → (R : ℕ → ℕ) → Walked n first top p R → (i c : ℕ) → i < l.s.m → c < n → AddedUpTo l.s.width (n * l.s.width) l.s.m l.a (byte_at l.xs) l.initial.lines l.lines i c (R (c / 16)))
     × (polar ≡ false → l.lines ≡ l.initial.lines)
 
-abbrev pub decreases-loop-first : goal.decreases-loop-first
-decreases-loop-first l =
-    walk_measure l.first l.top l.p
+abbrev pub decreases-loop-place : goal.decreases-loop-place
+decreases-loop-place l =
+    walk_measure l.place.first l.place.top l.place.p

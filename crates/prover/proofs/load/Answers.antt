@@ -28,8 +28,8 @@ pub slice_bounds-load_trees-end-2 : goal.slice_bounds-load_trees-end-2
 slice_bounds-load_trees-end-2 c =
     sym (take-length (8 * c.leaf_bytes-w.result * 48) c.args.table.now (rw c.leaf_bytes-w.ensures c.requires.2.table-room))
 
-pub overflow_mul-tau : goal.overflow_mul-tau
-overflow_mul-tau c =
+pub overflow_mul-s : goal.overflow_mul-s
+overflow_mul-s c =
     rw c.leaf_bytes-w.ensures (omega (arith, (room (setting_for c.args.s) (shape_for c.args.s) c.requires.0).sums-room))
 
 pub slice_bounds-load_trees-end-3 : goal.slice_bounds-load_trees-end-3

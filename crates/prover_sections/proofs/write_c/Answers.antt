@@ -16,11 +16,11 @@ use Rattle.prover_sections.proofs.write_c.Goals as goal
 pub slice_bounds-put_count-end-2 : goal.slice_bounds-put_count-end-2
 slice_bounds-put_count-end-2 c = simp length-take (omega arith)
 
-pub overflow_sub-tau : goal.overflow_sub-tau
-overflow_sub-tau c = (in-limits (shape_for c.args.s) c.requires.0).τ_least
+pub overflow_sub-s : goal.overflow_sub-s
+overflow_sub-s c = (in-limits (shape_for c.args.s) c.requires.0).τ_least
 
-pub overflow_mul-tau : goal.overflow_mul-tau
-overflow_mul-tau c =
+pub overflow_mul-s : goal.overflow_mul-s
+overflow_mul-s c =
     rw c.leaf_bytes-w.ensures (omega (arith, corrections_most (setting_for c.args.s) (shape_for c.args.s) c.requires.0))
 
 pub put_count-requires : goal.put_count-requires

@@ -38,7 +38,7 @@ batch_forms-requires c =
     let a = c.args in
     let unpacked = c.unpack in
     let past : (k : ℕ) → a.d.n ≤ k → byte_at unpacked.new.out k ≡ 0 = λ k h. unpacked.ensures.by_index_2 k h ∙ zeros most_variables k in
-    (pre.0, pre.1, pre.2, pre.3, pre.4, pre.5, pre.6, pre.7, pre.8, pre.9, pre.10, unpacked.auto.out, bits_lt a.d.n a.x.now unpacked.new.out unpacked.ensures.by_index past, past, (λ e. absurd (false≢true (sym e))), pre.12, pre.13)
+    (pre.0, omega arith, pre.2, pre.3, pre.4, pre.5, pre.6, pre.7, pre.8, pre.9, pre.10, unpacked.auto.out, bits_lt a.d.n a.x.now unpacked.new.out unpacked.ensures.by_index past, past, (λ e. absurd (false≢true (sym e))), pre.12, pre.13)
 
 pub returns : goal.returns
 returns c =

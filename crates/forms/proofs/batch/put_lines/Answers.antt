@@ -2,7 +2,7 @@
 -- Assumes nothing.
 use Prim.Native.Nat.{ℕ, ◌+◌, ◌*◌, ◌/◌, ◌%◌, ◌≤◌, ◌<◌}
 use mathlib.Core.List.{List}
-use mathlib.Core.Path.{◌≡◌, refl, ap, ◌∙◌}
+use mathlib.Core.Path.{◌≡◌, ap, ◌∙◌}
 use native.Mathlib.Nat.{mul_assoc}
 use native.Mathlib.Decide.{dec_lt}
 use native.Mathlib.Omega.{arith}
@@ -11,6 +11,7 @@ use Rattle.strings.proofs.Rows.{row-end}
 use Rattle.chunks.specs.Chunks.{chunk, cell_at}
 use Rattle.forms_batching.specs.Lines.{lines_tables, line_byte}
 use Rattle.forms.proofs.batch.put_lines.Invariants.{Put}
+use Rattle.std.proofs.lemmas.Grind.{div_ceil_times}
 use Rattle.forms.proofs.batch.put_lines.Goals as goal
 
 -- a table, among all
@@ -35,31 +36,24 @@ put_more m w g b L L' own kept old i k hi hk l = go (dec_lt k (g * chunk))
         ap (λ x. cell_at L' (x * m + i) (k % chunk)) table ∙ own i (k % chunk) hi (omega arith) (omega arith) ∙ ap (byte_at b) place
 
 pub loop-g-init : goal.loop-g-init
-loop-g-init c = (omega arith, refl, λ i k hi hk h. absurd (omega arith))
-
-pub overflow_mul-g : goal.overflow_mul-g
-overflow_mul-g c = omega (arith, c.loop-g.invariant.0, c.requires.2)
+loop-g-init c = λ i k hi hk h. absurd (omega arith)
 
 pub put_table-requires : goal.put_table-requires
 put_table-requires c =
     let a = c.args in
     let pre = c.requires in
     let l = c.loop-g in
-    let lt = c.loop-g-test.true in
-    (omega (arith, l.invariant.1, pre.0, table-end l.g a.m a.width lt pre.2), pre.1, omega (arith, lt))
-
-pub overflow_add-g : goal.overflow_add-g
-overflow_add-g c = omega (arith, c.loop-g.invariant.0, c.requires.2)
-
-pub loop-g-smaller : goal.loop-g-smaller
-loop-g-smaller c = omega (arith, c.loop-g-test.true)
+    let under : l.g * chunk < a.width = omega (arith, c.loop-g-test.true, c.div_ceil-g-end.ensures, (div_ceil_times a.width chunk (omega arith)).1) in
+    (omega (arith, l.auto.lines, pre.0, table-end l.g a.m a.width under pre.2), pre.1, omega (arith, under))
 
 pub loop-g-preserved : goal.loop-g-preserved
 loop-g-preserved c =
     let a = c.args in
     let l = c.loop-g in
     let done = c.put_table in
-    (omega (arith, c.loop-g-test.true), done.auto.lines ∙ l.invariant.1, put_more a.m a.width l.g a.b.now l.lines done.new.lines done.ensures.by_index done.ensures.by_index_2 l.invariant.2)
+    put_more a.m a.width l.g a.b.now l.lines done.new.lines done.ensures.by_index done.ensures.by_index_2 l.invariant
 
 pub returns : goal.returns
-returns c i k hi hk = c.loop-g.invariant.2 i k hi hk (omega arith)
+returns c i k hi hk =
+    let all = (div_ceil_times c.args.width chunk (omega arith)).0 in
+    c.loop-g.invariant i k hi hk (omega (arith, all, c.div_ceil-g-end.ensures))

@@ -1,9 +1,6 @@
 -- `forms::batch::put_lines` meets its contract. The invariant: the bytes of the first g tables are there.
 -- Assumes nothing.
-use Prim.Native.Nat.{ℕ, ◌+◌, ◌*◌, ◌-◌, ◌<◌}
-use mathlib.Core.List.{List}
-use mathlib.Core.Path.{◌≡◌}
-use lib.ListN.{length}
+use Rattle.std.proofs.Common.{ℕ, List, ◌≡◌, ◌+◌, ◌*◌, ◌<◌}
 use Rattle.strings.specs.Sums.{byte_at}
 use Rattle.chunks.specs.Chunks.{chunk}
 use Rattle.forms_batching.specs.Lines.{line_byte}
@@ -14,7 +11,4 @@ abbrev pub Put : ℕ → ℕ → List ℕ → List ℕ → ℕ → Type 0
 Put m w b L g = (i k : ℕ) → i < m → k < w → k < g * chunk → line_byte L m i k ≡ byte_at b (i * w + k)
 
 abbrev pub invariant-loop-g : goal.invariant-loop-g
-invariant-loop-g l = (l.g * chunk < l.width + chunk) × (length l.lines ≡ length l.initial.lines) × Put l.m l.width l.b l.lines l.g
-
-abbrev pub decreases-loop-g : goal.decreases-loop-g
-decreases-loop-g l = l.width + chunk - l.g * chunk
+invariant-loop-g l = Put l.m l.width l.b l.lines l.g

@@ -1,7 +1,6 @@
 -- `forms_batching::lines::add_each` meets its contract. The invariant: the lines below i are added to at the panel's
 -- columns, and all else is as it was.
 -- Assumes nothing.
-use borrow.Author.Rules.{rules}
 use Prim.Native.Nat.{ℕ, ◌+◌, ◌*◌, ◌/◌, ◌%◌}
 use mathlib.Core.List.{List}
 use mathlib.Core.Path.{◌≡◌, refl, ap, ap₂, ◌∙◌}
@@ -30,7 +29,7 @@ overflow_mul-first c =
     omega (arith, c.requires.0, table-end c.args.panel c.args.m c.requires.3)
 
 pub loop-i-init : goal.loop-i-init
-loop-i-init c = (search rules, refl, ((λ j h l. absurd (omega arith)), λ j k h o. refl))
+loop-i-init c = ((λ j h l. absurd (omega arith)), λ j k h o. refl)
 
 pub overflow_add-at : goal.overflow_add-at
 overflow_add-at c =
@@ -50,23 +49,23 @@ overflow_add-at-in-loop-i c =
 
 pub bounds-lines-at : goal.bounds-lines-at
 bounds-lines-at c =
-    omega (arith, c.requires.0, table-end c.args.panel c.args.m c.requires.3, c.loop-i.invariant.1)
+    omega (arith, c.requires.0, table-end c.args.panel c.args.m c.requires.3, c.loop-i.auto.lines)
 
 pub bounds-lines-at-in-loop-i : goal.bounds-lines-at-in-loop-i
 bounds-lines-at-in-loop-i c =
-    omega (arith, c.requires.0, table-end c.args.panel c.args.m c.requires.3, c.loop-i.invariant.1)
+    omega (arith, c.requires.0, table-end c.args.panel c.args.m c.requires.3, c.loop-i.auto.lines)
 
 pub overflow_add-lines : goal.overflow_add-lines
 overflow_add-lines c =
-    omega (arith, c.requires.0, table-end c.args.panel c.args.m c.requires.3, c.loop-i.invariant.1)
+    omega (arith, c.requires.0, table-end c.args.panel c.args.m c.requires.3, c.loop-i.auto.lines)
 
 pub bounds-lines-at-in-loop-i-2 : goal.bounds-lines-at-in-loop-i-2
 bounds-lines-at-in-loop-i-2 c =
-    simp length-set (omega (arith, c.requires.0, table-end c.args.panel c.args.m c.requires.3, c.loop-i.invariant.1))
+    simp length-set (omega (arith, c.requires.0, table-end c.args.panel c.args.m c.requires.3, c.loop-i.auto.lines))
 
 pub bounds-lines-at-in-loop-i-3 : goal.bounds-lines-at-in-loop-i-3
 bounds-lines-at-in-loop-i-3 c =
-    simp length-set (omega (arith, c.requires.0, table-end c.args.panel c.args.m c.requires.3, c.loop-i.invariant.1))
+    simp length-set (omega (arith, c.requires.0, table-end c.args.panel c.args.m c.requires.3, c.loop-i.auto.lines))
 
 pub loop-i-preserved : goal.loop-i-preserved
 loop-i-preserved c =
@@ -77,17 +76,14 @@ loop-i-preserved c =
     let second = c.sum_at-in-loop-i in
     let S = a.sums.now in
     let at = (a.panel / 16 * a.m + l.i) * chunk + a.panel % 16 * 2 in
-    let y = bit_xor (byte_at l.lines at) first.result in (
-      omega arith,
-      simp length-set l.invariant.1,
-      panel_more (half S) a.m a.panel a.lines.now l.lines l.i at y _ (line-place a.panel a.m l.i) (omega arith) (omega (arith, pre.0, l.invariant.1, table-end a.panel a.m pre.3))
-          (ap (bit_xor (byte_at l.lines at)) (first.ensures ∙ half-from S l.i 0 _ (omega arith)))
-          (ap (bit_xor (byte_at (set l.lines at y) (at + 1))) (second.ensures ∙ half-from S l.i 1 _ (omega arith)))
-          l.invariant.2,
-    )
+    let y = bit_xor (byte_at l.lines at) first.result in
+    panel_more (half S) a.m a.panel a.lines.now l.lines l.i at y _ (line-place a.panel a.m l.i) (omega arith) (omega (arith, pre.0, l.auto.lines, table-end a.panel a.m pre.3))
+    (ap (bit_xor (byte_at l.lines at)) (first.ensures ∙ half-from S l.i 0 _ (omega arith)))
+    (ap (bit_xor (byte_at (set l.lines at y) (at + 1))) (second.ensures ∙ half-from S l.i 1 _ (omega arith)))
+    l.invariant
 
 pub returns : goal.returns
 returns c =
     let l = c.loop-i in
     let end : l.i ≡ c.args.m = omega arith in
-    record { by_index = rw end at l.invariant.2.0; lines_beside = λ i k hi other. l.invariant.2.1 i k hi (λ lt. other) }
+    record { by_index = rw end at l.invariant.0; lines_beside = λ i k hi other. l.invariant.1 i k hi (λ lt. other) }

@@ -1,10 +1,8 @@
 -- `forms_batching::lines::add_each` meets its contract. The invariant: the lines below i are added to at the panel's
 -- columns, and all else is as it was.
 -- Assumes nothing.
-use Prim.Native.Nat.{ℕ, ◌+◌, ◌*◌, ◌-◌, ◌≤◌}
+use Prim.Native.Nat.{ℕ, ◌+◌, ◌*◌}
 use mathlib.Core.List.{List}
-use mathlib.Core.Path.{◌≡◌}
-use lib.ListN.{length}
 use Rattle.strings.specs.Sums.{xor_sum}
 use Rattle.chunks.specs.Chunks.{cell_at}
 use Rattle.forms_batching.proofs.LineLaws.{PanelAdded}
@@ -15,7 +13,4 @@ abbrev pub half : List ℕ → ℕ → ℕ → ℕ
 half S i h = xor_sum 16 (λ f. cell_at S i (h * 16 + f))
 
 abbrev pub invariant-loop-i : goal.invariant-loop-i
-invariant-loop-i l = (l.i ≤ l.m) × (length l.lines ≡ length l.initial.lines) × PanelAdded (half l.sums) l.m l.panel l.initial.lines l.lines l.i
-
-abbrev pub decreases-loop-i : goal.decreases-loop-i
-decreases-loop-i l = l.m - l.i
+invariant-loop-i l = PanelAdded (half l.sums) l.m l.panel l.initial.lines l.lines l.i

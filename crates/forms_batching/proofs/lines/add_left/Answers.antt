@@ -16,7 +16,7 @@ use Rattle.forms_batching.proofs.lines.add_left.Goals as goal
 pub add_each-requires : goal.add_each-requires
 add_each-requires c =
     let pre = c.requires in
-    (pre.0, omega (arith, pre.1, c.sum_each.auto.sums), pre.4, pre.5)
+    (pre.0, omega (arith, pre.1, c.sum_each.auto.sums), pre.3, pre.4)
 
 pub returns-then-polar : goal.returns-then-polar
 returns-then-polar c =
@@ -27,7 +27,7 @@ returns-then-polar c =
       left_added = (λ on x i h z bit masks hi hh hz.
           ap (λ (b : ℕ). bit_of b z) (each.ensures.by_index i h hi hh)
           ∙ bitOf_xor (line_byte a.lines.now a.s.m i (a.s.panel * 2 + h)) (xor_sum 16 (λ f. chunk_of i (h * 16 + f))) z
-          ∙ ap (bit_xor (bit_of (line_byte a.lines.now a.s.m i (a.s.panel * 2 + h)) z)) (half-left-bit a.cells.now a.bits.now (chunk_of i) x a.s.m i a.s.top a.s.rows h z (λ k. (c.type_inv.cells k).fits) bit masks c.requires.6 hh (λ k. summed.ensures i k hi)));
+          ∙ ap (bit_xor (bit_of (line_byte a.lines.now a.s.m i (a.s.panel * 2 + h)) z)) (half-left-bit a.cells.now a.bits.now (chunk_of i) x a.s.m i a.s.top a.s.rows h z (λ k. (c.type_inv.cells k).fits) bit masks c.requires.5 hh (λ k. summed.ensures i k hi)));
       lines_beside = each.ensures.lines_beside;
       lines_unchanged = λ off. absurd (true≢false (sym c.if-polar.true ∙ off));
     }

@@ -5,7 +5,7 @@ use Prim.Native.Nat.{ℕ, ◌+◌, ◌%◌}
 use mathlib.Core.Path.{◌≡◌, refl, sym, ap, ap₂}
 use native.Mathlib.Nat.{add_assoc}
 use native.Mathlib.Omega.{arith}
-use lib.ListN.{set, length-set}
+use lib.ListN.{set}
 use lib.Bits.{bit_xor, bit_and}
 use Rattle.strings.specs.Sums.{byte_at}
 use Rattle.chunks.proofs.HalfLaws.{halves_more}
@@ -13,7 +13,7 @@ use Rattle.forms_batching.proofs.lines.add_masked.Invariants.{masked}
 use Rattle.forms_batching.proofs.lines.add_masked.Goals as goal
 
 pub loop-f-init : goal.loop-f-init
-loop-f-init c = (search rules, c.requires.0, λ k h. ((λ l. absurd (omega arith)), λ l. refl))
+loop-f-init c = λ k h. ((λ l. absurd (omega arith)), λ l. refl)
 
 pub loop-f-preserved : goal.loop-f-preserved
 loop-f-preserved c =
@@ -23,16 +23,13 @@ loop-f-preserved c =
     let M = a.bits.now in
     let y = bit_xor (byte_at l.acc l.f) (bit_and (byte_at C (a.at + l.f)) (byte_at M (a.from + l.f))) in
     let low : l.f % 16 ≡ l.f = omega arith in
-    let high : (16 + l.f) % 16 ≡ l.f = omega arith in (
-      omega arith,
-      simp length-set l.invariant.1,
-      halves_more (masked C a.at M a.from) a.acc.now l.acc l.f y _ (omega arith) l.invariant.1
-          (ap (λ (k : ℕ). bit_xor (byte_at l.acc l.f) (bit_and (byte_at C (a.at + l.f)) (byte_at M (a.from + k)))) (sym low))
-          (ap₂ (λ (j k : ℕ). bit_xor (byte_at (set l.acc l.f y) (16 + l.f)) (bit_and (byte_at C j) (byte_at M (a.from + k)))) (add_assoc a.at 16 l.f) (sym high))
-          l.invariant.2,
-    )
+    let high : (16 + l.f) % 16 ≡ l.f = omega arith in
+    halves_more (masked C a.at M a.from) a.acc.now l.acc l.f y _ (omega arith) (search rules)
+    (ap (λ (k : ℕ). bit_xor (byte_at l.acc l.f) (bit_and (byte_at C (a.at + l.f)) (byte_at M (a.from + k)))) (sym low))
+    (ap₂ (λ (j k : ℕ). bit_xor (byte_at (set l.acc l.f y) (16 + l.f)) (bit_and (byte_at C j) (byte_at M (a.from + k)))) (add_assoc a.at 16 l.f) (sym high))
+    l.invariant
 
 pub returns : goal.returns
 returns c =
     let l = c.loop-f in
-    record { acc_len = l.invariant.1; by_index = λ k h. (l.invariant.2 k h).0 (omega arith) }
+    λ k h. (l.invariant k h).0 (omega arith)

@@ -1,7 +1,6 @@
 -- `forms_batching::lines::look_up_planes` meets its contract. The invariant: the planes below p are looked up.
 -- Assumes nothing.
-use borrow.Author.Rules.{rules}
-use mathlib.Core.Path.{◌≡◌, refl, ◌∙◌}
+use mathlib.Core.Path.{◌≡◌}
 use native.Mathlib.Omega.{arith}
 use Rattle.strings.proofs.Rows.{rows_more}
 use Rattle.chunks.specs.Chunks.{chunk}
@@ -9,20 +8,17 @@ use Rattle.forms_batching.proofs.lines.look_up_planes.Invariants.{looked}
 use Rattle.forms_batching.proofs.lines.look_up_planes.Goals as goal
 
 pub loop-p-init : goal.loop-p-init
-loop-p-init c = (search rules, refl, λ i f hi. absurd (omega arith))
+loop-p-init c = (λ i f hi. absurd (omega arith))
 
 pub loop-p-preserved : goal.loop-p-preserved
 loop-p-preserved c =
     let a = c.args in
     let l = c.loop-p in
-    let done = c.look_up_plane in (
-      omega arith,
-      done.auto.planes ∙ l.invariant.1,
-      rows_more (looked a.words.now a.sums.now a.base a.groups) l.planes done.new.planes l.p chunk l.invariant.2 done.ensures.by_index done.ensures.rows_kept,
-    )
+    let done = c.look_up_plane in
+    rows_more (looked a.words.now a.sums.now a.base a.groups) l.planes done.new.planes l.p chunk l.invariant done.ensures.by_index done.ensures.rows_kept
 
 pub returns : goal.returns
 returns c =
     let l = c.loop-p in
     let end : l.p ≡ 8 = omega arith in
-    rw end at l.invariant.2
+    rw end at l.invariant

@@ -1,9 +1,7 @@
 -- `forms_batching::lines::look_up_planes` meets its contract. The invariant: the planes below p are looked up.
 -- Assumes nothing.
-use Prim.Native.Nat.{ℕ, ◌+◌, ◌-◌, ◌≤◌}
+use Prim.Native.Nat.{ℕ, ◌+◌}
 use mathlib.Core.List.{List}
-use mathlib.Core.Path.{◌≡◌}
-use lib.ListN.{length}
 use Rattle.strings.proofs.Rows.{RowsAre}
 use Rattle.chunks.specs.Chunks.{chunk}
 use Rattle.forms_choices.specs.Entries.{looked_up}
@@ -14,7 +12,4 @@ abbrev pub looked : List ℕ → List ℕ → ℕ → ℕ → ℕ → ℕ → �
 looked words sums base groups p f = looked_up sums words (base + p) groups f
 
 abbrev pub invariant-loop-p : goal.invariant-loop-p
-invariant-loop-p l = (l.p ≤ 8) × (length l.planes ≡ length l.initial.planes) × RowsAre (looked l.words l.sums l.base l.groups) l.planes l.p chunk
-
-abbrev pub decreases-loop-p : goal.decreases-loop-p
-decreases-loop-p l = 8 - l.p
+invariant-loop-p l = RowsAre (looked l.words l.sums l.base l.groups) l.planes l.p chunk

@@ -2,7 +2,7 @@
 -- Assumes nothing.
 use borrow.Author.Rules.{rules}
 use Prim.Native.Nat.{ℕ, ◌+◌, ◌*◌, ◌≤◌, ◌<◌}
-use mathlib.Core.Path.{◌≡◌, refl, sym, ap, ◌∙◌}
+use mathlib.Core.Path.{◌≡◌, sym, ap, ◌∙◌}
 use native.Mathlib.Nat.{mul_assoc, zero-add}
 use native.Mathlib.Omega.{arith}
 use lib.ListN.{get_or-replicate}
@@ -24,7 +24,7 @@ chunk_end q i m rows hq hi =
 
 pub loop-q-init : goal.loop-q-init
 unfolding xor_sum
-loop-q-init c = (search rules, refl, λ k h. get_or-replicate chunk k 0 0 h)
+loop-q-init c = λ k h. get_or-replicate chunk k 0 0 h
 
 pub overflow_mul-q : goal.overflow_mul-q
 overflow_mul-q c =
@@ -52,25 +52,22 @@ add_masked-requires c =
     let a = c.args in
     let l = c.loop-q in
     let end = chunk_end l.q a.i a.m a.rows (omega arith) (omega arith) in
-    (l.invariant.1, omega (arith, end, c.requires.2), search rules)
+    (omega (arith, end, c.requires.2), search rules)
 
 pub loop-q-preserved : goal.loop-q-preserved
 loop-q-preserved c =
     let a = c.args in
     let l = c.loop-q in
-    let done = c.add_masked in (
-      omega arith,
-      done.ensures.acc_len,
-      (λ k h. done.ensures.by_index k h ∙ ap (λ (x : ℕ). bit_xor x (masked a.cells.now a.bits.now a.m a.top a.i k l.q)) (l.invariant.2 k h) ∙ sym (sum_more l.q (masked a.cells.now a.bits.now a.m a.top a.i k))),
-    )
+    let done = c.add_masked in
+    λ k h. done.ensures k h ∙ ap (λ (x : ℕ). bit_xor x (masked a.cells.now a.bits.now a.m a.top a.i k l.q)) (l.invariant k h) ∙ sym (sum_more l.q (masked a.cells.now a.bits.now a.m a.top a.i k))
 
 pub copy_part-requires : goal.copy_part-requires
 copy_part-requires c =
-    (omega (arith, c.requires.0, c.requires.1), omega (arith, c.loop-q.invariant.1))
+    (omega (arith, c.requires.0, c.requires.1), omega arith)
 
 pub returns : goal.returns
 returns c =
     let l = c.loop-q in
     let done = c.copy_part in
     let end : l.q ≡ c.args.rows = omega arith in
-    record { by_index = (λ k h. rw zero-add at (done.ensures.by_index k h) ∙ rw end at (l.invariant.2 k h)); rows_kept = done.ensures.rows_kept }
+    record { by_index = (λ k h. rw zero-add at (done.ensures.by_index k h) ∙ rw end at (l.invariant k h)); rows_kept = done.ensures.rows_kept }

@@ -1,9 +1,8 @@
 -- `forms_batching::lines::sum_left` meets its contract. The invariant: the rows of the first q sixteens are added.
 -- Assumes nothing.
-use Prim.Native.Nat.{ℕ, ◌+◌, ◌*◌, ◌-◌, ◌%◌, ◌≤◌, ◌<◌}
+use Prim.Native.Nat.{ℕ, ◌+◌, ◌*◌, ◌%◌, ◌<◌}
 use mathlib.Core.List.{List}
 use mathlib.Core.Path.{◌≡◌}
-use lib.ListN.{length}
 use lib.Bits.{bit_and}
 use Rattle.strings.specs.Sums.{byte_at, xor_sum}
 use Rattle.chunks.specs.Chunks.{chunk}
@@ -14,7 +13,4 @@ abbrev pub masked : List ℕ → List ℕ → ℕ → ℕ → ℕ → ℕ → �
 masked cells bits m top i k q = bit_and (byte_at cells ((q * m + i) * chunk + k)) (byte_at bits ((top + q) * 16 + k % 16))
 
 abbrev pub invariant-loop-q : goal.invariant-loop-q
-invariant-loop-q l = let acc = l.acc in let q = l.q in (q ≤ l.rows) × (length acc ≡ chunk) × ((k : ℕ) → k < chunk → byte_at acc k ≡ xor_sum q (masked l.cells l.bits l.m l.top l.i k))
-
-abbrev pub decreases-loop-q : goal.decreases-loop-q
-decreases-loop-q l = l.rows - l.q
+invariant-loop-q l = let acc = l.acc in let q = l.q in ((k : ℕ) → k < chunk → byte_at acc k ≡ xor_sum q (masked l.cells l.bits l.m l.top l.i k))

@@ -4,7 +4,7 @@ use Prim.Native.Nat.{ℕ, ◌+◌, ◌*◌, ◌/◌, ◌%◌, ◌≤◌, ◌<◌
 use mathlib.Core.List.{List, ◌++◌}
 use mathlib.Core.Path.{◌≡◌, ap, ◌∙◌}
 use native.Mathlib.Omega.{arith}
-use lib.ListN.{length, drop, length-take, length-append, get_or-append}
+use lib.ListN.{length, drop, length-take, length-append, get_or-append, get_or-replicate}
 use lib.Seq.{length-take-le}
 use lib.Bits.{bit_xor, xor_zero_l}
 use Rattle.strings.specs.Sums.{byte_at, xor_sum}
@@ -19,16 +19,16 @@ use Rattle.forms_batching.proofs.panels.stack_part.Goals as goal
 cleared : (d : ℕ) (r l : List ℕ) (k : ℕ) → length r ≡ k → ((b : ℕ) → b < length r → byte_at r b ≡ 0) → (e f z : ℕ) → e * (planes * chunk) + planes * chunk ≤ k → f < chunk → stack_of d (r ++ l) e f z ≡ 0
 cleared d r l k long zero e f z h hf = stack_none d (r ++ l) e f z hf (λ b hb. get_or-append r l 0 (e * (planes * chunk) + b) (omega arith) ∙ zero (e * (planes * chunk) + b) (omega arith))
 
-pub slice_bounds-clear-end-2 : goal.slice_bounds-clear-end-2
-slice_bounds-clear-end-2 c = simp length-take (omega arith)
+pub slice_bounds-fill-end-2 : goal.slice_bounds-fill-end-2
+slice_bounds-fill-end-2 c = simp length-take (omega arith)
 
 pub collect-requires : goal.collect-requires
 collect-requires c =
     let a = c.args in
     let pre = c.requires in
     let k : ℕ = a.s.tau * (planes * chunk) in
-    let r = c.clear.new.dst in
-    let front : length r ≡ k = c.clear.auto.dst ∙ length-take-le k a.stacks.now pre.0 in
+    let r = c.fill.new.self in
+    let front : length r ≡ k = c.fill.ensures.len ∙ length-take-le k a.stacks.now pre.0 in
     let whole : k ≤ length (r ++ drop k a.stacks.now) = rw (length-append r (drop k a.stacks.now)) (omega (arith, front)) in
     (whole, pre.1, pre.2, pre.3, pre.4, pre.5, pre.6, pre.7, pre.8, pre.9, pre.10)
 
@@ -39,9 +39,9 @@ returns c =
     let collected = c.collect in
     let cells = a.cells.now in
     let k : ℕ = a.s.tau * (planes * chunk) in
-    let r = c.clear.new.dst in
-    let front : length r ≡ k = c.clear.auto.dst ∙ length-take-le k a.stacks.now pre.0 in
-    let empty = cleared a.s.degree r (drop k a.stacks.now) k front (λ b h. c.clear.ensures b (omega (arith, h, c.clear.auto.dst))) in
+    let r = c.fill.new.self in
+    let front : length r ≡ k = c.fill.ensures.len ∙ length-take-le k a.stacks.now pre.0 in
+    let empty = cleared a.s.degree r (drop k a.stacks.now) k front (λ b h. ap (λ (x : List ℕ). byte_at x b) (c.fill.ensures.after (λ y e. e)) ∙ get_or-replicate _ b 0 0 (omega (arith, h, c.fill.ensures.len))) in
     λ A χ n w J count e s folded held above small chosen end narrow he hs col.
     fold_is a.s.degree n w a.s.m A χ cells e a.top J count a.rows folded held above (coordinate_of a.vectors.now e) (λ ρ past inside. end e ρ he past (omega (arith, inside, pre.3))) collected.new.stacks s hs col
     (λ f hf.

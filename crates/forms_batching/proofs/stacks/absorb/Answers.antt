@@ -1,7 +1,6 @@
 -- `forms_batching::stacks::absorb` meets its contract. The invariant: of the planes below the degree, those below 2·k
 -- are added, each times its power. What they come to is `StackLaws`.
 -- Assumes nothing.
-use borrow.Author.Rules.{rules}
 use Prim.Native.Nat.{ℕ, ◌+◌, ◌*◌, ◌^◌, ◌<◌}
 use mathlib.Core.List.{List}
 use mathlib.Core.Path.{◌≡◌, refl, sym, ap, ◌∙◌}
@@ -20,10 +19,10 @@ use Rattle.forms_batching.proofs.stacks.absorb.Goals.{then-k-r, else-k-r}
 
 pub loop-k-init : goal.loop-k-init
 unfolding xor_sum
-loop-k-init c = (search rules, search rules, λ d S v χ m f z is w k l i. sym (xor_zero_r _))
+loop-k-init c = (c.requires.0, λ d S v χ m f z is w k l i. sym (xor_zero_r _))
 
 pub absorb_two-requires : goal.absorb_two-requires
-absorb_two-requires c = (c.loop-k.invariant.1, omega (arith, c.loop-k-test.true), c.requires.1, c.requires.2, c.requires.3, c.requires.4)
+absorb_two-requires c = (c.loop-k.invariant.0, omega (arith, c.loop-k-test.true), c.requires.1, c.requires.2, c.requires.3)
 
 pub loop-k-preserved : goal.loop-k-preserved
 loop-k-preserved c =
@@ -37,20 +36,20 @@ loop-k-preserved c =
       | then-k-r w ↦ rw w.t-is (
         w.absorb_two.auto.t,
         (λ d S v χ m f z is weighed masks narrow h.
-            two-more d (stack_at d a.t.now f z) (stack_at d l.t f z) l.k (plane_times d v S χ m f z) (l.invariant.2 d S v χ m f z is weighed masks narrow h) _ (omega (arith, is, w.if-k-r.true)) (w.absorb_two.ensures d S v χ m f z weighed masks narrow h)),
+            two-more d (stack_at d a.t.now f z) (stack_at d l.t f z) l.k (plane_times d v S χ m f z) (l.invariant.1 d S v χ m f z is weighed masks narrow h) _ (omega (arith, is, w.if-k-r.true)) (w.absorb_two.ensures d S v χ m f z weighed masks narrow h)),
       )
       | else-k-r w ↦ rw w.t-is (
         refl,
         (λ d S v χ m f z is weighed masks narrow h.
-            none_more d (stack_at d a.t.now f z) (stack_at d l.t f z) l.k (plane_times d v S χ m f z) (l.invariant.2 d S v χ m f z is weighed masks narrow h) (omega (arith, is, w.if-k-r.false))),
+            none_more d (stack_at d a.t.now f z) (stack_at d l.t f z) l.k (plane_times d v S χ m f z) (l.invariant.1 d S v χ m f z is weighed masks narrow h) (omega (arith, is, w.if-k-r.false))),
       )
     ] in
-    (omega (arith, c.loop-k-test.true), step.0 ∙ l.invariant.1, step.1)
+    (step.0 ∙ l.invariant.0, step.1)
 
 pub returns : goal.returns
 returns c =
     let a = c.args in
     let l = c.loop-k in
-    let end : l.k ≡ 4 = omega (arith, l.invariant.0, c.loop-k-test.false) in
+    let end : l.k ≡ 4 = omega (arith, c.loop-k-test.false) in
     λ d S v χ m f z is weighed masks narrow h.
-    (rw end at l.invariant.2) d S v χ m f z is weighed masks narrow h ∙ ap (bit_xor (stack_at d a.t.now f z)) (all-planes d v S χ m f z)
+    (rw end at l.invariant.1) d S v χ m f z is weighed masks narrow h ∙ ap (bit_xor (stack_at d a.t.now f z)) (all-planes d v S χ m f z)

@@ -24,7 +24,7 @@ use Rattle.forms_batching.proofs.stacks.absorb_lane.Goals as goal
 pub absorb-requires : goal.absorb-requires
 absorb-requires c =
     let pre = c.requires in
-    (search rules, search rules, pre.2, pre.3, search rules)
+    (search rules, search rules, pre.2, pre.3)
 
 pub returns : goal.returns
 unfolding block_at part

@@ -4,7 +4,7 @@
 use borrow.Author.Rules.{rules}
 use Prim.Native.Nat.{ℕ, ◌+◌, ◌*◌, ◌/◌, ◌≤◌, ◌<◌}
 use mathlib.Core.List.{List}
-use mathlib.Core.Path.{◌≡◌, refl, sym, ap, ap₂, ◌∙◌}
+use mathlib.Core.Path.{◌≡◌, sym, ap, ap₂, ◌∙◌}
 use native.Mathlib.Nat.{add_assoc, add-mul, mul_assoc, zero-mul}
 use native.Mathlib.Decide.{dec_lt}
 use native.Mathlib.Omega.{arith}
@@ -55,10 +55,10 @@ sum_is cells χ m e q f z h =
 pub loop-q-init : goal.loop-q-init
 unfolding xor_sum
 loop-q-init c =
-    (search rules, refl, c.requires.1, λ d χ e h f z is s k n l i j. sym (xor_zero_r _))
+    (λ d χ e h f z is s k n l i j. sym (xor_zero_r _))
 
-pub row_at-requires : goal.row_at-requires
-row_at-requires c =
+pub row_at-table-requires : goal.row_at-table-requires
+row_at-table-requires c =
     let a = c.args in
     let pre = c.requires in
     let l = c.loop-q in
@@ -68,13 +68,13 @@ pub fill_sums-requires : goal.fill_sums-requires
 fill_sums-requires c =
     let pre = c.requires in
     let l = c.loop-q in
-    (omega (arith, l.invariant.2, pre.5, pre.8), c.row_at.ensures.1)
+    (omega (arith, pre.1, l.auto.sums, pre.5, pre.8), c.row_at-table.ensures.1)
 
 pub add_first-requires : goal.add_first-requires
 add_first-requires c =
     let pre = c.requires in
     let l = c.loop-q in
-    (omega (arith, l.invariant.1, pre.0, pre.6), omega (arith, l.invariant.2, c.fill_sums.auto.sums))
+    (omega (arith, l.auto.stacks, pre.0, pre.6), omega (arith, pre.1, l.auto.sums, c.fill_sums.auto.sums))
 
 pub absorb_lanes-requires : goal.absorb_lanes-requires
 absorb_lanes-requires c =
@@ -82,21 +82,27 @@ absorb_lanes-requires c =
     let l = c.loop-q in
     let filled = c.fill_sums in
     let settled = c.add_first in (
-      omega (arith, pre.0, settled.auto.dst, l.invariant.1),
+      omega (arith, pre.0, settled.auto.dst, l.auto.stacks),
       pre.9,
       pre.8.0,
-      omega (arith, filled.auto.sums, l.invariant.2),
+      omega (arith, pre.1, filled.auto.sums, l.auto.sums),
       pre.10,
       omega (arith, pre.3, c.loop-q-test.true),
       pre.7,
     )
+
+pub overflow_add-top : goal.overflow_add-top
+overflow_add-top c =
+    let pre = c.requires in
+    let few : c.loop-q.q ≤ most_variables = omega (arith, pre.3, c.loop-q-test.true) in
+    search (rules, few)
 
 pub loop-q-preserved : goal.loop-q-preserved
 loop-q-preserved c =
     let a = c.args in
     let pre = c.requires in
     let l = c.loop-q in
-    let row = c.row_at in
+    let row = c.row_at-table in
     let filled = c.fill_sums in
     let settled = c.add_first in
     let done = c.absorb_lanes in
@@ -108,22 +114,18 @@ loop-q-preserved c =
     let some : 0 < a.s.groups * 32 = omega (arith, pre.8.1, pre.4) in
     let same = unchanged S filled.new.sums l.stacks settled.new.dst (a.s.groups * 32) some tabled settled.ensures.by_index settled.ensures.by_index_2 in
     let all : (χ : ℕ → ℕ → ℕ) → IsBytes χ → ChosenAll χ a.s.m a.s.tau a.words.now → (q : ℕ) → q < a.s.tau → Weighed S (up_to a.s.m (χ q)) a.s.m filled.new.sums a.words.now a.s.groups (q * 8) =
-    λ χ. weighed-rows S filled.new.sums a.words.now χ a.s.m a.s.groups a.s.tau tabled long pre.8.1 few in (
-      omega (arith, c.loop-q-test.true),
-      done.auto.stacks ∙ settled.auto.dst ∙ l.invariant.1,
-      filled.auto.sums ∙ l.invariant.2,
-      (λ d χ e h f z is small chosen narrow he hh hf.
-          let inside : h * 16 + f < chunk = omega arith in
-          done.ensures d S (λ q. up_to a.s.m (χ q)) a.s.m e h f z is (all χ small chosen) narrow he hh hf
-          ∙ ap₂ (λ (y x : ℕ). bit_xor y (byte_product d (coordinate_of a.vectors.now e ((a.top + l.q) * 16 + f)) x))
-          (stack_same d settled.new.dst l.stacks e (h * 16 + f) z inside (λ b k. same (e * (planes * chunk) + b)))
-          (sum_is cells χ a.s.m e l.q (h * 16 + f) z inside)
-          ∙ sum_step (stack_of d a.stacks.now e (h * 16 + f) z) (stack_of d l.stacks e (h * 16 + f) z) l.q (term d cells a.s.m χ a.vectors.now a.top e h f z) (l.invariant.3 d χ e h f z is small chosen narrow he hh hf)),
-    )
+    λ χ. weighed-rows S filled.new.sums a.words.now χ a.s.m a.s.groups a.s.tau tabled long pre.8.1 few in
+    (λ d χ e h f z is small chosen narrow he hh hf.
+    let inside : h * 16 + f < chunk = omega arith in
+    done.ensures d S (λ q. up_to a.s.m (χ q)) a.s.m e h f z is (all χ small chosen) narrow he hh hf
+    ∙ ap₂ (λ (y x : ℕ). bit_xor y (byte_product d (coordinate_of a.vectors.now e ((a.top + l.q) * 16 + f)) x))
+    (stack_same d settled.new.dst l.stacks e (h * 16 + f) z inside (λ b k. same (e * (planes * chunk) + b)))
+    (sum_is cells χ a.s.m e l.q (h * 16 + f) z inside)
+    ∙ sum_step (stack_of d a.stacks.now e (h * 16 + f) z) (stack_of d l.stacks e (h * 16 + f) z) l.q (term d cells a.s.m χ a.vectors.now a.top e h f z) (l.invariant d χ e h f z is small chosen narrow he hh hf))
 
 pub returns : goal.returns
 returns c =
     let a = c.args in
     let l = c.loop-q in
     let end : l.q ≡ a.rows = omega arith in
-    λ χ e h f z. (rw end at l.invariant.3) a.s.degree χ e h f z c.degree_of-r.ensures
+    λ χ e h f z. (rw end at l.invariant) a.s.degree χ e h f z c.degree_of-r.ensures

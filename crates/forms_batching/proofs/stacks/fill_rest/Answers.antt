@@ -1,6 +1,5 @@
 -- `forms_batching::stacks::fill_rest` meets its contract. The invariant: the ends of the first e vectors are there.
 -- Assumes nothing.
-use borrow.Author.Rules.{rules}
 use Prim.Native.Nat.{ℕ, ◌+◌, ◌≤◌, ◌<◌}
 use mathlib.Core.Path.{◌≡◌, refl, ◌∙◌}
 use mathlib.Core.List.{List}
@@ -22,23 +21,21 @@ rest_more T n from e l l' own kept done i c hi low hc = go (dec_lt i e)
     go (no ge) = let same : i ≡ e = omega arith in rw same (own c low hc)
 
 pub loop-e-init : goal.loop-e-init
-loop-e-init c = (search rules, search rules, (λ i k h. absurd (omega arith)), (λ i k h. refl))
+loop-e-init c = ((λ i k h. absurd (omega arith)), (λ i k h. refl))
 
 pub put_vector-requires : goal.put_vector-requires
-put_vector-requires c = (c.requires.0, omega arith, c.requires.2, c.loop-e.invariant.1)
+put_vector-requires c = (c.requires.0, omega arith, c.requires.2)
 
 pub loop-e-preserved : goal.loop-e-preserved
 loop-e-preserved c =
     let a = c.args in
     let l = c.loop-e in
     let done = c.put_vector in (
-      omega arith,
-      done.auto.vectors ∙ l.invariant.1,
-      rest_more a.table.now a.n a.from l.e l.vectors done.new.vectors done.ensures.by_index done.ensures.by_index_2 l.invariant.2,
-      (λ i k h. done.ensures.by_index_2 i k (omega (arith, h, c.requires.2)) (λ _ low. omega arith) ∙ l.invariant.3 i k h),
+      rest_more a.table.now a.n a.from l.e l.vectors done.new.vectors done.ensures.by_index done.ensures.by_index_2 l.invariant.0,
+      (λ i k h. done.ensures.by_index_2 i k (omega (arith, h, c.requires.2)) (λ _ low. omega arith) ∙ l.invariant.1 i k h),
     )
 
 pub returns : goal.returns
 returns c =
     let l = c.loop-e in
-    record { by_index = (λ i k h low hk. l.invariant.2 i k (omega arith) low hk); by_index_2 = l.invariant.3 }
+    record { by_index = (λ i k h low hk. l.invariant.0 i k (omega arith) low hk); by_index_2 = l.invariant.1 }

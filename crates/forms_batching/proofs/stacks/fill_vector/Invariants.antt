@@ -1,9 +1,8 @@
 -- `forms_batching::stacks::fill_vector` meets its contract. Each element is changed once (`Elementwise`).
 -- Assumes nothing.
-use Prim.Native.Nat.{ℕ, ◌+◌, ◌-◌, ◌≤◌}
+use Prim.Native.Nat.{ℕ, ◌+◌}
 use mathlib.Core.List.{List}
 use mathlib.Core.Path.{◌≡◌}
-use lib.ListN.{length}
 use Rattle.strings.proofs.Elementwise.{changed}
 use Rattle.lanes.specs.Lanes.{lane_at}
 use Rattle.forms_choices.specs.Entries.{up_to}
@@ -13,7 +12,4 @@ abbrev pub change : List ℕ → ℕ → ℕ → ℕ → ℕ → ℕ → ℕ
 change table n e from c x = up_to n (λ k. lane_at table k e) (from + c)
 
 abbrev pub invariant-loop-c : goal.invariant-loop-c
-invariant-loop-c l = (l.c ≤ length l.initial.v) × (l.v ≡ changed (change l.table l.n l.e l.from) l.initial.v l.c) × (length l.v ≡ length l.initial.v)
-
-abbrev pub decreases-loop-c : goal.decreases-loop-c
-decreases-loop-c l = length l.initial.v - l.c
+invariant-loop-c l = l.v ≡ changed (change l.table l.n l.e l.from) l.initial.v l.c

@@ -1,42 +1,38 @@
--- `forms_folds::mirrors::reflect_all` meets its contract. The invariant: the columns below k are reflected.
+-- `forms_folds::mirrors::reflect_all` meets its contract. The invariant: the columns below col are reflected.
 -- Assumes nothing.
-use borrow.Author.Rules.{rules}
-use Prim.Native.Nat.{suc, ◌+◌, ◌*◌, ◌≤◌, ◌<◌}
-use mathlib.Core.Path.{◌∙◌}
+use Rattle.std.proofs.Common.{ℕ, ◌+◌, ◌*◌, ◌-◌, ◌≤◌, ◌<◌, ◌≡◌, drop, arith}
 use native.Mathlib.Nat.{mul-le-mul_right}
-use native.Mathlib.Omega.{arith}
-use lib.ListN.{drop}
-use Rattle.strings.proofs.LeastLaws.{under_least}
+use native.Mathlib.Decide.{dec_lt}
 use Rattle.forms_folds.specs.Sets.{Reflected}
 use Rattle.forms_folds.proofs.MirrorLaws.{reflected_stays}
-use Rattle.forms_folds.proofs.SetLaws.{below_next}
 use Rattle.forms_folds.proofs.mirrors.reflect_all.Goals as goal
 
-pub loop-k-init : goal.loop-k-init
-loop-k-init c = (search rules, search rules, λ x h. absurd (omega arith))
+pub loop-col-init : goal.loop-col-init
+loop-col-init c = λ x h. absurd (omega arith)
 
 pub reflect-requires : goal.reflect-requires
 reflect-requires c =
     let a = c.args in
-    let k = c.loop-k.k in
-    let rows : (2 * a.first + k) * 8 + 8 ≤ a.end * 16 = omega arith in
+    let col = c.loop-col.col in
+    let rows : col * 8 + 8 ≤ a.piece.end * 16 = omega arith in
     (omega arith, omega arith, omega arith, (λ tall. omega (arith, c.requires.4 tall)), omega arith, omega (arith, mul-le-mul_right a.width rows))
 
-pub loop-k-preserved : goal.loop-k-preserved
-loop-k-preserved c =
+pub loop-col-preserved : goal.loop-col-preserved
+loop-col-preserved c =
     let a = c.args in
-    let l = c.loop-k in
+    let l = c.loop-col in
     let done = c.reflect in
     let few = c.requires.3 in
-    let M = drop a.from a.src.now in (
-      omega arith,
-      done.auto.turned ∙ l.invariant.1,
-      below_next (λ x. 2 * a.first + x < 2 * a.end → Reflected a.width M (2 * a.first + x) a.count done.new.turned x) l.k (λ _. done.ensures.reflected)
-          (λ x lt h. reflected_stays a.width M (2 * a.first + x) a.count x l.k l.turned done.new.turned done.ensures.rows_kept (λ e. omega arith) few (l.invariant.2 x lt h)),
-    )
+    let M = drop a.from a.src.now in
+    let go : (x : ℕ) → 2 * a.piece.first + x < l.col + 1 → Dec (2 * a.piece.first + x < l.col) → Reflected a.width M (2 * a.piece.first + x) a.piece.count done.new.turned x = λ x h d.
+    elim d [
+      | yes lt ↦ reflected_stays a.width M (2 * a.piece.first + x) a.piece.count x (l.col - 2 * a.piece.first) l.turned done.new.turned done.ensures.rows_kept (λ e. omega (arith, lt, e)) few (l.invariant x lt)
+      | no ge ↦
+          let is : x ≡ l.col - 2 * a.piece.first = omega arith in
+          let at : 2 * a.piece.first + x ≡ l.col = omega arith in
+          rw (at, is) done.ensures.reflected
+    ] in
+    λ x h. go x h (dec_lt (2 * a.piece.first + x) l.col)
 
 pub returns : goal.returns
-returns c =
-    let a = c.args in
-    let least = c.least-last in
-    λ k h w. c.loop-k.invariant.2 k (omega (arith, under_least (suc (2 * a.first + k)) least.result (2 * a.end) a.width least.ensures.2 h w)) h
+returns c = λ k h w. c.loop-col.invariant k (omega arith)

@@ -6,8 +6,8 @@ use Rattle.forms_folds.proofs.ArrayLaws.{halves_long}
 use Rattle.forms_folds.proofs.SetLaws.{parted}
 use Rattle.forms_folds.proofs.rows.part_rows.Goals as goal
 
-pub slice_bounds-part-end : goal.slice_bounds-part-end
-slice_bounds-part-end c =
+pub slice_bounds-part-end-2 : goal.slice_bounds-part-end-2
+slice_bounds-part-end-2 c =
     sym (halves_long c.copy_apart.new.dst _ c.copy_apart-2.new.dst c.copy_apart.auto.dst refl c.copy_apart-2.auto.dst)
 
 pub part-requires : goal.part-requires

@@ -26,8 +26,8 @@ overflow_mul-begin c =
     let a = c.args in
     omega (arith, (fits c.begin.result a.piece.first a.piece.count a.p a.q a.m c.begin.ensures (c.requires.0.0.6 a.p (omega arith)) (omega arith) (omega arith)).1)
 
-pub overflow_add-begin-then-first-p : goal.overflow_add-begin-then-first-p
-overflow_add-begin-then-first-p c =
+pub overflow_add-begin-then-panel-piece : goal.overflow_add-begin-then-panel-piece
+overflow_add-begin-then-panel-piece c =
     let a = c.args in
     omega (arith, (fits c.begin.result a.piece.first a.piece.count a.p a.q a.m c.begin.ensures (c.requires.0.0.6 a.p (omega arith)) (omega arith) (omega arith)).1)
 
@@ -37,8 +37,8 @@ copy_part-requires c =
     let end = (fits c.begin.result a.piece.first a.piece.count a.p a.q a.m c.begin.ensures (c.requires.0.0.6 a.p (omega arith)) (omega arith) (omega arith)).1 in
     (omega (arith, end), omega arith)
 
-pub returns-then-first-p : goal.returns-then-first-p
-returns-then-first-p c =
+pub returns-then-panel-piece : goal.returns-then-panel-piece
+returns-then-panel-piece c =
     let a = c.args in
     let copy = c.copy_front in
     let sum = c.add_turned in
@@ -46,6 +46,6 @@ returns-then-first-p c =
     let done = c.copy_part in record {
       e_after = (λ hq hend e he.
           let byte : 2 * a.p * piece_rows + a.q * 16 + (e / 16 * piece_rows + e % 16) ≡ (2 * a.p + e / 16) * piece_rows + (a.q * 16 + e % 16) = omega arith in
-          rw (begin.ensures, zero-add) at (done.ensures.by_index e he) ∙ sum.ensures.by_index e he ∙ ap₂ bit_xor (copy.ensures.by_index e he) (ap (byte_at a.turned.now) byte));
+          rw (begin.ensures, zero-add) at (done.ensures.by_index e he) ∙ sum.ensures e he ∙ ap₂ bit_xor (copy.ensures.by_index e he) (ap (byte_at a.turned.now) byte));
       by_index = λ at e other he. done.ensures.rows_kept at e (rw begin.ensures (other (omega arith))) he;
     }

@@ -1,20 +1,10 @@
--- `forms_choices::sums::add_first` meets its contract. Each element of a chunk is changed once (`Elementwise`).
+-- `forms_sums::sums::add_first` meets its contract. Each element of a chunk is changed once (`Elementwise`).
 -- Assumes nothing.
-use Prim.Native.Nat.{ℕ, ◌≤◌, ◌-◌}
-use mathlib.Core.List.{List}
-use mathlib.Core.Path.{◌≡◌}
-use lib.ListN.{length}
+use Rattle.std.proofs.Common.{◌≡◌}
 use lib.Bits.{bit_xor}
 use Rattle.strings.specs.Sums.{byte_at}
 use Rattle.strings.proofs.Elementwise.{changed}
-use Rattle.chunks.specs.Chunks.{chunk}
 use Rattle.forms_sums.proofs.sums.add_first.Given as goal
 
-abbrev pub change : List ℕ → ℕ → ℕ → ℕ
-change sums k x = bit_xor x (byte_at sums k)
-
 abbrev pub invariant-loop-f : goal.invariant-loop-f
-invariant-loop-f l = (l.f ≤ chunk) × (l.dst ≡ changed (change l.sums) l.initial.dst l.f) × (length l.dst ≡ length l.initial.dst)
-
-abbrev pub decreases-loop-f : goal.decreases-loop-f
-decreases-loop-f l = chunk - l.f
+invariant-loop-f l = l.dst ≡ changed (λ k x. bit_xor x (byte_at l.sums k)) l.initial.dst l.f

@@ -1,4 +1,4 @@
--- `forms_choices::sums::entry_place` meets its contract.
+-- `forms_sums::sums::entry_place` meets its contract.
 -- Assumes nothing.
 use mathlib.Core.Path.{refl}
 use native.Mathlib.Nat.{mod-lt}

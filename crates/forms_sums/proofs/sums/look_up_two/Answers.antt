@@ -1,9 +1,8 @@
--- `forms_choices::sums::look_up_two` meets its contract. The invariant: of both rows, the entries that the words below
--- k choose are added.
+-- `forms_sums::sums::look_up_two` meets its contract. The invariant: of both rows, the entries that the words below k
+-- choose are added.
 -- Assumes nothing.
-use borrow.Author.Rules.{rules}
 use Prim.Native.Nat.{ℕ, ◌+◌, ◌*◌, ◌/◌, ◌-◌}
-use mathlib.Core.Path.{◌≡◌, refl, sym, ap, ap₂, ◌∙◌}
+use mathlib.Core.Path.{◌≡◌, sym, ap, ap₂, ◌∙◌}
 use native.Mathlib.Omega.{arith}
 use lib.ListN.{get_or-replicate}
 use lib.Bits.{bit_xor}
@@ -15,23 +14,19 @@ use Rattle.forms_sums.proofs.sums.look_up_two.Goals as goal
 
 pub loop-k-init : goal.loop-k-init
 unfolding xor_sum
-loop-k-init c =
-    (search rules, refl, refl, (λ f h. get_or-replicate chunk f 0 0 h), λ f h. get_or-replicate chunk f 0 0 h)
+loop-k-init c = ((λ f h. get_or-replicate chunk f 0 0 h), λ f h. get_or-replicate chunk f 0 0 h)
 
 pub loop-k-preserved : goal.loop-k-preserved
 loop-k-preserved c =
     let a = c.args in
     let l = c.loop-k in
-    let done = c.add_ten in
+    let done = c.add_words in
     let S = a.sums.now in
     let W = a.words.now in
     let next : (l.k + 1) * 10 ≡ l.k * 10 + 10 = omega arith in
     let at : a.r * 4 + 4 + l.k ≡ (a.r + 1) * 4 + l.k = omega arith in (
-      omega arith,
-      done.ensures.first_len.0,
-      done.ensures.first_len.1,
-      rw next (λ f h. done.ensures.by_index f h ∙ ap (λ (x : ℕ). bit_xor x (word_byte S l.k 10 (byte_at W (a.r * 4 + l.k)) f)) (l.invariant.3 f h) ∙ sym (looked_more S W a.r l.k 10 f (omega arith))),
-      rw next (λ f h. done.ensures.by_index_2 f h ∙ ap₂ (λ (x y : ℕ). bit_xor x (word_byte S l.k 10 (byte_at W y) f)) (l.invariant.4 f h) at ∙ sym (looked_more S W (a.r + 1) l.k 10 f (omega arith))),
+      rw next (λ f h. done.ensures.by_index f h ∙ ap (λ (x : ℕ). bit_xor x (word_byte S l.k 10 (byte_at W (a.r * 4 + l.k)) f)) (l.invariant.0 f h) ∙ sym (looked_more S W a.r l.k 10 f (omega arith))),
+      rw next (λ f h. done.ensures.by_index_2 f h ∙ ap₂ (λ (x y : ℕ). bit_xor x (word_byte S l.k 10 (byte_at W y) f)) (l.invariant.1 f h) at ∙ sym (looked_more S W (a.r + 1) l.k 10 f (omega arith))),
     )
 
 pub returns : goal.returns
@@ -46,11 +41,11 @@ returns c =
       by_index = (λ f h.
           c.store-2.ensures.rows_kept 0 f (λ e. omega arith) h ∙ c.store.ensures.by_index f h
           ∙ done.ensures.by_index f h
-          ∙ ap (λ (x : ℕ). bit_xor x (word_byte S 3 (a.groups - 30) (byte_at W (a.r * 4 + 3)) f)) ((rw end at l.invariant.3) f h)
-          ∙ sym (looked_last S W a.r a.groups f c.requires.2));
+          ∙ ap (λ (x : ℕ). bit_xor x (word_byte S 3 (a.groups - 30) (byte_at W (a.r * 4 + 3)) f)) ((rw end at l.invariant.0) f h)
+          ∙ sym (looked_last S W a.r a.groups f c.requires.1));
       by_index_2 = (λ f h.
           c.store-2.ensures.by_index f h
           ∙ done.ensures.by_index_2 f h
-          ∙ ap₂ (λ (x y : ℕ). bit_xor x (word_byte S 3 (a.groups - 30) (byte_at W y) f)) ((rw end at l.invariant.4) f h) at
-          ∙ sym (looked_last S W (a.r + 1) a.groups f c.requires.2));
+          ∙ ap₂ (λ (x y : ℕ). bit_xor x (word_byte S 3 (a.groups - 30) (byte_at W y) f)) ((rw end at l.invariant.1) f h) at
+          ∙ sym (looked_last S W (a.r + 1) a.groups f c.requires.1));
     }

@@ -1,4 +1,4 @@
--- `forms_choices::sums::store` meets its contract. The part that was lent is row k, and the others stand outside it.
+-- `forms_sums::sums::store` meets its contract. The part that was lent is row k, and the others stand outside it.
 -- Assumes nothing.
 use Prim.Native.Nat.{◌+◌, ◌*◌, ◌-◌, ◌≤◌}
 use mathlib.Core.Path.{◌≡◌, ◌∙◌}

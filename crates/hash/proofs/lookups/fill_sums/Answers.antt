@@ -1,6 +1,5 @@
 -- `hash::lookups::fill_sums` meets its contract. The invariant: the groups below g are filled.
 -- Assumes nothing.
-use borrow.Author.Rules.{rules}
 use Prim.Native.Nat.{ℕ, ◌+◌, ◌*◌, ◌-◌, ◌<◌}
 use mathlib.Core.List.{List}
 use mathlib.Core.Path.{◌≡◌, refl, ◌∙◌}
@@ -21,22 +20,19 @@ tabled-more T old new g tabled made kept q e h k = go (dec_lt q (g * 16))
     go (no l) = let at : q ≡ g * 16 + (q - g * 16) = omega arith in rw at (made (q - g * 16) e (omega arith) k)
 
 pub loop-g-init : goal.loop-g-init
-loop-g-init c = (search rules, refl, λ q e h. absurd (omega arith))
+loop-g-init c = λ q e h. absurd (omega arith)
 
 pub fill_group-requires : goal.fill_group-requires
-fill_group-requires c = (omega (arith, c.loop-g.invariant.1), c.requires.1, refl, omega arith, omega arith, omega arith)
+fill_group-requires c = (omega arith, c.requires.1, refl, omega arith, omega arith, omega arith)
 
 pub loop-g-preserved : goal.loop-g-preserved
 loop-g-preserved c =
     let l = c.loop-g in
     let T = c.args.table.now in
-    let done = c.fill_group in (
-      omega arith,
-      done.auto.sums ∙ l.invariant.1,
-      tabled-more T l.sums done.new.sums l.g l.invariant.2 (λ v e h k. done.ensures.group_filled v e h k ∙ entry_is T l.g v e h) done.ensures.by_index,
-    )
+    let done = c.fill_group in
+    tabled-more T l.sums done.new.sums l.g l.invariant (λ v e h k. done.ensures.group_filled v e h k ∙ entry_is T l.g v e h) done.ensures.by_index
 
 pub returns : goal.returns
 returns c =
     let l = c.loop-g in
-    λ q e h k. l.invariant.2 q e (omega arith) k
+    λ q e h k. l.invariant q e (omega arith) k

@@ -10,7 +10,7 @@ use Rattle.protocol.specs.Lists.{part}
 use Rattle.theorems.proofs.ListLaws.{row-end}
 use Rattle.strings.specs.Sums.{byte_at, selected}
 use Rattle.strings.proofs.Rows.{row-byte}
-use Rattle.lanes.specs.Lanes.{lanes, lane_at}
+use Rattle.lanes.specs.Lanes.{lanes}
 use Rattle.hash.specs.Hashed.{front_lane}
 use Rattle.hash.proofs.FrontLaws.{front_start, front_more}
 use Rattle.hash.proofs.vectors.hash_row.Goals as goal
@@ -31,7 +31,7 @@ part_of-requires c =
     omega (arith, row-end a.rho a.b.t a.b.width c.requires.block_fits.1, c.requires.block_fits.0.1, c.requires.block_fits.0.6)
 
 pub put_column-requires : goal.put_column-requires
-put_column-requires c = (c.requires.block_fits.0.0, c.requires.block_fits.1, rw c.add_lanes.ensures.dst_len c.requires.block_fits.0.2)
+put_column-requires c = (c.requires.block_fits.0.0, c.requires.block_fits.1, c.requires.block_fits.0.2)
 
 pub returns : goal.returns
 unfolding part
@@ -44,16 +44,15 @@ returns c =
     let table : List ℕ = part T (b.from * 8 * lanes) (b.len * 8 * lanes) in
     let long : length table ≡ b.len * 8 * lanes = simp (length-take, length-drop) (omega (arith, c.requires.block_fits.0.5, c.requires.block_fits.0.6)) in
     let looked = rw c.part_of.ensures.1 at c.look_up_row.ensures in
-    let begun : (e : ℕ) → e < b.tau → e < lanes → lane_at start 0 e ≡ front_lane H b.width b.k T b.from a.rho e =
+    let begun : (e : ℕ) → e < b.tau → e < lanes → byte_at start e ≡ front_lane H b.width b.k T b.from a.rho e =
     λ e h l.
-    let first : 0 * lanes + e ≡ e = omega arith in
-    ap (byte_at start) first
-    ∙ front_start H T b.width b.k b.from a.rho e (byte_at start e) (λ z. ap (λ (r : List ℕ). byte_at r e) (c.start_of.ensures.1 z) ∙ row-byte T lanes (b.k + a.rho) e l)
-    (λ pos. ap (λ (r : List ℕ). byte_at r e) (c.start_of.ensures.2 pos) ∙ c.take_before.ensures pos e h ∙ c.requires.block_tabled.1 pos e h) in record {
+    front_start H T b.width b.k b.from a.rho e (byte_at start e) (λ z. ap (λ (r : List ℕ). byte_at r e) (c.start_of.ensures.0 z) ∙ row-byte T lanes (b.k + a.rho) e l)
+    (λ pos. ap (λ (r : List ℕ). byte_at r e) (c.start_of.ensures.1 pos) ∙ c.take_before.ensures pos e h ∙ c.requires.block_tabled.1 pos e h) in record {
       column = (λ e h.
           let l : e < lanes = omega (arith, h, c.requires.block_fits.0.2) in
-          c.put_column.ensures.by_index e h ∙ c.add_lanes.ensures.by_index e l
-          ∙ xor_comm (byte_at c.look_up_row.new.out e) (lane_at start 0 e)
+          let first : 0 + e ≡ e = omega arith in
+          c.put_column.ensures.by_index e h ∙ c.add_at.ensures e l ∙ ap (λ (x : ℕ). bit_xor (byte_at c.look_up_row.new.out e) (byte_at start x)) first
+          ∙ xor_comm (byte_at c.look_up_row.new.out e) (byte_at start e)
           ∙ ap₂ bit_xor (begun e h l)
           (looked table (b.len * 8) e c.requires.block_tabled.0 long (omega arith) l ∙ ap (λ (r : List ℕ). selected (b.len * 8) r table lanes e) c.part_of.ensures.0)
           ∙ front_more H T b.width b.k b.from b.len a.rho e c.requires.block_fits.0.6 l);

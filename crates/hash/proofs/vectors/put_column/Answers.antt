@@ -7,14 +7,14 @@ use Prim.Native.Nat.{◌+◌, ◌*◌, ◌<◌}
 use native.Mathlib.Nat.{eq-or-lt_of_le, le_of_suc-le-suc}
 use native.Mathlib.Numerals.{add-one}
 use native.Mathlib.Omega.{arith}
-use lib.ListN.{length, length-set}
+use lib.ListN.{length}
 use lib.Seq.{get_or-set_same, get_or-set_other}
 use Rattle.theorems.proofs.ListLaws.{row-end}
 use Rattle.hash.proofs.CellLaws.{cell_other}
 use Rattle.hash.proofs.vectors.put_column.Goals as goal
 
 pub loop-e-init : goal.loop-e-init
-loop-e-init c = (search rules, refl, (λ q h. absurd (omega arith)), λ q r h k n. refl)
+loop-e-init c = ((λ q h. absurd (omega arith)), λ q r h k n. refl)
 
 pub overflow_mul-out : goal.overflow_mul-out
 overflow_mul-out c =
@@ -37,19 +37,17 @@ loop-e-preserved c =
     let l = c.loop-e in
     let at = l.e * a.t + a.rho in
     let inside : l.e * a.t + a.rho < length l.out = omega (arith, row-end l.e a.tau a.t (search rules)) in (
-      omega arith,
-      simp length-set l.invariant.1,
       (λ q h.
           ⊎_elim (λ (z : q ≡ l.e). rw z (get_or-set_same l.out (l.e * a.t + a.rho) _ 0 inside))
           (λ (k : q < l.e).
           get_or-set_other l.out (l.e * a.t + a.rho) (q * a.t + a.rho) _ 0 (λ z. cell_other q a.rho l.e a.rho a.t c.requires.1 c.requires.1 (λ x y. omega arith) z)
-          ∙ l.invariant.2 q k)
+          ∙ l.invariant.0 q k)
           (eq-or-lt_of_le (le_of_suc-le-suc (rw add-one at h)))),
       (λ q r h k n.
-          get_or-set_other l.out (l.e * a.t + a.rho) (q * a.t + r) _ 0 (λ z. cell_other q r l.e a.rho a.t k c.requires.1 (λ x y. n y) z) ∙ l.invariant.3 q r h k n),
+          get_or-set_other l.out (l.e * a.t + a.rho) (q * a.t + r) _ 0 (λ z. cell_other q r l.e a.rho a.t k c.requires.1 (λ x y. n y) z) ∙ l.invariant.1 q r h k n),
     )
 
 pub returns : goal.returns
 returns c =
     let l = c.loop-e in
-    record { by_index = (λ e h. l.invariant.2 e (omega arith)); by_index_2 = l.invariant.3 }
+    record { by_index = (λ e h. l.invariant.0 e (omega arith)); by_index_2 = l.invariant.1 }

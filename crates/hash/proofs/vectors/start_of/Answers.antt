@@ -5,7 +5,7 @@ use native.Mathlib.Omega.{arith}
 use Rattle.hash.proofs.vectors.start_of.Goals as goal
 
 pub returns-then-from-eq0 : goal.returns-then-from-eq0
-returns-then-from-eq0 c = (c.row_at.ensures.1, (λ z. c.row_at.ensures.0), λ pos. absurd (omega arith))
+returns-then-from-eq0 c = ((λ z. c.row_of.ensures), λ pos. absurd (omega arith))
 
 pub returns-else-from-eq0 : goal.returns-else-from-eq0
-returns-else-from-eq0 c = (c.requires.0, (λ z. absurd (omega arith)), λ pos. refl)
+returns-else-from-eq0 c = ((λ z. absurd (omega arith)), λ pos. refl)
