@@ -85,7 +85,7 @@ pub struct Block {
 // What a block of equations adds: see `batch_forms`. The sections a and b are lent from the block's first equation to
 // its last.
 fn batch_block(
-    quad: &mut [u8],
+    quad: &mut [u8; LANES],
     lin: &mut [u8; LANES],
     cells: &mut [u8],
     a: &[u8],
@@ -125,7 +125,7 @@ fn batch_block(
 // is the vector of repetition e. The bits of x are lent one to a byte, 0 from n on. Where the polar form is not asked
 // for they are all 0, and lin gets b·f. The equations go through the kernels block after block. `cells` is space.
 pub fn batch_forms(
-    quad: &mut [u8],
+    quad: &mut [u8; LANES],
     lin: &mut [u8; LANES],
     cells: &mut [u8],
     a: &[u8],
@@ -169,7 +169,7 @@ pub fn batch_forms(
 // The batched coefficients of the tau repetitions, added to what stands in qs0 and qs1, of the sections a and b of a
 // key at the witness x. `cells` is space.
 pub fn batch_lanes(
-    qs0: &mut [u8],
+    qs0: &mut [u8; LANES],
     qs1: &mut [u8; LANES],
     cells: &mut [u8],
     a: &[u8],

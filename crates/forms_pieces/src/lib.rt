@@ -135,7 +135,7 @@ fn load(
 // of each equation, and is added to its line. Where `polar` is not asked for the bits are 0, and so is the polar form.
 // `cells` is space.
 pub fn add_forms(
-    quad: &mut [u8],
+    quad: &mut [u8; LANES],
     mid: &mut [u8; LANES],
     lines: &mut [u8],
     cells: &mut [u8],

@@ -1,6 +1,7 @@
 -- `forms_pieces::add_forms` meets its contract. The invariant: of each panel, as many sixteens of rows are
 -- added as the walk over the pieces has passed. What all of them come to is `FoldLaws`.
 -- Assumes nothing.
+use borrow.Author.Rules.{rules}
 use Prim.Native.Nat.{ℕ, ◌+◌, ◌*◌, ◌-◌, ◌/◌, ◌%◌, ◌≤◌, ◌<◌}
 use mathlib.Core.List.{List}
 use mathlib.Core.Bool.{Bool, true, false}
@@ -151,8 +152,6 @@ finish-requires c =
     let pre = c.requires in
     let l = c.loop-place in
     let inside = l.invariant.1 c.loop-place-test.true in (
-      l.invariant.3,
-      omega arith,
       pre.8,
       omega (arith, pre.8, l.invariant.5, c.stack_part.auto.stacks),
       pre.11,
@@ -229,7 +228,7 @@ loop-place-preserved c =
       next-walk n l.place.first l.place.top l.place.p piece r at next even l.invariant.0.2 inside l.invariant.0.0 l.invariant.0.1,
       (next-inside n l.place.first l.place.top l.place.p piece r at next even l.invariant.0.2 inside some).0,
       (next-inside n l.place.first l.place.top l.place.p piece r at next even l.invariant.0.2 inside some).1,
-      done.auto.quad ∙ l.invariant.3,
+      search rules,
       stacked.auto.sums ∙ left.auto.sums ∙ c.load.auto.room ∙ l.invariant.4,
       stacked.auto.stacks ∙ l.invariant.5,
       left.auto.lines ∙ l.invariant.6,

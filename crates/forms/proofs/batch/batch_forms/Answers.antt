@@ -74,7 +74,7 @@ loop-g-preserved c =
     let next : min ((l.g + 1) * most_block) a.f.m ≡ from + k = omega (arith, under.0, c.min-count.ensures) in
     let A = rw width at c.rows_at.ensures.0 in
     let B = rw width at c.rows_at-in-loop-g.ensures.0 in (
-      done.auto.quad ∙ l.invariant.0,
+      search rules,
       search rules,
       rw next (λ e h.
           done.ensures.lanes_added e h

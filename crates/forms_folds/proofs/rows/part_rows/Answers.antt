@@ -1,18 +1,12 @@
 -- `forms_folds::rows::part_rows` meets its contract.
 -- Assumes nothing.
-use mathlib.Core.Path.{refl, sym}
+use mathlib.Core.Path.{refl}
 use native.Mathlib.Omega.{arith}
-use Rattle.forms_folds.proofs.ArrayLaws.{halves_long}
 use Rattle.forms_folds.proofs.SetLaws.{parted}
 use Rattle.forms_folds.proofs.rows.part_rows.Goals as goal
 
-pub slice_bounds-part-end-2 : goal.slice_bounds-part-end-2
-slice_bounds-part-end-2 c =
-    sym (halves_long c.copy_apart.new.dst _ c.copy_apart-2.new.dst c.copy_apart.auto.dst refl c.copy_apart-2.auto.dst)
-
 pub part-requires : goal.part-requires
-part-requires c =
-    (halves_long c.copy_apart.new.dst _ c.copy_apart-2.new.dst c.copy_apart.auto.dst refl c.copy_apart-2.auto.dst, omega arith)
+part-requires c = omega arith
 
 pub returns : goal.returns
 returns c =
