@@ -36,6 +36,20 @@ unfolding listed word_byte
 word-bytes w =
     ap (λ x. x % 256 ∷ w / 2 ^ 8 % 256 ∷ w / 2 ^ 16 % 256 ∷ w / 2 ^ 24 % 256 ∷ w / 2 ^ 32 % 256 ∷ w / 2 ^ 40 % 256 ∷ w / 2 ^ 48 % 256 ∷ w / 2 ^ 56 % 256 ∷ []) (sym (div-one w))
 
+listed-at : (n k i : ℕ) (f : ℕ → ℕ) → k < n → get_or (listed n f i) k 0 ≡ f (i + k)
+unfolding listed
+listed-at zero k i f h = absurd (omega arith)
+listed-at (suc n) zero i f h = ap f (let e : i ≡ i + 0 = omega arith in e)
+listed-at (suc n) (suc k) i f h = listed-at n k (suc i) f (omega arith) ∙ ap f (let e : suc i + k ≡ i + suc k = omega arith in e)
+
+-- a byte of a lane, as that of the state
+pub lane-byte : (s : List ℕ) (j : ℕ) → get_or (to_le_bytes w64 (get_or s (j / 8) 0)) (j % 8) 0 ≡ byte_in s j
+unfolding word_byte byte_in
+lane-byte s j =
+    let w = get_or s (j / 8) 0 in
+    let e : 0 + j % 8 ≡ j % 8 = omega arith in
+    ap (λ l. get_or l (j % 8) 0) (word-bytes w) ∙ listed-at 8 (j % 8) 0 (word_byte w) (omega arith) ∙ ap (word_byte w) e
+
 -- the bytes of a lane, as those of the state
 lane-bytes : (n m k : ℕ) (s : List ℕ) → m + n ≤ 8 → listed n (word_byte (get_or s k 0)) m ≡ listed n (byte_in s) (8 * k + m)
 unfolding listed word_byte byte_in

@@ -5,7 +5,7 @@ use mathlib.Core.Path.{◌≡◌, refl, sym, ap, ap₂, ◌∙◌}
 use mathlib.Core.List.{List, [], ◌∷◌, ◌++◌}
 use Prim.Native.Nat.{ℕ, zero, suc, ◌+◌, ◌*◌, ◌-◌, ◌/◌, ◌%◌, ◌≤◌, ◌<◌}
 use mathlib.Core.Logic.{⊎_elim}
-use native.Mathlib.Nat.{add-zero, eq-or-lt_of_le, le_of_suc-le-suc, mod-eq_of_lt}
+use native.Mathlib.Nat.{add-zero, eq-or-lt_of_le, le_of_suc-le-suc}
 use native.Mathlib.Numerals.{add-one}
 use native.Mathlib.Omega.{arith}
 use lib.ListN.{length, take, drop, length-append, length-drop, take-append-drop}
@@ -27,10 +27,6 @@ rest s at h = ap (λ t. either t (keccak s, 0) (s, at)) (ne_eqb at rate h)
 
 pub part : (s : List ℕ) (at : ℕ) → at < rate → settled s at ≡ (s, at)
 part s at h = rest s at (λ e. omega arith)
-
--- a place within a block is taken as it is
-pub in_block : (s : List ℕ) (at : ℕ) → at < rate → ◌≡◌ {A = Held} (s, at % rate) (s, at)
-in_block s at h = ap (λ k. (s, k)) (mod-eq_of_lt h)
 
 -- absorbing a and then b is absorbing both at once
 pub absorbed-append : (a b : List ℕ) (h : Held) → absorbed h (a ++ b) ≡ absorbed (absorbed h a) b
@@ -139,13 +135,6 @@ settled_lt s at h =
     ⊎_elim
     (λ (e : at ≡ rate). let x : (settled s at).1 ≡ 0 = ap (λ g. g.1) (full s at e) in omega arith)
     (λ (l : at < rate). let x : (settled s at).1 ≡ at = ap (λ g. g.1) (part s at l) in omega arith)
-    (eq-or-lt_of_le h)
-
-pub settled-length : (s : List ℕ) (at : ℕ) → at ≤ rate → length s ≡ lane_count → length (settled s at).0 ≡ lane_count
-settled-length s at h l =
-    ⊎_elim
-    (λ (e : at ≡ rate). ap (λ g. length g.0) (full s at e) ∙ keccak-length s)
-    (λ (k : at < rate). ap (λ g. length g.0) (part s at k) ∙ l)
     (eq-or-lt_of_le h)
 
 -- a turn of the loop that absorbs: p, within a block, of what is left

@@ -3,7 +3,7 @@ ghost use Rattle.std.specs.Prelude.{◌≡◌, ◌+◌, ◌*◌, ◌%◌, ◌≤
 ghost use Rattle.sponge.specs.Lanes.{listed};
 ghost use Rattle.sponge.specs.Sponge.{rate, byte_in};
 
-use strings::{BYTE_VALUES, WORD};
+use strings::WORD;
 
 // Writes the bytes of the lanes from byte `at` on.
 fn emit_bytes(out: &mut [u8], lanes: &[u64; 25], at: usize)
@@ -12,7 +12,7 @@ fn emit_bytes(out: &mut [u8], lanes: &[u64; 25], at: usize)
 {
     for i in 0..out.len() {
         let j = at + i;
-        out[i] = ((lanes[j / WORD] >> (8 * (j % WORD))) % BYTE_VALUES) as u8;
+        out[i] = lanes[j / WORD].to_le_bytes()[j % WORD];
     }
 }
 

@@ -5,8 +5,7 @@
 ghost use Rattle.std.specs.Prelude.{◌≡◌, length};
 ghost use Rattle.sponge.specs.Sponge.{shake256};
 
-use shake::{absorb, finish, new, squeeze};
-use strings::least;
+use shake::Shake;
 
 // All at once.
 #[unsafe(no_mangle)]
@@ -21,11 +20,9 @@ pub extern "C" fn shake_whole(out: &mut [u8], input: &[u8])
 pub extern "C" fn shake_pieces(out: &mut [u8], input: &[u8], cut: usize, pause: usize)
     ensures { out.new ≡ shake256 input.now (length out.old) }
 {
-    let head = least(cut, input.len());
-    let first = least(pause, out.len());
-    let begun = absorb(new(), &input[..head]);
-    let read = absorb(begun, &input[head..]);
-    let whole = finish(read);
-    let given = squeeze(whole, &mut out[..first]);
-    squeeze(given, &mut out[first..]);
+    let (head, tail) = input.split_at(cut.min(input.len()));
+    let first = pause.min(out.len());
+    let whole = Shake::new().absorb(head).absorb(tail).finish();
+    let given = whole.squeeze(&mut out[..first]);
+    given.squeeze(&mut out[first..]);
 }

@@ -5,11 +5,11 @@ use mathlib.Core.Path.{◌≡◌, sym, ap, ap₂, ◌∙◌}
 use mathlib.Core.List.{List, ◌++◌}
 use Prim.Native.Nat.{ℕ, ◌+◌, ◌-◌, ◌≤◌}
 use native.Mathlib.Omega.{arith}
-use lib.ListN.{length, take, drop, length-append, length-take, length-drop, take-append-drop}
+use lib.ListN.{length, take, drop, length-append, length-take, length-drop}
 use lib.Seq.{take_at, take_all, length-take-le}
 use borrow.Rule.Slice.PartMut.{put_mid, same_len_mid}
 use Rattle.shake.specs.Pieces.{Held, fresh, absorbed, finished, given, after}
-use Rattle.shake.proofs.PieceLaws.{in_block, absorbed-append, given_more, shake_is}
+use Rattle.shake.proofs.PieceLaws.{absorbed-append, given_more, shake_is}
 use Rattle.shake.proofs.EmitLaws.{take_put_end}
 use Rattle.shake_calls.proofs.shake_pieces.Goals as goal
 
@@ -28,35 +28,23 @@ written o r₁ r₂ p h n₁ n₂ =
     sym (take_all (p + k) (put_mid p k l r₂) (omega arith)) ∙ take_put_end p k l r₂ (omega arith) n
     ∙ ap (λ s. s ++ r₂) (take_at r₁ (drop p o) p n₁)
 
-pub slice_bounds-absorb-end : goal.slice_bounds-absorb-end
-slice_bounds-absorb-end c = simp length-take (omega arith)
-
 pub slice_bounds-squeeze-end-2 : goal.slice_bounds-squeeze-end-2
 slice_bounds-squeeze-end-2 c = simp length-take (omega arith)
 
 pub returns : goal.returns
 returns c =
-    let a = c.args in
-    let m = a.input.now in
-    let o = a.out.now in
-    let head = c.least-head.result in
-    let p = c.least-first.result in
-    let new = c.new in
-    let begun = c.absorb-begun in
-    let read = c.absorb-read in
-    let whole = c.finish-whole in
+    let m = c.args.input.now in
+    let o = c.args.out.now in
+    let p = c.min-first.result in
+    let head = c.split_at.result.0.now in
+    let tail = c.split_at.result.1.now in
     let first = c.squeeze-given in
     let last = c.squeeze in
-    let in-m : head ≤ length m = c.least-head.ensures.1 in
-    let in-o : p ≤ length o = c.least-first.ensures.1 in
-    let h₀ = in_block new.result.lanes new.result.absorbed new.ensures.1.1 ∙ new.ensures.0 in
-    let h₁ = in_block begun.result.lanes begun.result.absorbed begun.ensures.1.1 ∙ begun.ensures.0
-    ∙ ap (λ h. absorbed h (take head m)) h₀ in
-    let rest : take (length m - head) (drop head m) ≡ drop head m = take_all (length m - head) (drop head m) (omega (arith, length-drop head m)) in
-    let h₂ = in_block read.result.lanes read.result.absorbed read.ensures.1.1 ∙ read.ensures.0
-    ∙ ap₂ absorbed h₁ rest ∙ sym (absorbed-append (take head m) (drop head m) fresh) ∙ ap (absorbed fresh) (take-append-drop head m) in
-    let h₃ = in_block whole.result.lanes whole.result.absorbed whole.ensures.1.1 ∙ whole.ensures.0 ∙ ap finished h₂ in
+    let in-o : p ≤ length o = omega arith in
     let h : Held = finished (absorbed fresh m) in
+    let h₁ = c.absorb.ensures ∙ ap (λ g. absorbed g head) c.new.ensures in
+    let h₂ = c.absorb-2.ensures ∙ ap (λ g. absorbed g tail) h₁ ∙ sym (absorbed-append head tail fresh) ∙ ap (absorbed fresh) (sym c.split_at.ensures.by_index.0) in
+    let h₃ = c.finish-whole.ensures ∙ ap finished h₂ in
     let r₁ = first.new.out in
     let r₂ = last.new.out in
     let l = r₁ ++ drop p o in
@@ -66,7 +54,7 @@ returns c =
     let all : length l ≡ length o = length-append r₁ (drop p o) ∙ ap₂ ◌+◌ n₁ (length-drop p o) ∙ back in
     let left : length (take (length l - p) (drop p l)) ≡ length o - p = length-take-le (length l - p) (drop p l) (omega (arith, length-drop p l)) ∙ ap (λ n. n - p) all in
     let n₂ : length r₂ ≡ length o - p = last.auto.out ∙ left in
-    let h₄ = in_block first.result.lanes first.result.absorbed first.ensures.2.1 ∙ first.ensures.1 ∙ ap₂ after h₃ part in
+    let h₄ = first.ensures.state ∙ ap₂ after h₃ part in
     written o r₁ r₂ p in-o n₁ n₂
-    ∙ ap₂ ◌++◌ (first.ensures.0 ∙ ap₂ given h₃ part) (last.ensures.0 ∙ ap₂ given h₄ left)
+    ∙ ap₂ ◌++◌ (first.ensures.bytes ∙ ap₂ given h₃ part) (last.ensures.bytes ∙ ap₂ given h₄ left)
     ∙ sym (given_more p (length o - p) h) ∙ ap (given h) back ∙ shake_is m (length o)
