@@ -38,7 +38,7 @@ pub fn hash_into(out: &mut [u8], matrix: &[u8], table: &[u8], sums: &[u8], s: Si
 }
 
 // Adds the masks of every repetition: A*₀, of its v_e, to qs0, and A*₁, of u_0, to qs1.
-fn add_masks(qs0: &mut [u8], qs1: &mut [u8], table: &[u8], sums: &[u8], s: Sizes)
+fn add_masks(qs0: &mut [u8; LANES], qs1: &mut [u8; LANES], table: &[u8], sums: &[u8], s: Sizes)
     requires { MasksReady (alphabet_for s) (shape_for s) table.now sums.now qs0.old qs1.old }
     ensures lanes_added { LanesAdded s.tau (λ e. mask_lane s.degree table.now (first_mask s e) e) qs0.old qs0.new }
     ensures lanes_added_2 { LanesAdded s.tau (λ e. mask_bits s.degree (block_at sums.now (w_of (alphabet_for s) (shape_for s)) 0) (first_mask s e))
@@ -51,8 +51,8 @@ fn add_masks(qs0: &mut [u8], qs1: &mut [u8], table: &[u8], sums: &[u8], s: Sizes
 
 // Adds what the equations of the key give at the vectors. `cells` is space.
 fn add_forms(
-    qs0: &mut [u8],
-    qs1: &mut [u8],
+    qs0: &mut [u8; LANES],
+    qs1: &mut [u8; LANES],
     cells: &mut [u8],
     key: &[u8],
     witness: &[u8],

@@ -1,5 +1,6 @@
 -- `prover::steps::batch_into` meets its contract: the masks, and the batched forms added to them, framed.
 -- Assumes nothing.
+use borrow.Author.Rules.{rules}
 use mathlib.Core.Path.{◌≡◌, refl, sym, ap, ap₂, ◌∙◌}
 use mathlib.Core.List.{List, [], ◌∷◌}
 use Prim.Native.Nat.{ℕ, ◌≤◌, ◌<◌}
@@ -43,30 +44,30 @@ add_forms-requires c =
       vectors-end = c.fill_vectors.ensures.vectors_end;
       vectors_narrow = vectors_below (alphabet_for c.args.s).K.base.size c.args.s.n c.args.s.tau c.args.space.now c.fill_vectors.new.vectors (omega (arith, (alphabet_for c.args.s).K.base.four≤size)) c.fill_vectors.ensures.vectors_are c.requires.narrow;
       cells_room = c.requires.cells_room;
-      qs0-lanes = c.add_masks.auto.qs0;
-      qs1-lanes = c.add_masks.auto.qs1;
+      qs0-lanes = search rules;
+      qs1-lanes = search rules;
     }
 
 pub slice_bounds-qs0-end : goal.slice_bounds-qs0-end
 slice_bounds-qs0-end c =
-    omega (arith, c.add_forms.auto.qs0, c.add_masks.auto.qs0, (in-limits (shape_for c.args.s) c.requires.key-facts.in-range).τ_most)
+    omega (arith, (in-limits (shape_for c.args.s) c.requires.key-facts.in-range).τ_most)
 
 pub slice_bounds-put_two-end : goal.slice_bounds-put_two-end
 slice_bounds-put_two-end c =
-    sym (take-length c.args.s.tau c.add_forms.new.qs0 (omega (arith, c.add_forms.auto.qs0, c.add_masks.auto.qs0, (in-limits (shape_for c.args.s) c.requires.key-facts.in-range).τ_most)))
+    sym (take-length c.args.s.tau c.add_forms.new.qs0 (omega (arith, (in-limits (shape_for c.args.s) c.requires.key-facts.in-range).τ_most)))
 
 pub slice_bounds-qs1-end : goal.slice_bounds-qs1-end
 slice_bounds-qs1-end c =
-    omega (arith, c.add_forms.auto.qs1, c.add_masks.auto.qs1, (in-limits (shape_for c.args.s) c.requires.key-facts.in-range).τ_most)
+    omega (arith, (in-limits (shape_for c.args.s) c.requires.key-facts.in-range).τ_most)
 
 pub slice_bounds-put_two-end-2 : goal.slice_bounds-put_two-end-2
 slice_bounds-put_two-end-2 c =
-    sym (take-length c.args.s.tau c.add_forms.new.qs1 (omega (arith, c.add_forms.auto.qs1, c.add_masks.auto.qs1, (in-limits (shape_for c.args.s) c.requires.key-facts.in-range).τ_most)))
+    sym (take-length c.args.s.tau c.add_forms.new.qs1 (omega (arith, (in-limits (shape_for c.args.s) c.requires.key-facts.in-range).τ_most)))
 
 pub put_two-requires : goal.put_two-requires
 put_two-requires c =
-    let first = take-length c.args.s.tau c.add_forms.new.qs0 (omega (arith, c.add_forms.auto.qs0, c.add_masks.auto.qs0, (in-limits (shape_for c.args.s) c.requires.key-facts.in-range).τ_most)) in
-    let second = take-length c.args.s.tau c.add_forms.new.qs1 (omega (arith, c.add_forms.auto.qs1, c.add_masks.auto.qs1, (in-limits (shape_for c.args.s) c.requires.key-facts.in-range).τ_most)) in
+    let first = take-length c.args.s.tau c.add_forms.new.qs0 (omega (arith, (in-limits (shape_for c.args.s) c.requires.key-facts.in-range).τ_most)) in
+    let second = take-length c.args.s.tau c.add_forms.new.qs1 (omega (arith, (in-limits (shape_for c.args.s) c.requires.key-facts.in-range).τ_most)) in
     (rw (first, second) c.requires.out-length, omega (arith, first, (in-limits (shape_for c.args.s) c.requires.key-facts.in-range).τ_most), omega (arith, second, (in-limits (shape_for c.args.s) c.requires.key-facts.in-range).τ_most))
 
 pub returns : goal.returns
@@ -82,8 +83,8 @@ returns c =
     let vs : ℕ → ℕ → ℕ = coordinate_of filled.new.vectors in
     let lane : (e : ℕ) → e < a.s.tau → e < lanes = λ e h. omega (arith, h, within.τ_most) in
     let same : (e k : ℕ) → e < a.s.tau → k < a.s.n → vs e k ≡ lane_at T k e = λ e k l h. filled.ensures.vectors_are e k l (omega (arith, h, within.n_most)) ∙ up-to-first a.s.n (λ z. lane_at T z e) k h in
-    let wide : a.s.tau ≤ length c.add_forms.new.qs0 = omega (arith, formed.auto.qs0, masked.auto.qs0, within.τ_most) in
-    let wide' : a.s.tau ≤ length c.add_forms.new.qs1 = omega (arith, formed.auto.qs1, masked.auto.qs1, within.τ_most) in
+    let wide : a.s.tau ≤ length c.add_forms.new.qs0 = omega (arith, within.τ_most) in
+    let wide' : a.s.tau ≤ length c.add_forms.new.qs1 = omega (arith, within.τ_most) in
     λ leaves loaded.
     c.put_two.ensures
     ∙ ap₂ (λ (x y : List ℕ). frame (x ∷ y ∷ []))
