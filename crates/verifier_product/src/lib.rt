@@ -25,18 +25,20 @@ use questions_proof::proof::{D, QS0, QS1, proof_section};
 use sections::reader::Places;
 
 // Adds δ_e to coordinate c of each lane, where the bit is set.
-fn add_bit(table: &mut [u8], c: usize, bit: u8, delta: &[u8])
-    requires { (c * lanes + lanes ≤ length table.old) × (length delta.now ≡ lanes) × (bit < 2) }
+fn add_bit(table: &mut [u8], c: usize, bit: u8, delta: &[u8; LANES])
+    requires { (c * lanes + lanes ≤ length table.old) × (bit < 2) }
     ensures by_index { (e : ℕ) → e < lanes → lane_at table.new c e ≡ bit_xor (lane_at table.old c e) (bit * byte_at delta.now e) }
     ensures by_index_2 { (q e : ℕ) → (q ≡ c → ⊥) → e < lanes → lane_at table.new q e ≡ lane_at table.old q e }
 {
+    let mut row = *strings::row_of::<LANES>(table, c);
+    lanes::add_masked(&mut row, bit, delta);
     let at = c * LANES;
-    lanes::add_masked(&mut table[at..at + LANES], bit, delta);
+    table[at..at + LANES].copy_from_slice(&row);
 }
 
 // W_e becomes K_e in its first n coordinates; the others stay, and with them the mask's.
-fn add_difference(table: &mut [u8], d: &[u8], n: usize, delta: &[u8])
-    requires { (n * lanes ≤ length table.old) × (n ≤ length d.now * 8) × (length delta.now ≡ lanes) }
+fn add_difference(table: &mut [u8], d: &[u8], n: usize, delta: &[u8; LANES])
+    requires { (n * lanes ≤ length table.old) × (n ≤ length d.now * 8) }
     ensures key_lanes { KeyLanes n d.now delta.now table.old table.new }
     ensures by_index { (c e : ℕ) → n ≤ c → e < lanes → lane_at table.new c e ≡ lane_at table.old c e }
 {
@@ -70,18 +72,18 @@ fn batch_values(out: &mut [u8], y: &[u8], chi: &[u8], m: usize, tau: usize)
 // Adds the left side of each repetition, but for its mask: the batched equations of the sections a, b, y of a key at
 // the vector of the repetition. `cells` is space.
 fn product_lanes(
-    left: &mut [u8],
+    left: &mut [u8; LANES],
     cells: &mut [u8],
     a: &[u8],
     b: &[u8],
     y: &[u8],
     chi: &[u8],
-    delta: &[u8],
+    delta: &[u8; LANES],
     vectors: &[u8],
     s: Sizes,
 )
     requires equations_of { EquationsOf (shape_for s) a.now b.now y.now chi.now }
-    requires left_len { (length left.old ≡ lanes) × (length delta.now ≡ lanes) × VectorsRoom vectors.now × VectorsEnd s.n s.tau vectors.now × CellsRoom cells.old × VectorsNarrow s.degree s.tau vectors.now }
+    requires rooms { VectorsRoom vectors.now × VectorsEnd s.n s.tau vectors.now × CellsRoom cells.old × VectorsNarrow s.degree s.tau vectors.now }
     ensures { LeftSides s.degree (shape_for s) a.now b.now y.now chi.now delta.now (coordinate_of vectors.now)
         left.old left.new }
 {

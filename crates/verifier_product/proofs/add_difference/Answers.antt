@@ -21,7 +21,7 @@ pub add_bit-requires : goal.add_bit-requires
 add_bit-requires c =
     let a = c.args in
     let l = c.loop-c in
-    (omega (arith, c.requires.0, l.auto.table, row-end l.c a.n lanes (omega arith)), c.requires.2, rw c.bit_at.ensures (bit_lt a.d.now l.c))
+    (omega (arith, c.requires.0, l.auto.table, row-end l.c a.n lanes (omega arith)), rw c.bit_at.ensures (bit_lt a.d.now l.c))
 
 pub loop-c-preserved : goal.loop-c-preserved
 loop-c-preserved c =

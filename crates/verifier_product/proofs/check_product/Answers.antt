@@ -2,7 +2,7 @@
 -- it before it is lent as cells, and the left sides are those of the product check.
 -- Assumes nothing.
 use Prim.Native.Nat.{ℕ, ◌*◌, ◌<◌}
-use mathlib.Core.Path.{refl, sym, ap, ap₂, ◌∙◌}
+use mathlib.Core.Path.{sym, ap, ap₂, ◌∙◌}
 use mathlib.Core.List.{List}
 use native.Mathlib.Nat.{mul_assoc}
 use native.Mathlib.Omega.{arith}
@@ -45,14 +45,13 @@ add_difference-requires c =
     let shape = shape_for c.args.s in (
       omega (arith, c.requires.batching_len.1.0, variables_fit (setting_for c.args.s) shape),
       omega (arith, (c.proof_section.ensures c.args.s c.requires.key_facts.1.0).1, (section-lengths (alphabet_for c.args.s) shape).d_length, bytes-enough c.args.s.n),
-      c.load_challenge.auto.out,
     )
 
 pub add_masks-requires : goal.add_masks-requires
 unfolding degree_of
 add_masks-requires c =
     let shape = shape_for c.args.s in
-    (refl, ((in-limits shape c.requires.key_facts.0.in-range).τ_most, λ e h. omega (arith, c.add_difference.auto.table, c.requires.batching_len.1.0, mask_below (setting_for c.args.s) shape e h, l_fits (setting_for c.args.s) shape)))
+    ((in-limits shape c.requires.key_facts.0.in-range).τ_most, λ e h. omega (arith, c.add_difference.auto.table, c.requires.batching_len.1.0, mask_below (setting_for c.args.s) shape e h, l_fits (setting_for c.args.s) shape))
 
 pub fill_vectors-requires : goal.fill_vectors-requires
 fill_vectors-requires c =
@@ -77,9 +76,7 @@ product_lanes-requires c =
         omega (arith, c.section_y.ensures.1, bytes-enough shape.m),
         c.requires.batching_len.0,
       );
-      left_len = (
-        c.add_masks.auto.acc,
-        c.load_challenge.auto.out,
+      rooms = (
         c.fill_vectors.auto.vectors,
         c.fill_vectors.ensures.vectors_end,
         omega (arith, c.add_difference.auto.table, c.requires.batching_len.1.1),
@@ -100,7 +97,7 @@ pub first_differing-requires : goal.first_differing-requires
 first_differing-requires c =
     let shape = shape_for c.args.s in
     let form = c.requires.key_facts.1.0 in (
-      omega (arith, c.requires.key_facts.2, c.product_lanes.auto.left, (in-limits shape c.requires.key_facts.0.in-range).τ_most),
+      omega (arith, c.requires.key_facts.2, (in-limits shape c.requires.key_facts.0.in-range).τ_most),
       (c.proof_section-2.ensures c.args.s form).1 ∙ (section-lengths (alphabet_for c.args.s) shape).qs0-length ∙ sym c.requires.key_facts.2,
       (c.proof_section-3.ensures c.args.s form).1 ∙ (section-lengths (alphabet_for c.args.s) shape).qs1-length ∙ sym c.requires.key_facts.2,
     )

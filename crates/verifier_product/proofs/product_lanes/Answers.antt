@@ -1,6 +1,7 @@
 -- `verifier_product::product_lanes` meets its contract: without the bits of a witness the middle coefficients are the
 -- linear parts.
 -- Assumes nothing.
+use borrow.Author.Rules.{rules}
 use Prim.Native.Nat.{ℕ, ◌+◌, ◌*◌, ◌<◌}
 use mathlib.Core.Path.{◌≡◌, refl, ap, ap₂, ◌∙◌}
 use native.Mathlib.Omega.{arith}
@@ -29,7 +30,7 @@ zeros-small n k = rw (zeros n k) (lit< tt)
 pub batch_forms-requires : goal.batch_forms-requires
 batch_forms-requires c =
     let b = in-limits (shape_for c.args.s) c.requires.equations_of.0 in (
-      c.requires.left_len.0,
+      search rules,
       refl,
       b.n_most,
       b.τ_most,
@@ -37,28 +38,20 @@ batch_forms-requires c =
       c.requires.equations_of.1,
       c.requires.equations_of.2,
       c.requires.equations_of.4,
-      c.requires.left_len.2,
-      c.requires.left_len.3,
-      c.requires.left_len.4,
+      c.requires.rooms.0,
+      c.requires.rooms.1,
+      c.requires.rooms.2,
       refl,
       zeros-small most_variables,
       (λ k h. zeros most_variables k),
       (λ e k. zeros most_variables k),
       b.m_most,
-      c.requires.left_len.5,
+      c.requires.rooms.3,
     )
 
 pub batch_values-requires : goal.batch_values-requires
 batch_values-requires c =
     ((in-limits (shape_for c.args.s) c.requires.equations_of.0).τ_most, c.requires.equations_of.4, c.requires.equations_of.3)
-
-pub accumulate-requires-2 : goal.accumulate-requires-2
-accumulate-requires-2 c =
-    (refl, c.requires.left_len.1, c.requires.left_len.1)
-
-pub accumulate-requires-3 : goal.accumulate-requires-3
-accumulate-requires-3 c =
-    (c.accumulate.auto.acc ∙ c.batch_forms.auto.quad ∙ c.requires.left_len.0, c.accumulate-2.auto.acc, c.batch_values.auto.out)
 
 pub returns : goal.returns
 returns c e h =

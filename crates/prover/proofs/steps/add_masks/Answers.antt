@@ -24,7 +24,7 @@ pub add_masks-requires : goal.add_masks-requires
 unfolding degree_of
 add_masks-requires c =
     let s = shape_for c.args.s in
-    (c.requires.qs0-lanes, ((in-limits s c.requires.in-range).τ_most, (λ e h. omega (arith, c.requires.buffers.table-room, mask_below (setting_for c.args.s) s e h, l_fits (setting_for c.args.s) s))))
+    ((in-limits s c.requires.in-range).τ_most, λ e h. omega (arith, c.requires.buffers.table-room, mask_below (setting_for c.args.s) s e h, l_fits (setting_for c.args.s) s))
 
 pub row_at-requires : goal.row_at-requires
 row_at-requires c =
@@ -36,7 +36,7 @@ unfolding degree_of
 add_mask_bits-requires c =
     let s = shape_for c.args.s in
     let long : length c.row_at.result.now ≡ w_of (alphabet_for c.args.s) s = c.row_at.ensures.1 ∙ c.leaf_bytes-w.ensures in
-    (c.requires.qs1-lanes, ((in-limits s c.requires.in-range).τ_most, (λ e h. (omega (arith, long, mask_below (setting_for c.args.s) s e h, l_fits (setting_for c.args.s) s), omega (arith, mask_below (setting_for c.args.s) s e h, k-most (setting_for c.args.s) s c.requires.in-range)))))
+    ((in-limits s c.requires.in-range).τ_most, λ e h. (omega (arith, long, mask_below (setting_for c.args.s) s e h, l_fits (setting_for c.args.s) s), omega (arith, mask_below (setting_for c.args.s) s e h, k-most (setting_for c.args.s) s c.requires.in-range)))
 
 pub returns : goal.returns
 returns c =
