@@ -25,8 +25,8 @@ pub const TAKEN: usize = 8;
 pub const SIXTEENS: usize = 2 * EIGHT_ROWS;
 
 // The rows of the sixteen fives h. They are taken eight bytes apart: after each, three bytes of the next.
-pub fn fill_rows(rows: &mut [u8], h: usize, bytes: &[u8])
-    requires { (h < 2) × (length rows.old ≡ two_sixteens) × (most_block + 3 ≤ length bytes.now) }
+pub fn fill_rows(rows: &mut [u8; SIXTEENS], h: usize, bytes: &[u8])
+    requires { (h < 2) × (most_block + 3 ≤ length bytes.now) }
     ensures by_index { (i : ℕ) → i < 128 → byte_at rows.new (h * 128 + i) ≡ byte_at bytes.now (h * 80 + i % 16 * 5 + i / 16) }
     ensures rows_kept { RowsKept 128 h rows.old rows.new }
 {
@@ -37,8 +37,8 @@ pub fn fill_rows(rows: &mut [u8], h: usize, bytes: &[u8])
 }
 
 // Bit p of each of five bytes, the first lowest.
-fn choose(rows: &[u8], h: usize, g: usize, p: usize) -> u8
-    requires { (h < 2) × (g < 16) × (length rows.now ≡ two_sixteens) × (p < 8) }
+fn choose(rows: &[u8; SIXTEENS], h: usize, g: usize, p: usize) -> u8
+    requires { (h < 2) × (g < 16) × (p < 8) }
     ensures { result ≡ choice (in_rows rows.now) p (h * 16 + g) }
 {
     let at = h * EIGHT_ROWS + g;
@@ -48,8 +48,8 @@ fn choose(rows: &[u8], h: usize, g: usize, p: usize) -> u8
     low + high + top
 }
 
-fn choose_both(plane: &mut [u8], rows: &[u8], p: usize)
-    requires { (length plane.old ≡ fives) × (length rows.now ≡ two_sixteens) × (p < 8) }
+fn choose_both(plane: &mut [u8], rows: &[u8; SIXTEENS], p: usize)
+    requires { (length plane.old ≡ fives) × (p < 8) }
     ensures { (g : ℕ) → g < fives → byte_at plane.new g ≡ choice (in_rows rows.now) p g }
 {
     for g in 0..SIXTEEN {
@@ -58,8 +58,8 @@ fn choose_both(plane: &mut [u8], rows: &[u8], p: usize)
     }
 }
 
-fn choose_at(picks: &mut [u8], rows: &[u8], p: usize)
-    requires { (length picks.old ≡ picks_bytes) × (length rows.now ≡ two_sixteens) × (p < 8) }
+fn choose_at(picks: &mut [u8; PICKS], rows: &[u8; SIXTEENS], p: usize)
+    requires { p < 8 }
     ensures by_index { (g : ℕ) → g < fives → byte_at picks.new (p * fives + g) ≡ choice (in_rows rows.now) p g }
     ensures rows_kept { RowsKept fives p picks.old picks.new }
 {
@@ -68,8 +68,7 @@ fn choose_at(picks: &mut [u8], rows: &[u8], p: usize)
 }
 
 // All eight bits, before any is written on, so that they stay in registers.
-pub fn choose_all(picks: &mut [u8], rows: &[u8])
-    requires { (length picks.old ≡ picks_bytes) × (length rows.now ≡ two_sixteens) }
+pub fn choose_all(picks: &mut [u8; PICKS], rows: &[u8; SIXTEENS])
     ensures { (p g : ℕ) → p < 8 → g < fives → byte_at picks.new (p * fives + g) ≡ choice (in_rows rows.now) p g }
 {
     for p in 0..BITS {
