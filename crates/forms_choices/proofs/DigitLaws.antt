@@ -29,3 +29,16 @@ digits-most f n (suc k) small =
 pub digits-word : (P : List ℕ) (at : ℕ) → digits 32 (λ k. byte_at P (at + k)) 10 10 ≡ fives_word P at
 unfolding digits
 digits-word P at = rw (add-zero at) (omega arith)
+
+-- digits that are bits
+pub digits-small : (f : ℕ → ℕ) (n k : ℕ) → ((i : ℕ) → f i < 2) → digits 2 f n k < 2 ^ k
+unfolding digits
+digits-small f n zero small = omega arith
+digits-small f n (suc k) small =
+    let e : suc k ≡ k + 1 = omega arith in
+    let pow : 2 ^ suc k ≡ 2 ^ k * 2 = rw e (pow-add 2 k 1) in
+    omega (arith, digits-small f n k small, small (n - 1 - k), pow)
+
+pub digits-five : (f : ℕ → ℕ) → digits 2 f 5 5 ≡ f 0 + f 1 * 2 + f 2 * 4 + f 3 * 8 + f 4 * 16
+unfolding digits
+digits-five f = omega arith

@@ -12,8 +12,11 @@ use chunks::cells::copy_apart;
 use chunks::turns::{EIGHT_ROWS, part};
 use strings::{BITS, SIXTEEN};
 
+// The bytes of which a number is chosen.
+const FIVE: usize = 5;
+
 // The numbers of one bit, for the most fives.
-pub const FIVES: usize = MOST_BLOCK / 5;
+pub const FIVES: usize = MOST_BLOCK / FIVE;
 
 // The numbers of all bits, with room for ten where the last two begin.
 pub const PICKS: usize = BITS * FIVES + 8;
@@ -31,7 +34,14 @@ pub fn fill_rows(rows: &mut [u8; SIXTEENS], h: usize, bytes: &[u8])
     ensures rows_kept { RowsKept 128 h rows.old rows.new }
 {
     let mut apart = [0u8; EIGHT_ROWS];
-    copy_apart(&mut apart, SIXTEEN, TAKEN, bytes, h * 80, 5);
+    copy_apart(
+        &mut apart,
+        SIXTEEN,
+        TAKEN,
+        bytes,
+        h * (SIXTEEN * FIVE),
+        FIVE,
+    );
     let at = h * EIGHT_ROWS;
     part(&mut rows[at..at + EIGHT_ROWS], &apart);
 }
@@ -42,10 +52,11 @@ fn choose(rows: &[u8; SIXTEENS], h: usize, g: usize, p: usize) -> u8
     ensures { result ≡ choice (in_rows rows.now) p (h * 16 + g) }
 {
     let at = h * EIGHT_ROWS + g;
-    let low = (rows[at] >> p) % 2 + (rows[at + 16] >> p) % 2 * 2;
-    let high = (rows[at + 32] >> p) % 2 * 4 + (rows[at + 48] >> p) % 2 * 8;
-    let top = (rows[at + 64] >> p) % 2 * 16;
-    low + high + top
+    let mut number = 0u8;
+    for z in 0..FIVE {
+        number = number * 2 + (rows[at + (FIVE - 1 - z) * SIXTEEN] >> p) % 2;
+    }
+    number
 }
 
 fn choose_both(plane: &mut [u8], rows: &[u8; SIXTEENS], p: usize)
