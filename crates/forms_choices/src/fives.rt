@@ -5,12 +5,12 @@ ghost use Rattle.std.specs.Prelude.{◌≡◌, ℕ, ◌+◌, ◌*◌, ◌<◌, �
 ghost use Rattle.strings.specs.Sums.{byte_at};
 ghost use Rattle.strings.specs.Rows.{RowsKept};
 ghost use Rattle.chunks.specs.Chunks.{most_block};
-ghost use Rattle.forms_choices.specs.Entries.{fives, picks_bytes, three_fives, fives_word, Chosen, ChosenAll, WordsFit, GroupsFor};
+ghost use Rattle.forms_choices.specs.Entries.{fives, picks_bytes, fives_word, Chosen, ChosenAll, WordsFit, GroupsFor};
 
 use super::picks::{FIVES, PICKS, SIXTEENS, TAKEN, choose_all, fill_rows};
 use chunks::MOST_BLOCK;
 use chunks::cells::copy_front;
-use strings::{BITS, least, word};
+use strings::BITS;
 
 // The words of a row.
 pub const ROW_WORDS: usize = 4;
@@ -18,48 +18,34 @@ pub const ROW_WORDS: usize = 4;
 // Room for the bytes of the most equations of a block, and for what is taken where the last five begins.
 const BYTES: usize = MOST_BLOCK + TAKEN;
 
-// The weight of the fourth number of a word: three of five bits stand below it.
-const THREE_FIVES: u64 = 32 * 1024;
+// The numbers of a word.
+const TEN: usize = 10;
 
-// Four numbers, five bits to each.
-fn four_at(picks: &[u8], at: usize) -> u64
-    requires { at + 4 ≤ length picks.now }
-    ensures value { result ≡ byte_at picks.now at + byte_at picks.now (at + 1) * 32 + byte_at picks.now (at + 2) * 1024 +
-        byte_at picks.now (at + 3) * three_fives }
-    ensures upper_bound { result < 16777216 }
+// A word: ten numbers, five bits to each, the first lowest.
+fn word_at(picks: &[u8; PICKS], at: usize) -> u64
+    requires { at + 10 ≤ picks_bytes }
+    ensures { result ≡ fives_word picks.now at }
 {
-    word(picks[at])
-        + word(picks[at + 1]) * 32
-        + word(picks[at + 2]) * 1024
-        + word(picks[at + 3]) * THREE_FIVES
-}
-
-// Two numbers.
-fn two_at(picks: &[u8], at: usize) -> u64
-    requires { at + 2 ≤ length picks.now }
-    ensures value { result ≡ byte_at picks.now at + byte_at picks.now (at + 1) * 32 }
-    ensures upper_bound { result < 16384 }
-{
-    word(picks[at]) + word(picks[at + 1]) * 32
+    let mut word = 0u64;
+    for k in 0..TEN {
+        word = word * 32 + u64::from(picks[at + TEN - 1 - k]);
+    }
+    word
 }
 
 // The four words of a row. The last takes eight numbers of the next bit too, which are not looked up.
-fn put(row: &mut [u64], picks: &[u8], at: usize)
-    requires { (length row.old ≡ 4) × (at + 40 ≤ length picks.now) }
+fn put(row: &mut [u64], picks: &[u8; PICKS], at: usize)
+    requires { (length row.old ≡ 4) × (at + 40 ≤ picks_bytes) }
     ensures { (k : ℕ) → k < 4 → byte_at row.new k ≡ fives_word picks.now (at + k * 10) }
 {
     for k in 0..ROW_WORDS {
-        let from = at + k * 10;
-        let low = four_at(picks, from);
-        let high = four_at(picks, from + 4);
-        let top = two_at(picks, from + 8);
-        row[k] = low + high * 1048576 + top * 1099511627776;
+        row[k] = word_at(picks, at + k * TEN);
     }
 }
 
 // Row r, which is for bit p.
-fn put_row(words: &mut [u64], r: usize, p: usize, picks: &[u8])
-    requires { (r * 4 + 4 ≤ length words.old) × (p < 8) × (length picks.now ≡ picks_bytes) }
+fn put_row(words: &mut [u64], r: usize, p: usize, picks: &[u8; PICKS])
+    requires { (r * 4 + 4 ≤ length words.old) × (p < 8) }
     ensures by_index { (k : ℕ) → k < 4 → byte_at words.new (r * 4 + k) ≡ fives_word picks.now (p * fives + k * 10) }
     ensures rows_kept { RowsKept 4 r words.old words.new }
 {
@@ -68,8 +54,8 @@ fn put_row(words: &mut [u64], r: usize, p: usize, picks: &[u8])
 }
 
 // The eight rows of repetition e.
-fn put_rows(words: &mut [u64], e: usize, picks: &[u8])
-    requires { ((e * 8 + 8) * 4 ≤ length words.old) × (length picks.now ≡ picks_bytes) }
+fn put_rows(words: &mut [u64], e: usize, picks: &[u8; PICKS])
+    requires { (e * 8 + 8) * 4 ≤ length words.old }
     ensures by_index { (p k : ℕ) → p < 8 → k < 4 → byte_at words.new ((e * 8 + p) * 4 + k) ≡ fives_word picks.now (p * fives + k * 10) }
     ensures by_index_2 { (q k : ℕ) → q < e * 8 → k < 4 → byte_at words.new (q * 4 + k) ≡ byte_at words.old (q * 4 + k) }
 {
@@ -100,7 +86,7 @@ pub fn groups_for(m: usize) -> usize
     requires { m ≤ most_block }
     ensures { GroupsFor m result }
 {
-    least((m + 49) / 50 * 10, FIVES)
+    ((m + 49) / 50 * TEN).min(FIVES)
 }
 
 // The words of what m bytes of each of tau repetitions choose. Those of repetition e stand in chi from e·stride + from

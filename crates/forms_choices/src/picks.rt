@@ -12,8 +12,11 @@ use chunks::cells::copy_apart;
 use chunks::turns::{EIGHT_ROWS, part};
 use strings::{BITS, SIXTEEN};
 
+// The bytes of which a number is chosen.
+const FIVE: usize = 5;
+
 // The numbers of one bit, for the most fives.
-pub const FIVES: usize = MOST_BLOCK / 5;
+pub const FIVES: usize = MOST_BLOCK / FIVE;
 
 // The numbers of all bits, with room for ten where the last two begin.
 pub const PICKS: usize = BITS * FIVES + 8;
@@ -25,31 +28,39 @@ pub const TAKEN: usize = 8;
 pub const SIXTEENS: usize = 2 * EIGHT_ROWS;
 
 // The rows of the sixteen fives h. They are taken eight bytes apart: after each, three bytes of the next.
-pub fn fill_rows(rows: &mut [u8], h: usize, bytes: &[u8])
-    requires { (h < 2) × (length rows.old ≡ two_sixteens) × (most_block + 3 ≤ length bytes.now) }
+pub fn fill_rows(rows: &mut [u8; SIXTEENS], h: usize, bytes: &[u8])
+    requires { (h < 2) × (most_block + 3 ≤ length bytes.now) }
     ensures by_index { (i : ℕ) → i < 128 → byte_at rows.new (h * 128 + i) ≡ byte_at bytes.now (h * 80 + i % 16 * 5 + i / 16) }
     ensures rows_kept { RowsKept 128 h rows.old rows.new }
 {
     let mut apart = [0u8; EIGHT_ROWS];
-    copy_apart(&mut apart, SIXTEEN, TAKEN, bytes, h * 80, 5);
+    copy_apart(
+        &mut apart,
+        SIXTEEN,
+        TAKEN,
+        bytes,
+        h * (SIXTEEN * FIVE),
+        FIVE,
+    );
     let at = h * EIGHT_ROWS;
     part(&mut rows[at..at + EIGHT_ROWS], &apart);
 }
 
 // Bit p of each of five bytes, the first lowest.
-fn choose(rows: &[u8], h: usize, g: usize, p: usize) -> u8
-    requires { (h < 2) × (g < 16) × (length rows.now ≡ two_sixteens) × (p < 8) }
+fn choose(rows: &[u8; SIXTEENS], h: usize, g: usize, p: usize) -> u8
+    requires { (h < 2) × (g < 16) × (p < 8) }
     ensures { result ≡ choice (in_rows rows.now) p (h * 16 + g) }
 {
     let at = h * EIGHT_ROWS + g;
-    let low = (rows[at] >> p) % 2 + (rows[at + 16] >> p) % 2 * 2;
-    let high = (rows[at + 32] >> p) % 2 * 4 + (rows[at + 48] >> p) % 2 * 8;
-    let top = (rows[at + 64] >> p) % 2 * 16;
-    low + high + top
+    let mut number = 0u8;
+    for z in 0..FIVE {
+        number = number * 2 + (rows[at + (FIVE - 1 - z) * SIXTEEN] >> p) % 2;
+    }
+    number
 }
 
-fn choose_both(plane: &mut [u8], rows: &[u8], p: usize)
-    requires { (length plane.old ≡ fives) × (length rows.now ≡ two_sixteens) × (p < 8) }
+fn choose_both(plane: &mut [u8], rows: &[u8; SIXTEENS], p: usize)
+    requires { (length plane.old ≡ fives) × (p < 8) }
     ensures { (g : ℕ) → g < fives → byte_at plane.new g ≡ choice (in_rows rows.now) p g }
 {
     for g in 0..SIXTEEN {
@@ -58,8 +69,8 @@ fn choose_both(plane: &mut [u8], rows: &[u8], p: usize)
     }
 }
 
-fn choose_at(picks: &mut [u8], rows: &[u8], p: usize)
-    requires { (length picks.old ≡ picks_bytes) × (length rows.now ≡ two_sixteens) × (p < 8) }
+fn choose_at(picks: &mut [u8; PICKS], rows: &[u8; SIXTEENS], p: usize)
+    requires { p < 8 }
     ensures by_index { (g : ℕ) → g < fives → byte_at picks.new (p * fives + g) ≡ choice (in_rows rows.now) p g }
     ensures rows_kept { RowsKept fives p picks.old picks.new }
 {
@@ -68,8 +79,7 @@ fn choose_at(picks: &mut [u8], rows: &[u8], p: usize)
 }
 
 // All eight bits, before any is written on, so that they stay in registers.
-pub fn choose_all(picks: &mut [u8], rows: &[u8])
-    requires { (length picks.old ≡ picks_bytes) × (length rows.now ≡ two_sixteens) }
+pub fn choose_all(picks: &mut [u8; PICKS], rows: &[u8; SIXTEENS])
     ensures { (p g : ℕ) → p < 8 → g < fives → byte_at picks.new (p * fives + g) ≡ choice (in_rows rows.now) p g }
 {
     for p in 0..BITS {

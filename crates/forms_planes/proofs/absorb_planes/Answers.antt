@@ -1,7 +1,6 @@
 -- `forms_planes::absorb_planes` meets its contract. The invariant: the bytes below f are done, and the others are as
 -- they were.
 -- Assumes nothing.
-use borrow.Author.Rules.{rules}
 use Prim.Native.Nat.{ℕ, ◌+◌, ◌*◌, ◌<◌, ◌^◌}
 use mathlib.Core.List.{List}
 use mathlib.Core.Path.{◌≡◌, refl, ap, ap₂, ◌∙◌}
@@ -29,11 +28,11 @@ split g f P h below here = go (dec_lt g f)
 
 pub loop-f-init : goal.loop-f-init
 loop-f-init c =
-    (search rules, search rules, (λ d v g z is hv h. absurd (omega arith)), λ q g h k. refl)
+    ((λ d v g z is hv h. absurd (omega arith)), λ q g h k. refl)
 
 pub absorb_byte-requires : goal.absorb_byte-requires
 absorb_byte-requires c =
-    (c.loop-f.invariant.1, omega arith, omega (arith, c.loop-f-test.true), c.requires.3)
+    (c.loop-f.auto.t ∙ c.requires.0, omega arith, omega (arith, c.loop-f-test.true), c.requires.3)
 
 pub loop-f-preserved : goal.loop-f-preserved
 loop-f-preserved c =
@@ -51,14 +50,12 @@ loop-f-preserved c =
     let here : (d : ℕ) (v : List ℕ) (z : ℕ) → Masks v a.masks.now → byte_at v f < 2 ^ degree_of d → stack_at d t' f z ≡ bit_xor (stack_at d t₀ f z) (term d both a.p v f z) =
     λ d v z masks hv.
     done.ensures.by_index d (byte_at v f) z (λ b k. masks b f k lt) hv
-    ∙ ap (λ (x : ℕ). bit_xor x (bit_xor (bit_of (byte_at both f) z * byte_product d (alpha d a.p) (byte_at v f)) (bit_of (byte_at both (chunk + f)) z * byte_product d (alpha d (a.p + 1)) (byte_at v f)))) (stack_same d t₀ t f z (λ q. l.invariant.3 q f (omega arith) lt))
+    ∙ ap (λ (x : ℕ). bit_xor x (bit_xor (bit_of (byte_at both f) z * byte_product d (alpha d a.p) (byte_at v f)) (bit_of (byte_at both (chunk + f)) z * byte_product d (alpha d (a.p + 1)) (byte_at v f)))) (stack_same d t₀ t f z (λ q. l.invariant.1 q f (omega arith) lt))
     ∙ ap₂ (λ (j k : ℕ). bit_xor (stack_at d t₀ f z) (bit_xor (bit_of (byte_at both j) z * byte_product d (alpha d a.p) (byte_at v f)) (bit_of (byte_at both k) z * byte_product d (alpha d (a.p + 1)) (byte_at v f)))) front back in (
-      omega (arith, lt),
-      done.auto.t ∙ l.invariant.1,
-      (λ d v g z masks hv h. split g f (stack_at d t' g z ≡ bit_xor (stack_at d t₀ g z) (term d both a.p v g z)) h (λ below. stack_same d t t' g z (λ q. done.ensures.by_index_2 q g (λ e. omega arith) (omega arith)) ∙ l.invariant.2 d v g z masks hv below) (λ e. rw e (here d v z masks (rw e at hv)))),
-      (λ q g h k. done.ensures.by_index_2 q g (λ e. omega arith) k ∙ l.invariant.3 q g (omega arith) k),
+      (λ d v g z masks hv h. split g f (stack_at d t' g z ≡ bit_xor (stack_at d t₀ g z) (term d both a.p v g z)) h (λ below. stack_same d t t' g z (λ q. done.ensures.by_index_2 q g (λ e. omega arith) (omega arith)) ∙ l.invariant.0 d v g z masks hv below) (λ e. rw e (here d v z masks (rw e at hv)))),
+      (λ q g h k. done.ensures.by_index_2 q g (λ e. omega arith) k ∙ l.invariant.1 q g (omega arith) k),
     )
 
 pub returns : goal.returns
 returns c d v f z masks hv h =
-    c.loop-f.invariant.2 d v f z masks hv (omega arith)
+    c.loop-f.invariant.0 d v f z masks hv (omega arith)

@@ -1,8 +1,7 @@
 -- `forms_choices::fives::fill_words` meets its contract. The invariant: the rows of the repetitions below e are filled.
 -- Assumes nothing.
-use borrow.Author.Rules.{rules}
 use Prim.Native.Nat.{◌+◌, ◌*◌}
-use mathlib.Core.Path.{refl, ◌∙◌}
+use mathlib.Core.Path.{refl}
 use native.Mathlib.Omega.{arith}
 use Rattle.strings.specs.Sums.{byte_at}
 use Rattle.strings.proofs.Rows.{row-end}
@@ -10,7 +9,7 @@ use Rattle.forms_choices.proofs.ChoiceLaws.{chosen-next}
 use Rattle.forms_choices.proofs.fives.fill_words.Goals as goal
 
 pub loop-e-init : goal.loop-e-init
-loop-e-init c = (search rules, refl, λ q h. absurd (omega arith))
+loop-e-init c = λ q h. absurd (omega arith)
 
 pub overflow_mul-e : goal.overflow_mul-e
 overflow_mul-e c =
@@ -26,16 +25,16 @@ pub fill_repetition-requires : goal.fill_repetition-requires
 fill_repetition-requires c =
     let a = c.args in
     let l = c.loop-e in
-    (c.requires.0, omega (arith, l.invariant.1), omega (arith, c.requires.1, c.requires.3, row-end l.e a.tau a.stride (omega arith)))
+    (c.requires.0, omega arith, omega (arith, c.requires.1, c.requires.3, row-end l.e a.tau a.stride (omega arith)))
 
 pub loop-e-preserved : goal.loop-e-preserved
 loop-e-preserved c =
     let a = c.args in
     let l = c.loop-e in
     let done = c.fill_repetition in
-    (omega arith, done.auto.words ∙ l.invariant.1, chosen-next (λ r i. byte_at a.chi.now (r * a.stride + a.from + i)) l.words done.new.words a.m l.e (λ p hp. done.ensures.by_index (λ r i. byte_at a.chi.now (r * a.stride + a.from + i)) p hp (λ i h. refl)) done.ensures.by_index_2 l.invariant.2)
+    chosen-next (λ r i. byte_at a.chi.now (r * a.stride + a.from + i)) l.words done.new.words a.m l.e (λ p hp. done.ensures.by_index (λ r i. byte_at a.chi.now (r * a.stride + a.from + i)) p hp (λ i h. refl)) done.ensures.by_index_2 l.invariant
 
 pub returns : goal.returns
 returns c =
     let l = c.loop-e in
-    λ r h. l.invariant.2 r (omega arith)
+    λ r h. l.invariant r (omega arith)

@@ -1,7 +1,6 @@
 -- `forms_choices::fives::put_rows` meets its contract. The invariant: the rows of the bits below p are filled, and
 -- those of earlier repetitions are as they were.
 -- Assumes nothing.
-use borrow.Author.Rules.{rules}
 use Prim.Native.Nat.{◌+◌, ◌*◌, ◌<◌}
 use mathlib.Core.Logic.{⊎_elim}
 use mathlib.Core.Path.{◌≡◌, refl, ◌∙◌}
@@ -11,23 +10,21 @@ use native.Mathlib.Omega.{arith}
 use Rattle.forms_choices.proofs.fives.put_rows.Goals as goal
 
 pub loop-p-init : goal.loop-p-init
-loop-p-init c = (search rules, refl, (λ q g h. absurd (omega arith)), λ q g h k. refl)
+loop-p-init c = ((λ q g h. absurd (omega arith)), λ q g h k. refl)
 
 pub loop-p-preserved : goal.loop-p-preserved
 loop-p-preserved c =
     let a = c.args in
     let l = c.loop-p in
     let done = c.put_row in (
-      omega arith,
-      done.auto.words ∙ l.invariant.1,
       (λ q g h k.
           ⊎_elim (λ (x : q ≡ l.p). rw x (done.ensures.by_index g k))
-          (λ (lt : q < l.p). done.ensures.rows_kept (a.e * 8 + q) g (λ x. omega arith) k ∙ l.invariant.2 q g lt k)
+          (λ (lt : q < l.p). done.ensures.rows_kept (a.e * 8 + q) g (λ x. omega arith) k ∙ l.invariant.0 q g lt k)
           (eq-or-lt_of_le (le_of_suc-le-suc (rw add-one at h)))),
-      λ q g h k. done.ensures.rows_kept q g (λ x. omega arith) k ∙ l.invariant.3 q g h k,
+      λ q g h k. done.ensures.rows_kept q g (λ x. omega arith) k ∙ l.invariant.1 q g h k,
     )
 
 pub returns : goal.returns
 returns c =
     let l = c.loop-p in
-    record { by_index = (λ p g hp hg. l.invariant.2 p g (omega arith) hg); by_index_2 = l.invariant.3 }
+    record { by_index = (λ p g hp hg. l.invariant.0 p g (omega arith) hg); by_index_2 = l.invariant.1 }
