@@ -64,7 +64,7 @@ fn rows_at(table: &[u8], width: usize, first: usize, count: usize) -> &[u8]
 }
 
 // How many equations there are, of how many variables, for how many repetitions; whether the polar form is asked for;
-// and the degree of the field.
+// and the degree of the field. The flag is no Option of the bits: bits that are all 0 have one formula for both cases.
 #[derive(Clone, Copy)]
 pub struct Forms {
     pub n: usize,

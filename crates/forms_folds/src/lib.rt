@@ -12,7 +12,7 @@ use chunks::CHUNK;
 use chunks::cells::copy_front;
 use chunks::turns::EIGHT_ROWS;
 use mirrors::{PIECE_ROWS, reflect_all};
-use rows::{COLUMNS, begin, part_rows, put_rows};
+use rows::{COLUMNS, part_rows, put_rows};
 use strings::SIXTEEN;
 
 mod mirrors;
@@ -43,6 +43,44 @@ pub struct Piece {
     pub first: usize,
     pub end: usize,
     pub count: usize,
+}
+
+impl Piece {
+    // The sixteens of rows that stand before those of panel first + p: each panel has one more than the panel before
+    // it, unless the piece ends above them all.
+    fn begin(self, p: usize) -> usize
+        requires { (self.first ≤ most_panels) × (self.count ≤ piece_sixteens) × (p < 4) }
+        ensures { result ≡ before self.first self.count p }
+    {
+        if self.first < self.count {
+            p * (2 * self.first + p + 1) / 2
+        } else {
+            p * self.count
+        }
+    }
+
+    // The sixteens of rows of panel first + p.
+    fn height(self, p: usize) -> usize
+        requires { (self.first ≤ most_panels) × (p < 4) }
+        ensures { result ≡ height self.first self.count p }
+    {
+        if self.first < self.count {
+            self.first + p + 1
+        } else {
+            self.count
+        }
+    }
+
+    // Panel first + p, where the cells hold the piece.
+    pub fn panel<'a>(self, cells: &'a [u8], m: usize, p: usize) -> &'a [u8]
+        requires { (self.first ≤ most_panels) × (self.count ≤ piece_sixteens) × (p < 4)
+            × (before self.first self.count p + height self.first self.count p ≤ cell_sixteens) × (m ≤ most_block) × CellsFit m cells.now }
+        ensures { (length result.now ≡ height self.first self.count p * (m * chunk))
+            × ((n w top : ℕ) (A : List ℕ) → FoldedSet n w m A top self.first self.count cells.now → Folded n w m A top (self.first + p) self.count result.now) }
+    {
+        let from = self.begin(p) * m * CHUNK;
+        &cells[from..from + self.height(p) * m * CHUNK]
+    }
 }
 
 // Sixteen rows after sixteen, with what `turned` adds to them.
@@ -152,23 +190,4 @@ pub fn load_piece(
     for i in 0..m {
         load_matrix(cells, &mut turned, room, a, n, width, piece, m, i);
     }
-}
-
-// The sixteens of rows of panel first + p of a piece.
-fn height_of(first: usize, count: usize, p: usize) -> usize
-    requires { (first ≤ most_panels) × (p < 4) }
-    ensures { result ≡ height first count p }
-{
-    if first < count { first + p + 1 } else { count }
-}
-
-// Panel first + p of the piece that was loaded.
-pub fn panel_of(cells: &[u8], m: usize, first: usize, count: usize, p: usize) -> &[u8]
-    requires { (first ≤ most_panels) × (count ≤ piece_sixteens) × (p < 4) × (before first count p + height first count p ≤ cell_sixteens)
-        × (m ≤ most_block) × CellsFit m cells.now }
-    ensures { (length result.now ≡ height first count p * (m * chunk))
-        × ((n w top : ℕ) (A : List ℕ) → FoldedSet n w m A top first count cells.now → Folded n w m A top (first + p) count result.now) }
-{
-    let from = begin(first, count, p) * m * CHUNK;
-    &cells[from..from + height_of(first, count, p) * m * CHUNK]
 }

@@ -19,19 +19,6 @@ pub const COLUMNS: usize = 2 * PANELS;
 // The bytes of eight rows of a set.
 const SET_ROWS: usize = BITS * COLUMNS;
 
-// The sixteens of rows that stand before those of panel first + p of a piece: each panel has one more than the panel
-// before it, unless the piece ends above them all.
-pub fn begin(first: usize, count: usize, p: usize) -> usize
-    requires { (first ≤ most_panels) × (count ≤ piece_sixteens) × (p < 4) }
-    ensures { result ≡ before first count p }
-{
-    if first < count {
-        p * (2 * first + p + 1) / 2
-    } else {
-        p * count
-    }
-}
-
 // Adds to each of a chunk's two columns of bytes one of `turned`: the first column's stands from `at` on, the second's
 // a row further. The count is a constant, so that the chunk stays in registers.
 fn add_turned(sum: &mut [u8; CHUNK], turned: &[u8], at: usize)
@@ -68,13 +55,7 @@ fn put_panel(
             let mut sum = [0u8; CHUNK];
             copy_front(&mut sum, made, p * CHUNK, CHUNK);
             add_turned(&mut sum, turned, 2 * p * PIECE_ROWS + q * SIXTEEN);
-            copy_part(
-                cells,
-                (begin(piece.first, piece.count, p) + q) * m + i,
-                CHUNK,
-                &sum,
-                0,
-            );
+            copy_part(cells, (piece.begin(p) + q) * m + i, CHUNK, &sum, 0);
         }
     }
 }

@@ -166,7 +166,7 @@ pub fn add_forms(
     while place.first * SIXTEEN < s.n {
         let piece = place.piece(s.n);
         load(cells, &mut sums, a, s.n, s.width, s.m, piece, place.p);
-        let held = forms_folds::panel_of(cells, s.m, piece.first, piece.count, place.p);
+        let held = piece.panel(cells, s.m, place.p);
         let rows = (piece.first + place.p + 1).min(piece.count);
         let panel = place.first + place.p;
         let part = Part {

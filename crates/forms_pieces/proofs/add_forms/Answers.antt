@@ -79,8 +79,8 @@ load-requires c =
       folded_set = λ later. rw (at.0, at.1, at.3) (l.invariant.8 later);
     }
 
-pub panel_of-held-requires : goal.panel_of-held-requires
-panel_of-held-requires c =
+pub panel-held-requires : goal.panel-held-requires
+panel-held-requires c =
     let a = c.args in
     let pre = c.requires in
     let l = c.loop-place in
@@ -113,7 +113,7 @@ add_left-requires c =
     let at = c.piece-piece.ensures in
     let inside = l.invariant.1 c.loop-place-test.true in
     let least = least_of (c.piece-piece.result.first + l.place.p + 1) c.piece-piece.result.count c.min-rows.result c.min-rows.ensures in
-    let held = c.panel_of-held.ensures.0 in
+    let held = c.panel-held.ensures.0 in
     let tall = rows-height c.piece-piece.result.first c.piece-piece.result.count l.place.p c.min-rows.result least.0 least.1 in (
       omega (arith, pre.16, l.invariant.6),
       omega (arith, pre.6, l.invariant.4, c.load.auto.room),
@@ -131,7 +131,7 @@ stack_part-requires c =
     let at = c.piece-piece.ensures in
     let inside = l.invariant.1 c.loop-place-test.true in
     let least = least_of (c.piece-piece.result.first + l.place.p + 1) c.piece-piece.result.count c.min-rows.result c.min-rows.ensures in
-    let held = c.panel_of-held.ensures.0 in
+    let held = c.panel-held.ensures.0 in
     let tall = rows-height c.piece-piece.result.first c.piece-piece.result.count l.place.p c.min-rows.result least.0 least.1 in (
       omega (arith, pre.8, l.invariant.5),
       c.add_left.auto.sums ∙ c.load.auto.room ∙ l.invariant.4,
@@ -196,7 +196,7 @@ loop-place-preserved c =
     let inside = l.invariant.1 some in
     let least = least_of (c.piece-piece.result.first + l.place.p + 1) c.piece-piece.result.count c.min-rows.result c.min-rows.ensures in
     let rows = c.min-rows.result in
-    let held = c.panel_of-held.result.now in
+    let held = c.panel-held.result.now in
     let left = c.add_left in
     let stacked = c.stack_part in
     let done = c.finish in
@@ -215,7 +215,7 @@ loop-place-preserved c =
     let from : l.place.first ≡ piece.first + l.place.top = omega (arith, at.1, l.invariant.0.2) in
     let bottom : piece_end n l.place.first l.place.top ≡ l.place.top + piece.count = omega (arith, at.3) in
     let loaded : FoldedSet n w m A l.place.top piece.first piece.count c.load.new.cells = rw at.0 at c.load.ensures in
-    let folded : Folded n w m A l.place.top (piece.first + l.place.p) piece.count held = c.panel_of-held.ensures.1 n w l.place.top A loaded in
+    let folded : Folded n w m A l.place.top (piece.first + l.place.p) piece.count held = c.panel-held.ensures.1 n w l.place.top A loaded in
     let above : rows ≤ piece.first + l.place.p + 1 = least.0 in
     let column : (χ : ℕ → ℕ → ℕ) (e : ℕ) → IsBytes χ → ChosenAll χ m a.s.tau a.words.now → e < a.s.tau → (s : ℕ) → s < 16 → J * 16 + s < n
     → column_of d stacked.new.stacks e s ≡ rows_sum d w (n * w) m A χ e (coordinate_of vs e) l.place.top rows (J * 16 + s) =
