@@ -8,6 +8,7 @@ use mathlib.Core.List.{List}
 use Prim.Native.Nat.{ℕ, ◌+◌, ◌*◌, ◌<◌}
 use native.Mathlib.Omega.{arith}
 use lib.ListN.{length}
+use Rattle.std.proofs.Common.{Some, None}
 use lib.Bits.{bit_xor}
 use Rattle.algebra.specs.Coded.{Coded}
 use Rattle.algebra.specs.Sum.{sum}
@@ -27,7 +28,6 @@ use Rattle.strings.specs.Sums.{byte_at, xor_sum}
 use Rattle.strings.proofs.SumLaws.{sum_same}
 use Rattle.strings.proofs.Meaning.{byte-bit, byte-scale}
 use Rattle.equations.specs.Equations.{row_product, row_of, error_bit, key_error, FirstIn}
-use Rattle.equations.specs.declared.Found.TheVariants.{At, Nothing}
 use Rattle.equations.proofs.ElementLaws.{byte-form, product_is, bits_of}
 
 module _ (C : Coded) (s : Shape) (key x : List ℕ) where
@@ -84,18 +84,18 @@ module _ (C : Coded) (s : Shape) (key x : List ℕ) where
       fails-at : (i : ℕ) → i < s.m → byte_at errors i ≢ 0 → equation_holds A s key x i ≡ false
       fails-at i h n = T_false _ (λ t. n (are i (omega arith) ∙ error_is i ∙ ap byte (base.eqb_sound _ 𝟘 (T_true _ t) ∙ sym C.elem-zero) ∙ byte-bit C 0 (omega arith)))
 
-      pub none-solves : FirstIn errors Nothing → solves A s key x ≡ true
+      pub none-solves : FirstIn errors None → solves A s key x ≡ true
       unfolding solves
       none-solves f = all_of s.m _ (λ i h. holds_at i h (f i (omega arith)))
 
       -- the first error that is not 0 is that of the first equation that fails, and the witness does not solve the
       -- system
-      pub first-named : (i : ℕ) → FirstIn errors (At i) → first_not s.m (equation_holds A s key x) ≡ i
+      pub first-named : (i : ℕ) → FirstIn errors (Some i) → first_not s.m (equation_holds A s key x) ≡ i
       first-named i f =
           let l : i < s.m = omega (arith, f.0) in
           first-at s.m (equation_holds A s key x) i l (λ k h. holds_at k (omega (arith, h, l)) (f.2 k h)) (fails-at i l f.1)
 
-      pub first_refutes : (i : ℕ) → FirstIn errors (At i) → solves A s key x ≡ false
+      pub first_refutes : (i : ℕ) → FirstIn errors (Some i) → solves A s key x ≡ false
       unfolding solves
       first_refutes i f =
           let l : i < s.m = omega (arith, f.0) in

@@ -7,14 +7,12 @@
 --     lengths
 --   FirstIn errors found == found is the first of the errors that is not 0, or that there is none
 -- Assumes nothing.
-use Rattle.std.specs.Prelude.{◌≡◌, ◌≢◌, List, ℕ, ◌*◌, ◌<◌, ◌≤◌, length}
+use Rattle.std.specs.Prelude.{◌≡◌, ◌≢◌, List, ℕ, ◌*◌, ◌<◌, ◌≤◌, length, Option, Some, None}
 use Rattle.std.specs.Int.Bits.{bit_xor}
 use Rattle.protocol.specs.Lists.{block_at}
 use Rattle.protocol.specs.Strings.{bytes_for, bit}
 use Rattle.strings.specs.Sums.{byte_at, xor_sum}
 use Rattle.strings.specs.Products.{bit_product}
-use Rattle.equations.specs.declared.Found.{Found}
-use Rattle.equations.specs.declared.Found.TheVariants.{At, Nothing}
 
 abbrev pub row_product : List ℕ → List ℕ → ℕ
 row_product row x = bit_product (length row * 8) row x
@@ -34,6 +32,6 @@ key_error n A b y x i = error_bit n (matrix_of n A i) (row_of n b i) (bit y i) x
 abbrev pub EquationsFit : ℕ → ℕ → List ℕ → List ℕ → List ℕ → List ℕ → Type 0
 EquationsFit n m A b y x = (n < 65536) × (length x ≡ bytes_for n) × (length A ≡ m * (n * bytes_for n)) × (length b ≡ m * bytes_for n) × (m ≤ length y * 8)
 
-abbrev pub FirstIn : List ℕ → Found → Type 0
-FirstIn errors (At i) = (i < length errors) × (byte_at errors i ≢ 0) × ((k : ℕ) → k < i → byte_at errors k ≡ 0)
-FirstIn errors Nothing = (k : ℕ) → k < length errors → byte_at errors k ≡ 0
+abbrev pub FirstIn : List ℕ → Option ℕ → Type 0
+FirstIn errors (Some i) = (i < length errors) × (byte_at errors i ≢ 0) × ((k : ℕ) → k < i → byte_at errors k ≡ 0)
+FirstIn errors None = (k : ℕ) → k < length errors → byte_at errors k ≡ 0

@@ -7,13 +7,6 @@ ghost use Rattle.protocol.specs.Strings.{bytes_for, bit};
 ghost use Rattle.strings.specs.Sums.{byte_at};
 ghost use Rattle.equations.specs.Equations.{error_bit, key_error, EquationsFit, FirstIn};
 
-// The first equation that fails, or that none does.
-#[derive(Clone, Copy)]
-pub enum Found {
-    At(usize),
-    Nothing,
-}
-
 // out[c] = bit c of x, for the first n.
 pub fn unpack(out: &mut [u8], x: &[u8], n: usize)
     requires { (n ≤ length out.old) × (n ≤ length x.now * 8) }
@@ -57,13 +50,8 @@ pub fn equation_errors(errors: &mut [u8], a: &[u8], b: &[u8], y: &[u8], x: &[u8]
 
 // The first equation whose error is not 0. This is the answer to question 11, which the caller is told, so it may
 // branch.
-pub fn first_failing(errors: &[u8]) -> Found
+pub fn first_failing(errors: &[u8]) -> Option<usize>
     ensures { FirstIn errors.now result }
 {
-    for i in 0..errors.len() {
-        if errors[i] != 0 {
-            return Found::At(i);
-        }
-    }
-    Found::Nothing
+    errors.iter().position(|error| *error != 0)
 }

@@ -34,7 +34,7 @@ use Rattle.forms.proofs.FormsMeaning.{form_is, lin_is, batch_is, mask_is}
 use Rattle.tables_opened.specs.Opened.{Opened}
 use Rattle.tables.proofs.SumsMeaning.{same_bytes}
 use Rattle.tables_opened.proofs.OpenedMeaning.{opened-lane}
-use Rattle.questions.proofs.FirstLaws.{first_congr}
+use Rattle.format.proofs.FirstLaws.{first_congr}
 use Rattle.verifier_product.specs.Product.{value_byte, product_byte, masked_byte, first_differing}
 
 -- a sum of products with three parts

@@ -1,7 +1,6 @@
 -- `equations::equation_error` meets its contract. The invariant: the sum is what the definition of the error has, over
 -- the rows below rho.
 -- Assumes nothing.
-use borrow.Author.Rules.{rules}
 use Prim.Native.Nat.{ℕ, ◌*◌, ◌≤◌, ◌<◌}
 use mathlib.Core.Path.{◌≡◌, sym, ap, ap₂, ◌∙◌}
 use native.Mathlib.Numerals.{add-one}
@@ -34,7 +33,7 @@ pub loop-rho-init : goal.loop-rho-init
 unfolding xor_sum
 loop-rho-init c =
     let a = c.args in
-    (search rules, ap (λ (z : ℕ). bit_xor z a.y) (c.row_product.ensures.0 ∙ sym (xor_zero_l (row_product a.row.now a.x.now))))
+    ap (λ (z : ℕ). bit_xor z a.y) (c.row_product.ensures.0 ∙ sym (xor_zero_l (row_product a.row.now a.x.now)))
 
 pub row_at-requires : goal.row_at-requires
 row_at-requires c =
@@ -60,16 +59,14 @@ loop-rho-preserved c =
     let row : c.row_at.result.now ≡ row_of a.n A l.rho = c.row_at.ensures.0 ∙ ap (λ (w : ℕ). block_at A w l.rho) c.requires.0 in
     let product : bit_and c.bit_at.result c.row_product-product.result ≡ bit x l.rho * row_product (row_of a.n A l.rho) x =
     and-bits c.bit_at.result c.row_product-product.result (rw c.bit_at.ensures (bit_lt x l.rho)) c.row_product-product.ensures.1
-    ∙ ap₂ (λ p q. p * q) c.bit_at.ensures (c.row_product-product.ensures.0 ∙ ap (λ (r : List ℕ). row_product r x) row) in (
-      omega arith,
-      ap (λ (z : ℕ). bit_xor z (bit_and c.bit_at.result c.row_product-product.result)) l.invariant.1
-          ∙ error_more (xor_sum l.rho (λ ρ. bit x ρ * row_product (row_of a.n A ρ) x)) (bit x l.rho * row_product (row_of a.n A l.rho) x) (row_product a.row.now x) a.y (bit_and c.bit_at.result c.row_product-product.result) product
-          ∙ ap (up_to a.n A a.row.now a.y x) (sym (add-one l.rho)),
-    )
+    ∙ ap₂ (λ p q. p * q) c.bit_at.ensures (c.row_product-product.ensures.0 ∙ ap (λ (r : List ℕ). row_product r x) row) in
+    ap (λ (z : ℕ). bit_xor z (bit_and c.bit_at.result c.row_product-product.result)) l.invariant
+    ∙ error_more (xor_sum l.rho (λ ρ. bit x ρ * row_product (row_of a.n A ρ) x)) (bit x l.rho * row_product (row_of a.n A l.rho) x) (row_product a.row.now x) a.y (bit_and c.bit_at.result c.row_product-product.result) product
+    ∙ ap (up_to a.n A a.row.now a.y x) (sym (add-one l.rho))
 
 pub returns : goal.returns
 unfolding error_bit
 returns c =
     let l = c.loop-rho in
     let e : l.rho ≡ c.args.n = omega arith in
-    rw e at l.invariant.1
+    rw e at l.invariant

@@ -1,12 +1,11 @@
 -- `equations::equation_errors` meets its contract. Each element is changed once (`Elementwise`), to the error of its
 -- equation.
 -- Assumes nothing.
-use borrow.Author.Rules.{rules}
 use Prim.Native.Nat.{ℕ, ◌*◌, ◌≤◌}
 use mathlib.Core.Path.{◌≡◌, refl, ap, ◌∙◌}
 use native.Mathlib.Nat.{mul-le-mul}
 use native.Mathlib.Omega.{arith}
-use lib.ListN.{length, length-set}
+use lib.ListN.{length}
 use Rattle.protocol.specs.Lists.{block_at}
 use Rattle.protocol.specs.Strings.{bytes_for}
 use Rattle.strings.proofs.Elementwise.{changed, changed_more, changed-all}
@@ -25,7 +24,7 @@ overflow_mul-size c =
 
 pub loop-i-init : goal.loop-i-init
 unfolding changed
-loop-i-init c = (search rules, refl, refl)
+loop-i-init c = refl
 
 pub row_at-matrix-requires : goal.row_at-matrix-requires
 row_at-matrix-requires c =
@@ -52,15 +51,12 @@ loop-i-preserved c =
     let l = c.loop-i in
     let n = a.n in
     let matrix : c.row_at-matrix.result.now ≡ block_at a.a.now (n * bytes_for n) l.i = c.row_at-matrix.ensures.0 ∙ ap (λ (w : ℕ). block_at a.a.now (n * w) l.i) pre.1 in
-    let row : c.row_at-row.result.now ≡ block_at a.b.now (bytes_for n) l.i = c.row_at-row.ensures.0 ∙ ap (λ (w : ℕ). block_at a.b.now w l.i) pre.1 in (
-      omega arith,
-      simp length-set l.invariant.1,
-      changed_more (change a.a.now a.b.now a.y.now a.x.now n) a.errors.now l.errors l.i _ l.invariant.2
-          (c.equation_error.ensures ∙ rw (matrix, row, c.bit_at.ensures)),
-    )
+    let row : c.row_at-row.result.now ≡ block_at a.b.now (bytes_for n) l.i = c.row_at-row.ensures.0 ∙ ap (λ (w : ℕ). block_at a.b.now w l.i) pre.1 in
+    changed_more (change a.a.now a.b.now a.y.now a.x.now n) a.errors.now l.errors l.i _ l.invariant
+    (c.equation_error.ensures ∙ rw (matrix, row, c.bit_at.ensures))
 
 pub returns : goal.returns
 returns c i h =
     let a = c.args in
     let l = c.loop-i in
-    changed-all (change a.a.now a.b.now a.y.now a.x.now a.n) a.errors.now l.errors l.i l.invariant.2 (omega arith) l.invariant.0 i h
+    changed-all (change a.a.now a.b.now a.y.now a.x.now a.n) a.errors.now l.errors l.i l.invariant (omega arith) (omega arith) i h

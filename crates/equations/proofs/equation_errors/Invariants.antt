@@ -1,10 +1,9 @@
 -- `equations::equation_errors` meets its contract. Each element is changed once (`Elementwise`), to the error of its
 -- equation.
 -- Assumes nothing.
-use Prim.Native.Nat.{ℕ, ◌-◌, ◌≤◌}
+use Prim.Native.Nat.{ℕ}
 use mathlib.Core.Path.{◌≡◌}
 use mathlib.Core.List.{List}
-use lib.ListN.{length}
 use Rattle.strings.proofs.Elementwise.{changed}
 use Rattle.equations.specs.Equations.{key_error}
 use Rattle.equations.proofs.equation_errors.Given as goal
@@ -13,7 +12,4 @@ abbrev pub change : List ℕ → List ℕ → List ℕ → List ℕ → ℕ → 
 change a b y x n k e = key_error n a b y x k
 
 abbrev pub invariant-loop-i : goal.invariant-loop-i
-invariant-loop-i l = (l.i ≤ length l.initial.errors) × (length l.errors ≡ length l.initial.errors) × (l.errors ≡ changed (change l.a l.b l.y l.x l.n) l.initial.errors l.i)
-
-abbrev pub decreases-loop-i : goal.decreases-loop-i
-decreases-loop-i l = length l.initial.errors - l.i
+invariant-loop-i l = l.errors ≡ changed (change l.a l.b l.y l.x l.n) l.initial.errors l.i

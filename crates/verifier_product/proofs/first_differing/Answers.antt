@@ -8,7 +8,7 @@ use lib.ListN.{length}
 use lib.Bits.{bit_xor}
 use Rattle.theorems.proofs.TestLaws.{eqb_same, eqb-other, first-at}
 use Rattle.strings.specs.Sums.{byte_at}
-use Rattle.questions.proofs.FirstLaws.{first-none}
+use Rattle.format.proofs.FirstLaws.{first-none}
 use Rattle.verifier_product.proofs.first_differing.Goals as goal
 
 pub loop-e-init : goal.loop-e-init

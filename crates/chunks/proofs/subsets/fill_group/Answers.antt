@@ -169,9 +169,6 @@ overflow_mul-count c =
     let more = doubled a.size l.s l.count c.loop-s-test.true c.requires.3 l.invariant.1 in
     omega (arith, more.0, more.2)
 
-pub overflow_add-s : goal.overflow_add-s
-overflow_add-s c = omega (arith, c.loop-s-test.true, c.requires.3)
-
 pub loop-s-smaller : goal.loop-s-smaller
 loop-s-smaller c = omega (arith, c.loop-s-test.true)
 

@@ -47,13 +47,6 @@ fill_entry-requires c =
     let under = c.loop-v-test.true in
     (omega (arith, l.invariant.1, pre.0, row-end (a.base + l.v) (a.base + a.count + a.count) a.w (omega (arith, under))), omega (arith, l.invariant.1, pre.0, row-end (a.base + a.count + l.v) (a.base + a.count + a.count) a.w (omega (arith, under))), pre.1, pre.2)
 
-pub overflow_add-v : goal.overflow_add-v
-overflow_add-v c =
-    let a = c.args in
-    let pre = c.requires in
-    let far : a.base + a.count + a.count ≤ length a.sums.now = omega (arith, pre.0, rows_le (a.base + a.count + a.count) a.w pre.3) in
-    search (rules, far)
-
 pub loop-v-preserved : goal.loop-v-preserved
 loop-v-preserved c =
     let a = c.args in

@@ -91,12 +91,6 @@ absorb_lanes-requires c =
       pre.7,
     )
 
-pub overflow_add-q : goal.overflow_add-q
-overflow_add-q c =
-    let pre = c.requires in
-    let few : c.loop-q.q ≤ most_variables = omega (arith, pre.3, c.loop-q-test.true) in
-    search (rules, few)
-
 pub loop-q-preserved : goal.loop-q-preserved
 loop-q-preserved c =
     let a = c.args in
