@@ -127,9 +127,7 @@ fn load_challenge(out: &mut [u8], delta: &[u8])
     requires { length delta.now ≤ length out.old }
     ensures { (e : ℕ) → e < length delta.now → byte_at out.new e ≡ byte_at delta.now e }
 {
-    for e in 0..delta.len() {
-        out[e] = delta[e];
-    }
+    out[..delta.len()].copy_from_slice(delta);
 }
 
 // Question 15: the first repetition whose product differs, or their number where none does. The space begins with the

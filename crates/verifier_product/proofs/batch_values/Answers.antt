@@ -1,11 +1,10 @@
 -- `verifier_product::batch_values` meets its contract. Each element is changed once (`Elementwise`).
 -- Assumes nothing.
-use borrow.Author.Rules.{rules}
 use Prim.Native.Nat.{ℕ, ◌*◌}
 use mathlib.Core.Path.{◌≡◌, refl, ap, ◌∙◌}
 use mathlib.Core.List.{List}
 use native.Mathlib.Omega.{arith}
-use lib.ListN.{length, length-set}
+use lib.ListN.{length}
 use Rattle.protocol.specs.Lists.{block_at}
 use Rattle.protocol.specs.Strings.{bit}
 use Rattle.strings.specs.Sums.{byte_at, xor_sum}
@@ -23,7 +22,7 @@ weighed row χ y m e (is, long) =
 
 pub loop-e-init : goal.loop-e-init
 unfolding changed
-loop-e-init c = (search rules, refl, refl)
+loop-e-init c = refl
 
 pub row_at-requires : goal.row_at-requires
 row_at-requires c = omega (arith, c.requires.1, row-end c.loop-e.e c.args.tau c.args.m (omega arith))
@@ -35,11 +34,11 @@ pub loop-e-preserved : goal.loop-e-preserved
 loop-e-preserved c =
     let a = c.args in
     let l = c.loop-e in
-    (omega arith, changed_more (λ k z. value_byte a.m a.chi.now a.y.now k) a.out.now l.out l.e _ l.invariant.1 (c.weigh.ensures ∙ weighed c.row_at.result.now a.chi.now a.y.now a.m l.e c.row_at.ensures), simp length-set l.invariant.2)
+    changed_more (λ k z. value_byte a.m a.chi.now a.y.now k) a.out.now l.out l.e _ l.invariant (c.weigh.ensures ∙ weighed c.row_at.result.now a.chi.now a.y.now a.m l.e c.row_at.ensures)
 
 pub returns : goal.returns
 returns c e h =
     let a = c.args in
     let l = c.loop-e in
     let end : l.e ≡ a.tau = omega arith in
-    rw (l.invariant.1, end) (changed-at (λ k z. value_byte a.m a.chi.now a.y.now k) a.out.now a.tau e (omega arith) h)
+    rw (l.invariant, end) (changed-at (λ k z. value_byte a.m a.chi.now a.y.now k) a.out.now a.tau e (omega arith) h)
