@@ -10,7 +10,6 @@ use Rattle.format.specs.Sizes.{setting_for, alphabet_for, shape_for}
 use Rattle.theorems.proofs.ElementLaws.{element_lt}
 use Rattle.format.proofs.SizeLaws.{in-limits}
 use Rattle.equations.proofs.BlockLaws.{bytes-enough}
-use Rattle.verifier_consistency.specs.Consistency.{first_inconsistent}
 use Rattle.questions_proof.proofs.ProofLaws.{section-lengths}
 use Rattle.verifier_consistency.proofs.ConsistencyMeaning.{first_inconsistent_is}
 use Rattle.verifier_consistency.proofs.check_hashed.Goals as goal
