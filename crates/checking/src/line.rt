@@ -76,9 +76,8 @@ pub fn write_line(outcome: Checked, out: &mut [u8; LINE]) -> usize
         Checked::Answered(verdict) => match verdict {
             Verdict::Accepted => put_line(out, b"accepted", 0, 0),
             Verdict::Refused(refusal) => {
-                let reason = refusal.number;
-                let number = format::number(reason) as usize;
-                let place = refusal.place as usize;
+                let number = u32::from(refusal.number) as usize;
+                let place = usize::from(refusal.place);
                 put_line(out, b"refused", number, place)
             }
         },

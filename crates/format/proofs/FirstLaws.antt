@@ -5,7 +5,7 @@ use mathlib.Core.Path.{◌≡◌, refl, sym, ap, ap₂, ◌∙◌}
 use mathlib.Core.Bool.{Bool, true, false}
 use Prim.Native.Nat.{ℕ, zero, suc, ◌≤◌, ◌<◌}
 use native.Mathlib.Omega.{arith}
-use Rattle.std.specs.Prelude.{Option, Some, None}
+use Rattle.std.specs.Prelude.{Option, Some, None, IfSome}
 use Rattle.protocol.specs.Lists.{all_below, first_not}
 use Rattle.theorems.proofs.TestLaws.{all_of, all-at, first-at, first-before}
 use Rattle.format.specs.First.{FirstOf}
@@ -44,3 +44,7 @@ some_fails n p i (h, is) = go (all_below n p) refl
 
 pub none_fails : (n : ℕ) (p : ℕ → Bool) → FirstOf n p None → all_below n p ≡ true
 none_fails n p is = first-all n p (omega (arith, is))
+
+pub first_small : (n : ℕ) (p : ℕ → Bool) (first : Option ℕ) → n ≤ 65536 → FirstOf n p first → IfSome first (λ i. i < 65536)
+first_small n p (Some i) h (l, is) = omega (arith, h, l)
+first_small n p None h is = tt
