@@ -56,7 +56,7 @@ pub fn write_line(outcome: Option<Verdict>, out: &mut [u8; LINE]) -> usize
         Some(verdict) => match verdict {
             Verdict::Accepted => put_line(out, b"accepted", 0, 0),
             Verdict::Refused(refusal) => {
-                let number = format::number(refusal.number);
+                let number = u32::from(refusal.number);
                 let place = u32::from(refusal.place);
                 put_line(out, b"refused", number, place)
             }

@@ -2,3 +2,4 @@ pub mod SizeLaws
 pub mod AllLaws
 pub mod AskLaws
 pub mod FitLaws
+pub mod FirstLaws

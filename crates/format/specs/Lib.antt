@@ -1,3 +1,4 @@
 pub mod Verdict
 pub mod Sizes
 pub mod Limits
+pub mod First

@@ -1,11 +1,13 @@
 -- What each case of the code's enums stands for in 01.
 --   number_for reason == the number of the question that was answered no;  answer_of verdict == the answer
+--   told result == the answer that a result of questions stands for: its refusal, or accepted, whatever it gives then
 --   and_then a b == the answer a where it refuses, else b
 -- Assumes nothing.
-use Rattle.std.specs.Prelude.{ℕ}
+use Rattle.std.specs.Prelude.{ℕ, Result, Ok, Err}
 use Rattle.protocol.specs.Answers.{Answer, accepted, refused}
 use Rattle.format.specs.declared.Reason.{Reason}
 use Rattle.format.specs.declared.Reason.TheVariants.{ShortHeader, SizeOutOfRange, KeyLength, KeySpareBit, ChallengeLength, HashSpareBit, LeafLength, LeafSpareBit, WitnessForm, OutputLength, EquationFails, ProofLength, ProofSpareBit, Inconsistent, ProductDiffers, DegreeUnserved, ChallengeElement, ProofElement}
+use Rattle.format.specs.declared.Refusal.{Refusal}
 use Rattle.format.specs.declared.Verdict.{Verdict}
 use Rattle.format.specs.declared.Verdict.TheVariants.{Accepted, Refused}
 
@@ -32,6 +34,10 @@ number_for ProofElement = 18
 abbrev pub answer_of : Verdict → Answer
 answer_of Accepted = accepted
 answer_of (Refused r) = refused (number_for r.number) r.place
+
+abbrev pub told : {T : Type 0} → Result T Refusal → Answer
+told (Ok x) = accepted
+told (Err r) = refused (number_for r.number) r.place
 
 unfoldable pub and_then : Answer → Answer → Answer
 and_then accepted b = b

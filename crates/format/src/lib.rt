@@ -8,31 +8,40 @@ pub mod words;
 
 ghost use Rattle.std.specs.Prelude.{◌≡◌, [], ◌∷◌, ◌<◌};
 ghost use Rattle.protocol.specs.Answers.{refused, question, ask};
-ghost use Rattle.format.specs.Verdict.{number_for, answer_of, and_then};
+ghost use Rattle.format.specs.Verdict.{number_for, answer_of, told};
 
 pub use sizes::Sizes;
 
-// Why a call refuses: one case for each question of 01, and for 16 to 18 of request 3.
+// Why a call refuses: one case for each question of 01, and for 16 to 18 of request 3, under its number.
 #[derive(Clone, Copy)]
 pub enum Reason {
-    ShortHeader,
-    SizeOutOfRange,
-    KeyLength,
-    KeySpareBit,
-    ChallengeLength,
-    HashSpareBit,
-    LeafLength,
-    LeafSpareBit,
-    WitnessForm,
-    OutputLength,
-    EquationFails,
-    ProofLength,
-    ProofSpareBit,
-    Inconsistent,
-    ProductDiffers,
-    DegreeUnserved,
-    ChallengeElement,
-    ProofElement,
+    ShortHeader = 1,
+    SizeOutOfRange = 2,
+    KeyLength = 3,
+    KeySpareBit = 4,
+    ChallengeLength = 5,
+    HashSpareBit = 6,
+    LeafLength = 7,
+    LeafSpareBit = 8,
+    WitnessForm = 9,
+    OutputLength = 10,
+    EquationFails = 11,
+    ProofLength = 12,
+    ProofSpareBit = 13,
+    Inconsistent = 14,
+    ProductDiffers = 15,
+    DegreeUnserved = 16,
+    ChallengeElement = 17,
+    ProofElement = 18,
+}
+
+// The number that 01 gives a question.
+impl From<Reason> for u32 {
+    ghost from_gives = { λ reason n. (n ≡ number_for reason) × (n < 19) };
+
+    fn from(reason: Reason) -> u32 {
+        reason as u32
+    }
 }
 
 // A number and a place held together.
@@ -49,51 +58,34 @@ pub enum Verdict {
     Refused(Refusal),
 }
 
-// The number that 01 gives a question.
-pub fn number(reason: Reason) -> u32
-    ensures { (result ≡ number_for reason) × (result < 19) }
-{
-    match reason {
-        Reason::ShortHeader => 1,
-        Reason::SizeOutOfRange => 2,
-        Reason::KeyLength => 3,
-        Reason::KeySpareBit => 4,
-        Reason::ChallengeLength => 5,
-        Reason::HashSpareBit => 6,
-        Reason::LeafLength => 7,
-        Reason::LeafSpareBit => 8,
-        Reason::WitnessForm => 9,
-        Reason::OutputLength => 10,
-        Reason::EquationFails => 11,
-        Reason::ProofLength => 12,
-        Reason::ProofSpareBit => 13,
-        Reason::Inconsistent => 14,
-        Reason::ProductDiffers => 15,
-        Reason::DegreeUnserved => 16,
-        Reason::ChallengeElement => 17,
-        Reason::ProofElement => 18,
+// What the questions told, as a call's answer.
+impl From<Result<(), Refusal>> for Verdict {
+    ghost from_gives = { λ asked verdict. answer_of verdict ≡ told asked };
+
+    fn from(asked: Result<(), Refusal>) -> Verdict {
+        match asked {
+            Ok(()) => Verdict::Accepted,
+            Err(refusal) => Verdict::Refused(refusal),
+        }
     }
 }
 
 // A refusal that names a place; 0 where 01 gives none.
-pub fn refuse(reason: Reason, place: u16) -> Verdict
-    ensures { answer_of result ≡ refused (number_for reason) place }
+pub fn refuse(reason: Reason, place: u16) -> Refusal
+    ensures { refused (number_for result.number) result.place ≡ refused (number_for reason) place }
 {
-    Verdict::Refused(Refusal {
+    Refusal {
         number: reason,
         place,
-    })
+    }
 }
 
-// One question more, after the answer so far: where that is accepted, and this gets a no, the refusal.
-pub fn also(so_far: Verdict, yes: bool, reason: Reason) -> Verdict
-    ensures { answer_of result ≡ and_then (answer_of so_far) (ask (question yes (number_for reason) 0 ∷ [])) }
+// One question: where it gets a no, the refusal, which names no place.
+pub fn ask(yes: bool, reason: Reason) -> Result<(), Refusal>
+    ensures { told result ≡ ask (question yes (number_for reason) 0 ∷ []) }
 {
-    let Verdict::Accepted = so_far else {
-        return so_far;
-    };
     if yes {
-        return Verdict::Accepted;
+        return Ok(());
     }
-    refuse(reason, 0)
+    Err(refuse(reason, 0))
 }

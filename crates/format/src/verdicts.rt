@@ -1,18 +1,19 @@
-// The answer to a question that is asked of every repetition.
-ghost use Rattle.std.specs.Prelude.{◌≡◌, [], ◌∷◌, ◌<◌, leb};
+// The answer to a question that is asked of every repetition, or of every equation.
+ghost use Rattle.std.specs.Prelude.{◌≡◌, Bool, ℕ, [], ◌∷◌, ◌<◌, IfSome};
+ghost use Rattle.protocol.specs.Lists.{all_below, first_not};
 ghost use Rattle.protocol.specs.Answers.{question, ask};
-ghost use Rattle.format.specs.Verdict.{number_for, answer_of};
+ghost use Rattle.format.specs.Verdict.{number_for, told};
+ghost use Rattle.format.specs.First.{FirstOf};
 
-use super::{Reason, Verdict};
+use super::{Reason, Refusal, refuse};
 
-// The refusal with this reason and the place `first`, the first repetition that fails; accepted where it is their
-// number `tau`.
-pub fn answer(reason: Reason, first: usize, tau: usize) -> Verdict
-    requires { tau < 65536 }
-    ensures { answer_of result ≡ ask (question (leb tau first) (number_for reason) first ∷ []) }
+// The refusal with this reason and the place of the first that fails; accepted where none does.
+pub fn answer(reason: Reason, first: Option<usize>) -> Result<(), Refusal>
+    requires { IfSome first (λ i. i < 65536) }
+    ensures { (n : ℕ) (p : ℕ → Bool) → FirstOf n p first → told result ≡ ask (question (all_below n p) (number_for reason) (first_not n p) ∷ []) }
 {
-    if first < tau {
-        return super::refuse(reason, first as u16);
+    match first {
+        Some(i) => Err(refuse(reason, i as u16)),
+        None => Ok(()),
     }
-    Verdict::Accepted
 }

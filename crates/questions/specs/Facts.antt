@@ -2,26 +2,25 @@
 --   KeyFacts s key == of the key;  WitnessForm s x == of the witness
 --   LeavesForm s leaves == of full leaves;  HashForm s H' == of H'
 --   ProofForm s proof == the proof is its sections, each of its length (question 12)
---   PlacesOf s proof places == so it is, and the reader has stood at these places
 --   SectionIs s proof i r == r is section i of the proof, and has its length
---   ProofAsked s proof walk == the answer to questions 12, 13 and 18; and where that is accepted, where the reader
---     stood
+--   ProofOf s p == so it is of the bytes of p, and p names these sections
+--   ProofAsked s proof result == the answer to questions 12, 13 and 18; and where that is accepted, the proof with its
+--     sections
 --   TestFacts, CommitFacts, HashFacts, BatchFacts, ProveFacts == of all inputs that a call goes on with, and of its
 --     output's length
 -- Assumes nothing.
-use Rattle.std.specs.Prelude.{◌≡◌, true, List, ℕ, ◌+◌, ◌*◌, ◌-◌, ◌≤◌, length, get_or}
+use Rattle.std.specs.Prelude.{◌≡◌, true, List, ℕ, ◌+◌, ◌*◌, ◌-◌, ◌≤◌, length, get_or, Result, IfOk}
 use Rattle.protocol.specs.Strings.{bytes_for, spare_zero}
 use Rattle.protocol.specs.Alphabet.{Alphabet, elements_in}
 use Rattle.protocol.specs.Shape.{Shape, limits, per_tree, w_of}
 use Rattle.protocol.specs.Key.{key_exact, key_spare}
 use Rattle.protocol.specs.Frames.{framed, section_no}
 use Rattle.protocol.specs.Sections.{lengths}
-use Rattle.protocol.specs.Answers.{accepted, ask}
+use Rattle.protocol.specs.Answers.{ask}
 use Rattle.protocol.specs.Questions.{leaves_exact, leaves_spare, h_exact, h_spare}
-use Rattle.format.specs.Verdict.{answer_of}
-use Rattle.sections.specs.Moved.{PlacesIn}
-use Rattle.sections.specs.declared.reader.Places.{Places}
-use Rattle.sections.specs.declared.reader.Walk.{Walk}
+use Rattle.format.specs.Verdict.{told}
+use Rattle.format.specs.declared.Refusal.{Refusal}
+use Rattle.sections.specs.declared.reader.Proof.{Proof}
 use Rattle.questions.specs.Asking.{proof_questions}
 
 pub record KeyFacts (A : Alphabet) (s : Shape) (key : List ℕ) : Type 0 where
@@ -45,14 +44,20 @@ pub record HashForm (A : Alphabet) (s : Shape) (H' : List ℕ) : Type 0 where
 abbrev pub ProofForm : Alphabet → Shape → List ℕ → Type 0
 ProofForm A s proof = framed (lengths A s) proof ≡ true
 
-abbrev pub PlacesOf : Alphabet → Shape → List ℕ → Places → Type 0
-PlacesOf A s proof places = ProofForm A s proof × PlacesIn proof places
-
 abbrev pub SectionIs : Alphabet → Shape → List ℕ → ℕ → List ℕ → Type 0
 SectionIs A s proof i r = (r ≡ section_no (lengths A s) i proof) × (length r ≡ get_or (lengths A s) i 0)
 
-abbrev pub ProofAsked : Alphabet → Shape → List ℕ → Walk → Type 0
-ProofAsked A s proof walk = (answer_of walk.answer ≡ ask (proof_questions A s proof)) × (answer_of walk.answer ≡ accepted → PlacesOf A s proof walk.places)
+pub record ProofOf (A : Alphabet) (s : Shape) (p : Proof) : Type 0 where
+  pub form : ProofForm A s p.bytes.now
+  pub c_is : SectionIs A s p.bytes.now 0 p.c.now
+  pub d_is : SectionIs A s p.bytes.now 1 p.d.now
+  pub u_is : SectionIs A s p.bytes.now 2 p.u.now
+  pub v_is : SectionIs A s p.bytes.now 3 p.v.now
+  pub qs0_is : SectionIs A s p.bytes.now 4 p.qs0.now
+  pub qs1_is : SectionIs A s p.bytes.now 5 p.qs1.now
+
+abbrev pub ProofAsked : Alphabet → Shape → List ℕ → Result Proof Refusal → Type 0
+ProofAsked A s proof result = (told result ≡ ask (proof_questions A s proof)) × IfOk result (λ p. (p.bytes.now ≡ proof) × ProofOf A s p)
 
 pub record TestFacts (A : Alphabet) (s : Shape) (key x : List ℕ) : Type 0 where
   pub of-key : KeyFacts A s key

@@ -7,12 +7,12 @@ ghost use Rattle.protocol.specs.Shape.{limits};
 ghost use Rattle.protocol.specs.Key.{key_lengths, key_spare, section_a, section_b, section_y};
 ghost use Rattle.protocol.specs.Answers.{ask};
 ghost use Rattle.format.specs.Sizes.{setting_for, alphabet_for, shape_for, SizesOf};
-ghost use Rattle.format.specs.Verdict.{answer_of};
+ghost use Rattle.format.specs.Verdict.{told};
 ghost use Rattle.protocol.specs.Calls.{key_questions};
 ghost use Rattle.questions.specs.Asking.{header_questions, SizedKey};
 
 use format::sizes::{HEADER, Sizes, degree_served, in_limits, key_lengths};
-use format::{Reason, Verdict, also, refuse};
+use format::{Reason, Refusal, ask};
 use rows::spare::{row_spare, rows_spare};
 use sections::{framed_length, section_no, sections_form};
 
@@ -71,32 +71,23 @@ pub fn key_spare(key: &[u8], s: Sizes) -> bool
 }
 
 // Questions 1 to 4.
-fn header_form(key: &[u8], s: Sizes) -> Verdict
+fn header_form(key: &[u8], s: Sizes) -> Result<(), Refusal>
     requires { SizesOf key.now s }
-    ensures { answer_of result ≡ ask (header_questions (alphabet_for s) key.now) }
+    ensures { told result ≡ ask (header_questions (alphabet_for s) key.now) }
 {
-    if key.len() < HEADER {
-        return refuse(Reason::ShortHeader, 0);
-    }
-    if !in_limits(s) {
-        return refuse(Reason::SizeOutOfRange, 0);
-    }
+    ask(HEADER <= key.len(), Reason::ShortHeader)?;
+    ask(in_limits(s), Reason::SizeOutOfRange)?;
     let lengths = key_lengths(s);
-    let exact = sections_form(key, HEADER, &lengths, Reason::KeyLength);
-    let Verdict::Accepted = exact else {
-        return exact;
-    };
-    also(exact, key_spare(key, s), Reason::KeySpareBit)
+    sections_form(key, HEADER, &lengths, Reason::KeyLength)?;
+    ask(key_spare(key, s), Reason::KeySpareBit)
 }
 
 // Question 16, and then 1 to 4.
-pub fn key_form(key: &[u8], s: Sizes) -> Verdict
+pub fn key_form(key: &[u8], s: Sizes) -> Result<(), Refusal>
     requires { SizesOf key.now s }
-    ensures { answer_of result ≡ ask (key_questions (setting_for s) key.now) }
+    ensures { told result ≡ ask (key_questions (setting_for s) key.now) }
 {
-    if !degree_served(s) {
-        return refuse(Reason::DegreeUnserved, 0);
-    }
+    ask(degree_served(s), Reason::DegreeUnserved)?;
     header_form(key, s)
 }
 

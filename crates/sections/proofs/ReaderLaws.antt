@@ -1,7 +1,6 @@
 -- In a string of sections of given lengths, the reader finds each where the lengths say that it stands; and what reads
 -- back as sections, the reader takes one after the other. Question 12 is asked one section at a time: the reader's
 -- answer, the section's length, and what is left.
---   yes? a == the answer is accepted
 -- Assumes nothing.
 use mathlib.Core.Path.{◌≡◌, refl, sym, ap, ◌∙◌}
 use mathlib.Core.Bool.{Bool, true, false, ◌&&◌, false≢true}
@@ -17,16 +16,19 @@ use Rattle.algebra.proofs.CountLaws.{and_right}
 use Rattle.protocol.specs.Lists.{part}
 use Rattle.protocol.specs.Frames.{num4, framed, section_no, framed_length}
 use Rattle.protocol.specs.Reader.{Extent, between, missing, section_at}
-use Rattle.protocol.specs.Answers.{Answer, accepted, refused, question, ask}
+use denote.Ref.{Bor}
+use Rattle.std.specs.Prelude.{Result, Ok, Err}
+use Rattle.std.specs.Result.{IsErrAnd}
+use Rattle.std.proofs.lemmas.Result.{IfOk-at_ok}
+use Rattle.protocol.specs.Answers.{Answer, accepted, refused, is_accepted, question, ask}
 use Rattle.theorems.proofs.TestLaws.{eqb_same, eqb-other}
-use Rattle.format.specs.Verdict.{answer_of, and_then}
+use Rattle.format.specs.Verdict.{and_then, told}
 use Rattle.format.specs.declared.Refusal.{Refusal}
-use Rattle.format.specs.declared.Verdict.TheVariants.{Accepted, Refused}
-use Rattle.format.proofs.AskLaws.{stop_at}
-use Rattle.sections.proofs.SectionLaws.{whole, section_is, and_no, follow_missing, follow_other, follow_next, length_more, section-end, section-part, length_part, framed-length}
+use Rattle.format.proofs.AskLaws.{refused-not, said_yes, same_first, left_and}
+use Rattle.sections.proofs.SectionLaws.{whole, section_is, follow_missing, follow_other, follow_next, turn_end, length_more, section-end, section-part, length_part, framed-length}
 use Rattle.sections.specs.Taking.{answer_on, next_on, bytes_on, answer_at, next_at, bytes_at, read_to}
-use Rattle.sections.specs.Moved.{ReadsOn}
-use Rattle.sections.specs.declared.reader.ReadOn.{ReadOn}
+use Rattle.sections.specs.Moved.{moved_on, has, Takes}
+use Rattle.sections.specs.declared.reader.Reader.{Reader}
 
 -- what is left after i sections is the sections after them
 framed-from : (ls s : List ℕ) (i : ℕ) → framed ls s ≡ true → framed (drop i ls) (drop (framed_length (take i ls)) s) ≡ true
@@ -56,20 +58,12 @@ module _ (ls s : List ℕ) (i : ℕ) (h : i < length ls) (f : framed ls s ≡ tr
 
 -- ---- one step of the reader, and the question on all
 
-yes? : Answer → Bool
-yes? accepted = true
-yes? (refused n p) = false
-
-pub refused-not : {a : Answer} {i p : ℕ} → a ≡ refused i p → a ≡ accepted → ⊥
-unfolding yes?
-refused-not e h = false≢true (ap yes? (sym e ∙ h))
-
 -- a section is there, and has its length, and the others follow it
-section-first : (l : ℕ) (ls s : List ℕ) (at : ℕ) → framed (l ∷ ls) (drop at s) ≡ (yes? (answer_at s at) && (eqb (length (bytes_at s at)) l && framed ls (drop (next_at s at) s)))
-unfolding yes? answer_at bytes_at next_at
+section-first : (l : ℕ) (ls s : List ℕ) (at : ℕ) → framed (l ∷ ls) (drop at s) ≡ (has l s at && framed ls (drop (next_at s at) s))
+unfolding has answer_at bytes_at next_at
 section-first l ls s at = go (section_at s at) refl
   where
-    go : (x : Extent) → section_at s at ≡ x → framed (l ∷ ls) (drop at s) ≡ (yes? (answer_on (section_at s at)) && (eqb (length (bytes_on s (section_at s at))) l && framed ls (drop (next_on at (section_at s at)) s)))
+    go : (x : Extent) → section_at s at ≡ x → framed (l ∷ ls) (drop at s) ≡ (is_accepted (answer_on (section_at s at)) && eqb (length (bytes_on s (section_at s at))) l && framed ls (drop (next_on at (section_at s at)) s))
     go missing e = rw e (follow_missing l ls s at (sym e))
     go (between a z) e = rw e (same (ℕ_discrete (z - a) l))
       where
@@ -80,7 +74,7 @@ section-first l ls s at = go (section_at s at) refl
         same (yes m) = follow_next l ls s at a z (sym e) m ∙ sym (ap (λ b. b && framed ls (drop z s)) (eqb_same (length (part s a (z - a))) l (long ∙ m)))
         same (no n) = follow_other l ls s at a z (sym e) n ∙ sym (ap (λ b. b && framed ls (drop z s)) (eqb-other (length (part s a (z - a))) l (λ m. n (sym long ∙ m))))
 
-pub within : (s : List ℕ) (at : ℕ) → at ≤ length s → next_at s at ≤ length s
+within : (s : List ℕ) (at : ℕ) → at ≤ length s → next_at s at ≤ length s
 unfolding next_at
 within s at h = go (section_at s at) refl
   where
@@ -88,55 +82,73 @@ within s at h = go (section_at s at) refl
     go missing e = rw e h
     go (between a z) e = rw e (section_is s at a z e).2
 
--- an answer of the reader, and then a question of the same number
-asked-after : (s : List ℕ) (at : ℕ) (b : Bool) → and_then (answer_at s at) (ask (question b 12 0 ∷ [])) ≡ ask (question (yes? (answer_at s at) && b) 12 0 ∷ [])
-unfolding yes? answer_at and_then ask
-asked-after s at b = go (section_at s at)
+-- what the reader says of a section, and then a question on it of the same number
+asked_has : (l : ℕ) (s : List ℕ) (at : ℕ) → and_then (answer_at s at) (ask (question (eqb (length (bytes_at s at)) l) 12 0 ∷ [])) ≡ ask (question (has l s at) 12 0 ∷ [])
+unfolding has answer_at and_then ask
+asked_has l s at = go (section_at s at)
   where
-    go : (x : Extent) → and_then (answer_on x) (ask (question b 12 0 ∷ [])) ≡ ask (question (yes? (answer_on x) && b) 12 0 ∷ [])
+    go : (x : Extent) → and_then (answer_on x) (ask (question (eqb (length (bytes_at s at)) l) 12 0 ∷ [])) ≡ ask (question (is_accepted (answer_on x) && eqb (length (bytes_at s at)) l) 12 0 ∷ [])
     go missing = refl
     go (between a z) = refl
 
--- a turn of the reader's: from index at on the lengths from i on have to follow, and `read_on` has told r of the
--- section there
-module _ (ls s : List ℕ) (at i : ℕ) (h : i < length ls) (left : framed ls s ≡ framed (drop i ls) (drop at s)) (r : ReadOn) (said : ReadsOn s at r) where
-  l : ℕ
-  l = get_or ls i 0
+pub then_length : (l : ℕ) (s : List ℕ) (at : ℕ) {v r : Answer} → v ≡ answer_at s at → r ≡ and_then v (ask (question (eqb (length (bytes_at s at)) l) 12 0 ∷ [])) → r ≡ ask (question (has l s at) 12 0 ∷ [])
+then_length l s at e f = f ∙ ap (λ v. and_then v (ask (question (eqb (length (bytes_at s at)) l) 12 0 ∷ []))) e ∙ asked_has l s at
 
-  others : Bool
-  others = framed (drop (suc i) ls) (drop (next_at s at) s)
-
-  first : framed ls s ≡ (yes? (answer_at s at) && (eqb (length (bytes_at s at)) l && others))
-  unfolding l others
-  first = left ∙ ap (λ k. framed k (drop at s)) (drop-cons ls i 0 h) ∙ section-first (get_or ls i 0) (drop (suc i) ls) s at
-
-  -- it leaves with the reader's own refusal
-  pub read_refused : {f : Refusal} → r.answer ≡ Refused f → answer_of r.answer ≡ ask (question (framed ls s) 12 0 ∷ [])
-  read_refused p =
-      let b = eqb (length (bytes_at s at)) l && others in
-      let x = ask (question b 12 0 ∷ []) in
-      stop_at x p ∙ ap (λ a. and_then a x) said.0 ∙ asked-after s at b ∙ ap (λ b. ask (question b 12 0 ∷ [])) (sym first)
-
-  -- a section of another length
-  pub read_other : (r.length ≡ get_or ls i 0 → ⊥) → framed ls s ≡ false
-  unfolding l
-  read_other n = first ∙ and_no (yes? (answer_at s at)) _ (ap (λ b. b && others) (eqb-other (length (bytes_at s at)) (get_or ls i 0) (λ e. n (said.1 ∙ e))))
-
-  -- the reader goes on
-  pub read_next : r.answer ≡ Accepted → r.length ≡ get_or ls i 0 → framed ls s ≡ framed (drop (suc i) ls) (drop r.at s)
-  unfolding l others yes?
-  read_next p e =
-      let y : yes? (answer_at s at) ≡ true = ap yes? (sym said.0 ∙ ap answer_of p) in
-      first ∙ ap (λ b. b && (eqb (length (bytes_at s at)) (get_or ls i 0) && others)) y ∙ ap (λ b. b && others) (eqb_same (length (bytes_at s at)) (get_or ls i 0) (sym said.1 ∙ e))
-      ∙ ap (λ k. framed (drop (suc i) ls) (drop k s)) (sym said.2)
-
--- one place more
-pub places_more : (at : List ℕ) (i next : ℕ) (f : ℕ → ℕ) → i < length at → next ≡ f i → ((k : ℕ) → k < i → get_or at k 0 ≡ f k) → (k : ℕ) → k < i + 1 → get_or (set at i next) k 0 ≡ f k
-places_more at i next f room e before k h = go (ℕ_discrete k i)
+-- after a refusal it has read no further
+pub stays : (s : List ℕ) (at : ℕ) {i p : ℕ} → refused i p ≡ answer_at s at → at ≡ next_at s at
+unfolding answer_at next_at
+stays s at h = go (section_at s at) h
   where
-    go : Dec (k ≡ i) → get_or (set at i next) k 0 ≡ f k
-    go (yes s) = ap (λ j. get_or (set at i next) j 0) s ∙ get_or-set_same at i next 0 room ∙ e ∙ ap f (sym s)
-    go (no n) = get_or-set_other at i k next 0 n ∙ before k (omega (arith, n, h))
+    go : (x : Extent) {i p : ℕ} → refused i p ≡ answer_on x → at ≡ next_on at x
+    go missing h = refl
+    go (between a z) h = absurd (refused-not h refl)
+
+-- of a lent proof, the reader after i sections
+abbrev pub after : Bor (List ℕ) → ℕ → Reader
+after p i = record { proof = p; at = read_to p.now i }
+
+-- a reader that has read i sections of these lengths: the lengths that are left have still to follow
+pub record Passed (ls : List ℕ) (p : Bor (List ℕ)) (i : ℕ) (r : Reader) : Type 0 where
+  pub stands : r ≡ after p i
+  pub inside : read_to p.now i ≤ length p.now
+  pub follows : framed ls p.now ≡ framed (drop i ls) (drop (read_to p.now i) p.now)
+
+pub none_passed : (ls : List ℕ) (p : Bor (List ℕ)) → Passed ls p 0 (record { proof = p; at = 0 })
+unfolding read_to
+none_passed ls p = record { stands = refl; inside = omega arith; follows = refl }
+
+module _ {ls : List ℕ} {p : Bor (List ℕ)} {i : ℕ} {r : Reader} (h : i < length ls) (was : Passed ls p i r) where
+  split : framed ls p.now ≡ (has (get_or ls i 0) p.now (read_to p.now i) && framed (drop (suc i) ls) (drop (read_to p.now (suc i)) p.now))
+  unfolding read_to
+  split = was.follows ∙ ap (λ k. framed k (drop (read_to p.now i) p.now)) (drop-cons ls i 0 h) ∙ section-first (get_or ls i 0) (drop (suc i) ls) p.now (read_to p.now i)
+
+  told_has : {a : Answer} → a ≡ ask (question (has (get_or ls i 0) r.proof.now r.at) 12 0 ∷ []) → a ≡ ask (question (has (get_or ls i 0) p.now (read_to p.now i)) 12 0 ∷ [])
+  told_has e = e ∙ ap (λ (x : Reader). ask (question (has (get_or ls i 0) x.proof.now x.at) 12 0 ∷ [])) was.stands
+
+  -- one section more
+  pub one_more : {r' : Reader} {t : Result (Bor (List ℕ)) Refusal} {x : Bor (List ℕ)} → Takes (get_or ls i 0) r r' t → t ≡ Ok x → Passed ls p (suc i) r'
+  unfolding read_to
+  one_more takes is =
+      let y = said_yes (has (get_or ls i 0) p.now (read_to p.now i)) 12 0 (sym (told_has takes.0) ∙ ap told is) in
+      record {
+        stands = takes.1 ∙ ap moved_on was.stands;
+        inside = within p.now (read_to p.now i) was.inside;
+        follows = split ∙ ap (λ b. b && framed (drop (suc i) ls) (drop (read_to p.now (suc i)) p.now)) y;
+      }
+
+  -- or it leaves with the refusal
+  pub one_stops : {U : Type 0} {r' : Reader} {t : Result (Bor (List ℕ)) Refusal} {f : Refusal} (q : Result U Refusal) → Takes (get_or ls i 0) r r' t → t ≡ Err f → IsErrAnd q (λ y. y ≡ f)
+      → told q ≡ ask (question (framed ls p.now) 12 0 ∷ [])
+  one_stops q takes e is =
+      same_first 12 0 [] (sym split) (left_and _ (framed (drop (suc i) ls) (drop (read_to p.now (suc i)) p.now)) 12 q (told_has takes.0) e is)
+
+  -- the section that it took
+  pub one_is : {r' : Reader} {t : Result (Bor (List ℕ)) Refusal} {x : Bor (List ℕ)} → Takes (get_or ls i 0) r r' t → t ≡ Ok x → x.now ≡ bytes_at p.now (read_to p.now i)
+  one_is takes is = IfOk-at_ok (λ section. section.now ≡ bytes_at r.proof.now r.at) is takes.2 ∙ ap (λ (x : Reader). bytes_at x.proof.now x.at) was.stands
+
+-- after the last
+pub all_passed : {ls : List ℕ} {p : Bor (List ℕ)} {i : ℕ} {r : Reader} → i ≡ length ls → Passed ls p i r → framed ls p.now ≡ eqb r.at (length p.now)
+all_passed {ls} {p} {i} e was = was.follows ∙ turn_end ls p.now (read_to p.now i) i e was.inside ∙ ap (λ (x : Reader). eqb x.at (length p.now)) (sym was.stands)
 
 -- of a string of sections of given lengths, the reader has read i of them where the lengths say
 read_to_lem : (ls s : List ℕ) (i : ℕ) → i ≤ length ls → framed ls s ≡ true → read_to s i ≡ framed_length (take i ls)

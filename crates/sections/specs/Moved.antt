@@ -1,42 +1,43 @@
 -- What the reader's functions say: of one section, of where the reader stands then, and of all six.
 --   moved_on r == the reader r after one section: the same lent proof, and how far it has read then
---   Stepped s at step == what a step says of s at index at: the answer, how far has been read then, and that the
---     section is the part of s between its
---     start and its end
---   Gives r t == t is what the reader r gives back: the section, the reader after it, and the answer
---   ReadsOn s at r == r tells of the section at index at of s: the answer, its length, and how far has been read then
---   PlacesIn s places == where the reader of s stands before each of six sections
---   Walked ls s walk == the answer to question 12, of the lengths ls; and where that is accepted, where the reader
---     stood
+--   Stepped s at step == what a step says of s at index at: the answer; and where it starts and ends, the section there,
+--     up to which has been read then
+--   Gives r r' t == t is what the reader r gives back, the section or the refusal, and r' the reader after it
+--   has l s at == at index at of s a section is there whole, and its length is l
+--   Takes l r r' t == t is what the reader r gives back where that has the length l, and else the refusal; r' is the
+--     reader after it
+--   SectionsOf ls p == the sections of the proof p are those of a string of sections of the lengths ls
 -- Assumes nothing.
-use Rattle.std.specs.Prelude.{◌≡◌, List, [], ◌∷◌, ℕ, ◌-◌, ◌≤◌, ◌<◌, length, get_or}
+use Rattle.std.specs.Prelude.{◌≡◌, Bool, ◌&&◌, List, [], ◌∷◌, ℕ, ◌-◌, ◌≤◌, eqb, length, Result, IfOk}
+use denote.Ref.{Bor}
 use Rattle.protocol.specs.Lists.{part}
-use Rattle.protocol.specs.Frames.{framed}
-use Rattle.protocol.specs.Answers.{accepted, question, ask}
-use Rattle.format.specs.Verdict.{answer_of}
-use Rattle.sections.specs.Taking.{answer_at, next_at, bytes_at, read_to}
+use Rattle.protocol.specs.Frames.{section_no}
+use Rattle.protocol.specs.Answers.{is_accepted, question, ask}
+use Rattle.format.specs.Verdict.{told}
+use Rattle.format.specs.declared.Refusal.{Refusal}
+use Rattle.sections.specs.Taking.{answer_at, next_at, bytes_at}
 use Rattle.sections.specs.declared.reader.Reader.{Reader}
-use Rattle.sections.specs.declared.reader.Taken.{Taken}
-use Rattle.sections.specs.declared.reader.Step.{Step}
-use Rattle.sections.specs.declared.reader.ReadOn.{ReadOn}
-use Rattle.sections.specs.declared.reader.Places.{Places}
-use Rattle.sections.specs.declared.reader.Walk.{Walk}
+use Rattle.sections.specs.declared.reader.Proof.{Proof}
 
 abbrev pub moved_on : Reader → Reader
 moved_on r = record { proof = r.proof; at = next_at r.proof.now r.at }
 
-abbrev pub Stepped : List ℕ → ℕ → Step → Type 0
-Stepped s at step =
-    (answer_of step.answer ≡ answer_at s at) × (step.at ≡ next_at s at) × ((step.start ≤ step.end) × (step.end ≤ length s)) × (part s step.start (step.end - step.start) ≡ bytes_at s at)
+abbrev pub Stepped : List ℕ → ℕ → Result (ℕ × ℕ) Refusal → Type 0
+Stepped s at step = (told step ≡ answer_at s at) × IfOk step (λ span. ((span.0 ≤ span.1) × (span.1 ≤ length s)) × (span.1 ≡ next_at s at) × (part s span.0 (span.1 - span.0) ≡ bytes_at s at))
 
-abbrev pub Gives : Reader → Taken → Type 0
-Gives r t = (t.section.now ≡ bytes_at r.proof.now r.at) × (t.reader ≡ moved_on r) × (answer_of t.answer ≡ answer_at r.proof.now r.at)
+abbrev pub Gives : Reader → Reader → Result (Bor (List ℕ)) Refusal → Type 0
+Gives r r' t = (told t ≡ answer_at r.proof.now r.at) × (r' ≡ moved_on r) × IfOk t (λ section. section.now ≡ bytes_at r.proof.now r.at)
 
-abbrev pub ReadsOn : List ℕ → ℕ → ReadOn → Type 0
-ReadsOn s at r = (answer_of r.answer ≡ answer_at s at) × (r.length ≡ length (bytes_at s at)) × (r.at ≡ next_at s at)
+unfoldable pub has : ℕ → List ℕ → ℕ → Bool
+has l s at = is_accepted (answer_at s at) && eqb (length (bytes_at s at)) l
 
-abbrev pub PlacesIn : List ℕ → Places → Type 0
-PlacesIn s places = (i : ℕ) → i < 6 → get_or places.at i 0 ≡ read_to s i
+abbrev pub Takes : ℕ → Reader → Reader → Result (Bor (List ℕ)) Refusal → Type 0
+Takes l r r' t = (told t ≡ ask (question (has l r.proof.now r.at) 12 0 ∷ [])) × (r' ≡ moved_on r) × IfOk t (λ section. section.now ≡ bytes_at r.proof.now r.at)
 
-abbrev pub Walked : List ℕ → List ℕ → Walk → Type 0
-Walked ls s walk = (answer_of walk.answer ≡ ask (question (framed ls s) 12 0 ∷ [])) × (answer_of walk.answer ≡ accepted → PlacesIn s walk.places)
+pub record SectionsOf (ls : List ℕ) (p : Proof) : Type 0 where
+  pub c_is : p.c.now ≡ section_no ls 0 p.bytes.now
+  pub d_is : p.d.now ≡ section_no ls 1 p.bytes.now
+  pub u_is : p.u.now ≡ section_no ls 2 p.bytes.now
+  pub v_is : p.v.now ≡ section_no ls 3 p.bytes.now
+  pub qs0_is : p.qs0.now ≡ section_no ls 4 p.bytes.now
+  pub qs1_is : p.qs1.now ≡ section_no ls 5 p.bytes.now

@@ -11,10 +11,10 @@ ghost use Rattle.protocol.specs.Frames.{framed, section_no, framed_length};
 ghost use Rattle.protocol.specs.Reader.{section_at};
 ghost use Rattle.protocol.specs.Answers.{question, ask};
 ghost use Rattle.sections.specs.Span.{extent_of, Inside};
-ghost use Rattle.format.specs.Verdict.{number_for, answer_of};
+ghost use Rattle.format.specs.Verdict.{number_for, told};
 
 use format::numbers::number4;
-use format::{Reason, Verdict, refuse};
+use format::{Reason, Refusal, ask, refuse};
 
 // Where a section's bytes start and end, or that it is not there whole.
 #[derive(Clone, Copy)]
@@ -59,24 +59,19 @@ pub fn section<'a>(s: &'a [u8], start: usize, end: usize) -> &'a [u8]
 
 // Question 3: one section at a time, from index at on. Are they of exactly these lengths, and does s end with the last?
 // Where one is not there whole, or is of another length, it leaves with the refusal and reads no further.
-pub fn sections_form(s: &[u8], at: usize, lengths: &[usize], reason: Reason) -> Verdict
+pub fn sections_form(s: &[u8], at: usize, lengths: &[usize], reason: Reason) -> Result<(), Refusal>
     requires { at ≤ length s.now }
-    ensures { answer_of result ≡ ask (question (framed lengths.now (drop at s.now)) (number_for reason) 0 ∷ []) }
+    ensures { told result ≡ ask (question (framed lengths.now (drop at s.now)) (number_for reason) 0 ∷ []) }
 {
     let mut next = at;
-    for i in 0..lengths.len() {
+    for &length in lengths {
         let Span::At { start, end } = find(s, next) else {
-            return refuse(reason, 0);
+            return Err(refuse(reason, 0));
         };
-        if end - start != lengths[i] {
-            return refuse(reason, 0);
-        }
+        ask(end - start == length, reason)?;
         next = end;
     }
-    if next != s.len() {
-        return refuse(reason, 0);
-    }
-    Verdict::Accepted
+    ask(next == s.len(), reason)
 }
 
 // Where the count of section i stands, in a string of sections of these lengths.

@@ -1,13 +1,14 @@
 // The calls: the questions in 01's order, and then the bytes. Question 11, the last, is answered before a
-// section is computed.
+// section is computed. Each call makes its verdict of what its questions told, which `?` leaves with at the first no.
 ghost use Rattle.std.specs.Prelude.{◌≡◌};
 ghost use Rattle.protocol.specs.Setting.{setting};
 ghost use Rattle.protocol.specs.Calls.{test_answer, commit_answer, hash_answer, batch_answer, prove_answer};
-ghost use Rattle.format.specs.Verdict.{answer_of};
+ghost use Rattle.format.specs.Verdict.{answer_of, told};
 ghost use Rattle.demands.specs.Told.{CommitOutput, HashOutput, BatchOutput, ProveOutput};
 
-use format::Verdict;
 use format::sizes::sizes_of;
+use format::{Refusal, Verdict};
+use questions::calls::{batch_form, commit_form, hash_form, prove_form, test_form};
 use questions_proof::witness::solved;
 
 // The second step (01): hash with H'. It takes no witness, and writes the sections ũ and Ṽ.
@@ -15,24 +16,37 @@ pub fn hash(key: &[u8], degree: u32, leaves: &[u8], matrix: &[u8], out: &mut [u8
     ensures result_value { answer_of result ≡ hash_answer (setting degree) key.now leaves.now matrix.now out.old }
     ensures hash_output { HashOutput (setting degree) key.now leaves.now matrix.now out.old out.new (answer_of result) }
 {
+    Verdict::from(try_hash(key, degree, leaves, matrix, out))
+}
+
+fn try_hash(
+    key: &[u8],
+    degree: u32,
+    leaves: &[u8],
+    matrix: &[u8],
+    out: &mut [u8],
+) -> Result<(), Refusal>
+    ensures result_value { told result ≡ hash_answer (setting degree) key.now leaves.now matrix.now out.old }
+    ensures hash_output { HashOutput (setting degree) key.now leaves.now matrix.now out.old out.new (told result) }
+{
     let s = sizes_of(key, degree);
-    let form = questions::calls::hash_form(key, leaves, matrix, out.len(), s);
-    let Verdict::Accepted = form else {
-        return form;
-    };
+    hash_form(key, leaves, matrix, out.len(), s)?;
     prover::hash(out, leaves, matrix, s);
-    form
+    Ok(())
 }
 
 // The test of a key and a witness (01): questions 16, 1 to 4, 9, 11.
 pub fn test(key: &[u8], degree: u32, witness: &[u8]) -> Verdict
     ensures { answer_of result ≡ test_answer (setting degree) key.now witness.now }
 {
+    Verdict::from(try_test(key, degree, witness))
+}
+
+fn try_test(key: &[u8], degree: u32, witness: &[u8]) -> Result<(), Refusal>
+    ensures { told result ≡ test_answer (setting degree) key.now witness.now }
+{
     let s = sizes_of(key, degree);
-    let form = questions::calls::test_form(key, witness, s);
-    let Verdict::Accepted = form else {
-        return form;
-    };
+    test_form(key, witness, s)?;
     solved(key, witness, s)
 }
 
@@ -41,17 +55,24 @@ pub fn commit(key: &[u8], degree: u32, leaves: &[u8], witness: &[u8], out: &mut 
     ensures result_value { answer_of result ≡ commit_answer (setting degree) key.now leaves.now witness.now out.old }
     ensures commit_output { CommitOutput (setting degree) key.now leaves.now witness.now out.old out.new (answer_of result) }
 {
+    Verdict::from(try_commit(key, degree, leaves, witness, out))
+}
+
+fn try_commit(
+    key: &[u8],
+    degree: u32,
+    leaves: &[u8],
+    witness: &[u8],
+    out: &mut [u8],
+) -> Result<(), Refusal>
+    ensures result_value { told result ≡ commit_answer (setting degree) key.now leaves.now witness.now out.old }
+    ensures commit_output { CommitOutput (setting degree) key.now leaves.now witness.now out.old out.new (told result) }
+{
     let s = sizes_of(key, degree);
-    let form = questions::calls::commit_form(key, leaves, witness, out.len(), s);
-    let Verdict::Accepted = form else {
-        return form;
-    };
-    let answer = solved(key, witness, s);
-    let Verdict::Accepted = answer else {
-        return answer;
-    };
+    commit_form(key, leaves, witness, out.len(), s)?;
+    solved(key, witness, s)?;
     prover::commit(out, leaves, witness, s);
-    answer
+    Ok(())
 }
 
 // The third step (01): batch. It takes the witness, and writes the sections QS0 and QS1.
@@ -66,17 +87,25 @@ pub fn batch(
     ensures result_value { answer_of result ≡ batch_answer (setting degree) key.now leaves.now witness.now batching.now out.old }
     ensures batch_output { BatchOutput (setting degree) key.now leaves.now witness.now batching.now out.old out.new (answer_of result) }
 {
+    Verdict::from(try_batch(key, degree, leaves, witness, batching, out))
+}
+
+fn try_batch(
+    key: &[u8],
+    degree: u32,
+    leaves: &[u8],
+    witness: &[u8],
+    batching: &[u8],
+    out: &mut [u8],
+) -> Result<(), Refusal>
+    ensures result_value { told result ≡ batch_answer (setting degree) key.now leaves.now witness.now batching.now out.old }
+    ensures batch_output { BatchOutput (setting degree) key.now leaves.now witness.now batching.now out.old out.new (told result) }
+{
     let s = sizes_of(key, degree);
-    let form = questions::calls::batch_form(key, leaves, witness, batching, out.len(), s);
-    let Verdict::Accepted = form else {
-        return form;
-    };
-    let answer = solved(key, witness, s);
-    let Verdict::Accepted = answer else {
-        return answer;
-    };
+    batch_form(key, leaves, witness, batching, out.len(), s)?;
+    solved(key, witness, s)?;
     prover::batch(out, key, leaves, witness, batching, s);
-    answer
+    Ok(())
 }
 
 // The three steps in one call (01).
@@ -93,15 +122,25 @@ pub fn prove(
     ensures prove_output { ProveOutput (setting degree) key.now leaves.now witness.now matrix.now batching.now
         out.old out.new (answer_of result) }
 {
+    Verdict::from(try_prove(key, degree, leaves, witness, matrix, batching, out))
+}
+
+fn try_prove(
+    key: &[u8],
+    degree: u32,
+    leaves: &[u8],
+    witness: &[u8],
+    matrix: &[u8],
+    batching: &[u8],
+    out: &mut [u8],
+) -> Result<(), Refusal>
+    ensures result_value { told result ≡ prove_answer (setting degree) key.now leaves.now witness.now matrix.now batching.now out.old }
+    ensures prove_output { ProveOutput (setting degree) key.now leaves.now witness.now matrix.now batching.now
+        out.old out.new (told result) }
+{
     let s = sizes_of(key, degree);
-    let form = questions::calls::prove_form(key, leaves, witness, matrix, batching, out.len(), s);
-    let Verdict::Accepted = form else {
-        return form;
-    };
-    let answer = solved(key, witness, s);
-    let Verdict::Accepted = answer else {
-        return answer;
-    };
+    prove_form(key, leaves, witness, matrix, batching, out.len(), s)?;
+    solved(key, witness, s)?;
     prover::prove(out, key, leaves, witness, matrix, batching, s);
-    answer
+    Ok(())
 }

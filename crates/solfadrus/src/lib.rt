@@ -21,7 +21,7 @@ pub extern "C" fn mq_version() -> u32
 pub extern "C" fn mq_test(key: &[u8], degree: u32, witness: &[u8]) -> u32
     ensures { TestTold (setting degree) key.now witness.now result }
 {
-    format::words::word_of(calls::test(key, degree, witness))
+    u32::from(calls::test(key, degree, witness))
 }
 
 #[unsafe(no_mangle)]
@@ -34,7 +34,7 @@ pub extern "C" fn mq_commit(
 ) -> u32
     ensures { CommitWrites (setting degree) key.now leaves.now witness.now out.old out.new result }
 {
-    format::words::word_of(calls::commit(key, degree, leaves, witness, out))
+    u32::from(calls::commit(key, degree, leaves, witness, out))
 }
 
 #[unsafe(no_mangle)]
@@ -47,7 +47,7 @@ pub extern "C" fn mq_hash(
 ) -> u32
     ensures { HashWrites (setting degree) key.now leaves.now hash_matrix.now out.old out.new result }
 {
-    format::words::word_of(calls::hash(key, degree, leaves, hash_matrix, out))
+    u32::from(calls::hash(key, degree, leaves, hash_matrix, out))
 }
 
 #[unsafe(no_mangle)]
@@ -61,7 +61,7 @@ pub extern "C" fn mq_batch(
 ) -> u32
     ensures { BatchWrites (setting degree) key.now leaves.now witness.now batching.now out.old out.new result }
 {
-    format::words::word_of(calls::batch(key, degree, leaves, witness, batching, out))
+    u32::from(calls::batch(key, degree, leaves, witness, batching, out))
 }
 
 #[unsafe(no_mangle)]
@@ -76,7 +76,7 @@ pub extern "C" fn mq_prove(
 ) -> u32
     ensures { ProveWrites (setting degree) key.now leaves.now witness.now hash_matrix.now batching.now out.old out.new result }
 {
-    format::words::word_of(calls::prove(key, degree, leaves, witness, hash_matrix, batching, out))
+    u32::from(calls::prove(key, degree, leaves, witness, hash_matrix, batching, out))
 }
 
 #[unsafe(no_mangle)]
@@ -91,13 +91,5 @@ pub extern "C" fn mq_verify(
 ) -> u32
     ensures { VerifyTold (setting degree) key.now delta.now hash_matrix.now batching.now opened.now proof.now result }
 {
-    format::words::word_of(verifier::verify(
-        key,
-        degree,
-        delta,
-        hash_matrix,
-        batching,
-        opened,
-        proof,
-    ))
+    u32::from(verifier::verify(key, degree, delta, hash_matrix, batching, opened, proof))
 }

@@ -5,7 +5,8 @@ use mathlib.Core.Bool.{true}
 use mathlib.Core.List.{List, [], ◌∷◌, ◌++◌}
 use Prim.Native.Nat.{ℕ, ◌+◌, ◌*◌, ◌-◌, ◌^◌, ◌≤◌, ◌<◌}
 use native.Mathlib.Omega.{arith}
-use lib.ListN.{length, length-append, get_or-append}
+use lib.ListN.{length, take, drop, length-append, length-drop, get_or-append}
+use lib.Seq.{take_at}
 use Rattle.protocol.specs.Alphabet.{Alphabet, elements_in}
 use Rattle.protocol.specs.Setting.{Setting, setting, alphabet_of}
 use Rattle.protocol.specs.Shape.{Shape, shape_of, per_opened, per_tree, k_of, l_of, w_of}
@@ -18,6 +19,7 @@ use Rattle.theorems.proofs.AnswerLaws.{ask-accepts, all_yes_lem}
 use Rattle.theorems.proofs.ElementLaws.{element_lt}
 use Rattle.strings.specs.Sums.{byte_at}
 use Rattle.lanes.specs.Lanes.{lanes}
+use Rattle.sections.proofs.Writes.{take-length}
 use Rattle.tables_opened.specs.Opened.{OpenedTableIs, Opened}
 use Rattle.tables_opened.proofs.OpenedMeaning.{opened-lane}
 use Rattle.format.specs.Verdict.{and_then}
@@ -100,6 +102,29 @@ opened_begins A s Δ opened proof T rest few is =
     record {
       table-length = rw (length-append T rest) (omega (arith, is.table-length));
       table_is = λ e c l h. get_or-append T rest 0 (c * lanes + e) (omega (arith, few, l, h, is.table-length)) ∙ is.table_is e c l h;
+    }
+
+-- a space that begins with the table: the table, and what the whole is then
+pub record Loaded (A : Alphabet) (s : Shape) (Δ opened proof space T : List ℕ) (w : ℕ) : Type 0 where
+  pub table-length : length T ≡ 8 * w * lanes
+  pub front : take (8 * w * lanes) (T ++ drop (8 * w * lanes) space) ≡ T
+  pub whole : length (T ++ drop (8 * w * lanes) space) ≡ length space
+  pub table_opened : Opened A s Δ opened proof T
+  pub space-opened : Opened A s Δ opened proof (T ++ drop (8 * w * lanes) space)
+
+pub loaded : (A : Alphabet) (s : Shape) (Δ opened proof space T C : List ℕ) (w r : ℕ) → w ≡ w_of A s → r ≡ A.K.degree → C ≡ (sections_in A s proof).C → s.τ ≤ lanes → 8 * w_of A s * lanes ≤ length space
+    → length T ≡ length (take (8 * w * lanes) space) → OpenedTableIs T opened Δ C s.τ w (2 ^ r) → Loaded A s Δ opened proof space T w
+loaded A s Δ opened proof space T C w r width degree C_is few room long is =
+    let n : ℕ = 8 * w * lanes in
+    let fits : n ≤ length space = rw width room in
+    let table-is : length T ≡ n = long ∙ take-length n space fits in
+    let opened-first = opened_is A s Δ opened proof T C w r width C_is degree (rw (← width) (omega (arith, table-is))) is in
+    record {
+      table-length = table-is;
+      front = take_at T (drop n space) n table-is;
+      whole = rw (length-append T (drop n space), length-drop n space) (omega (arith, table-is, fits));
+      table_opened = opened-first;
+      space-opened = opened_begins A s Δ opened proof T (drop n space) few opened-first;
     }
 
 -- the opened leaves of a tree, by the field's degree

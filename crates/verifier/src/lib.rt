@@ -7,20 +7,20 @@ ghost use Rattle.protocol.specs.Setting.{setting};
 ghost use Rattle.protocol.specs.Answers.{ask};
 ghost use Rattle.protocol.specs.Calls.{verify_answer};
 ghost use Rattle.format.specs.Sizes.{alphabet_for, shape_for};
-ghost use Rattle.format.specs.Verdict.{answer_of};
-ghost use Rattle.sections.specs.Moved.{PlacesIn};
+ghost use Rattle.format.specs.Verdict.{answer_of, told};
+ghost use Rattle.questions.specs.Facts.{ProofOf};
 ghost use Rattle.verifier.specs.Given.{VerifyFacts, check_questions};
 ghost use Rattle.verifier_product.specs.Product.{SpaceRoom};
 
 use format::sizes::{Sizes, degree_of, leaf_bytes, sizes_of};
 use format::verdicts::answer;
-use format::{Reason, Verdict};
+use format::{Reason, Refusal, Verdict};
 use forms_batching::panels::CELLS;
 use lanes::LANES;
 use questions::calls::verify_inputs;
 use questions::key::key_form;
-use questions_proof::proof::{C, proof_form, proof_section};
-use sections::reader::Places;
+use questions_proof::proof::proof_form;
+use sections::reader::Proof;
 use strings::BITS;
 use verifier_consistency::check_consistency;
 use verifier_product::check_product;
@@ -30,65 +30,72 @@ use verifier_product::check_product;
 const SPACE: usize = CELLS;
 
 // Questions 14 and 15, in that space.
-fn ask_checks(
+fn ask_checks<'a>(
     space: &mut [u8],
     key: &[u8],
     delta: &[u8],
     matrix: &[u8],
     batching: &[u8],
     opened: &[u8],
-    proof: &[u8],
-    places: Places,
+    proof: Proof<'a>,
     s: Sizes,
-) -> Verdict
-    requires verify_facts { VerifyFacts (alphabet_for s) (shape_for s) key.now delta.now matrix.now batching.now opened.now proof.now × PlacesIn proof.now places }
+) -> Result<(), Refusal>
+    requires verify_facts { VerifyFacts (alphabet_for s) (shape_for s) key.now delta.now matrix.now batching.now opened.now proof.bytes.now × ProofOf (alphabet_for s) (shape_for s) proof }
     requires space_room { SpaceRoom (alphabet_for s) (shape_for s) space.old }
-    ensures { answer_of result ≡ ask (check_questions (alphabet_for s) (shape_for s)
-        key.now delta.now matrix.now batching.now opened.now proof.now) }
+    ensures { told result ≡ ask (check_questions (alphabet_for s) (shape_for s)
+        key.now delta.now matrix.now batching.now opened.now proof.entry.bytes.now) }
 {
     let tau = s.tau;
     let w = leaf_bytes(s);
     let len = BITS * w * LANES;
-    tables_opened::load_opened(
-        &mut space[..len],
-        opened,
-        delta,
-        proof_section(proof, places, C),
-        tau,
-        w,
-        degree_of(s),
-    );
-    let inconsistent = check_consistency(&space[..len], matrix, delta, proof, places, s);
-    let consistent = answer(Reason::Inconsistent, inconsistent, tau);
-    let Verdict::Accepted = consistent else {
-        return consistent;
-    };
-    let differing = check_product(space, key, delta, batching, proof, places, s);
-    answer(Reason::ProductDiffers, differing, tau)
+    let table = &mut space[..len];
+    tables_opened::load_opened(table, opened, delta, proof.c, tau, w, degree_of(s));
+    let inconsistent = check_consistency(&space[..len], matrix, delta, proof, s);
+    answer(Reason::Inconsistent, inconsistent)?;
+    let differing = check_product(space, key, delta, batching, proof, s);
+    answer(Reason::ProductDiffers, differing)
 }
 
 // Questions 14 and 15.
-fn both_checks(
+fn both_checks<'a>(
     key: &[u8],
     delta: &[u8],
     matrix: &[u8],
     batching: &[u8],
     opened: &[u8],
-    proof: &[u8],
-    places: Places,
+    proof: Proof<'a>,
     s: Sizes,
-) -> Verdict
-    requires { VerifyFacts (alphabet_for s) (shape_for s) key.now delta.now matrix.now batching.now opened.now proof.now × PlacesIn proof.now places }
-    ensures { answer_of result ≡ ask (check_questions (alphabet_for s) (shape_for s)
-        key.now delta.now matrix.now batching.now opened.now proof.now) }
+) -> Result<(), Refusal>
+    requires { VerifyFacts (alphabet_for s) (shape_for s) key.now delta.now matrix.now batching.now opened.now proof.bytes.now × ProofOf (alphabet_for s) (shape_for s) proof }
+    ensures { told result ≡ ask (check_questions (alphabet_for s) (shape_for s)
+        key.now delta.now matrix.now batching.now opened.now proof.entry.bytes.now) }
 {
     let mut space = [0u8; SPACE];
     ask_checks(
-        &mut space, key, delta, matrix, batching, opened, proof, places, s,
+        &mut space, key, delta, matrix, batching, opened, proof, s,
     )
 }
 
-// The verifier (01): questions 16, 1 to 6, 17, 7, 8, 12, 13, 18, 14, 15. It writes nothing.
+// The verifier's questions: 16, 1 to 6, 17, 7, 8, 12, 13, 18, 14, 15.
+fn ask_all(
+    key: &[u8],
+    degree: u32,
+    delta: &[u8],
+    matrix: &[u8],
+    batching: &[u8],
+    opened: &[u8],
+    proof: &[u8],
+) -> Result<(), Refusal>
+    ensures { told result ≡ verify_answer (setting degree) key.now delta.now matrix.now batching.now opened.now proof.now }
+{
+    let s = sizes_of(key, degree);
+    key_form(key, s)?;
+    verify_inputs(delta, matrix, batching, opened, s)?;
+    let proof = proof_form(proof, s)?;
+    both_checks(key, delta, matrix, batching, opened, proof, s)
+}
+
+// The verifier (01). It writes nothing.
 pub fn verify(
     key: &[u8],
     degree: u32,
@@ -100,20 +107,7 @@ pub fn verify(
 ) -> Verdict
     ensures { answer_of result ≡ verify_answer (setting degree) key.now delta.now matrix.now batching.now opened.now proof.now }
 {
-    let s = sizes_of(key, degree);
-    let of_key = key_form(key, s);
-    let Verdict::Accepted = of_key else {
-        return of_key;
-    };
-    let of_inputs = verify_inputs(delta, matrix, batching, opened, s);
-    let Verdict::Accepted = of_inputs else {
-        return of_inputs;
-    };
-    let read = proof_form(proof, s);
-    let of_proof = read.answer;
-    let Verdict::Accepted = of_proof else {
-        return of_proof;
-    };
-    let places = read.places;
-    both_checks(key, delta, matrix, batching, opened, proof, places, s)
+    Verdict::from(ask_all(
+        key, degree, delta, matrix, batching, opened, proof,
+    ))
 }

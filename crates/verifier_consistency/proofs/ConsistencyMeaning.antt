@@ -25,9 +25,11 @@ use Rattle.tables.proofs.SumsMeaning.{byte_of, same_bytes}
 use Rattle.tables_opened.proofs.OpenedMeaning.{opened-lane}
 use Rattle.hash.specs.Hashed.{hash_lane}
 use Rattle.hash.proofs.HashMeaning.{hash_lane_is}
+use Rattle.std.specs.Prelude.{Option}
+use Rattle.format.specs.First.{FirstOf}
 use Rattle.questions.specs.Facts.{HashForm}
-use Rattle.questions.proofs.FirstLaws.{first_congr}
-use Rattle.verifier_consistency.specs.Consistency.{row_consistent, first_inconsistent}
+use Rattle.format.proofs.FirstLaws.{first_same}
+use Rattle.verifier_consistency.specs.Consistency.{row_consistent, FirstInRows}
 
 module _ (g : Setting) (s : Shape) (p : Sections) (e δ : ℕ) (small : δ < size_of g) (w : ℕ → (alphabet_of g).K.base.R.F) where
   consistent_is : (H' T hashed : List ℕ) → HashForm (alphabet_of g) s H' → ((c : ℕ) → c < l_of (alphabet_of g) s → lane_at T c e ≡ byte_of g (w c))
@@ -55,8 +57,7 @@ module _ (g : Setting) (s : Shape) (Δ opened proof T : List ℕ) (is : Opened (
 
   pub first_inconsistent_is : (H' hashed : List ℕ) → HashForm (alphabet_of g) s H' → ((i : ℕ) → byte_at p.Ṽ i < size_of g)
       → ((e ρ : ℕ) → e < s.τ → ρ < s.t → byte_at hashed (e * s.t + ρ) ≡ hash_lane H' (bytes_for (k_of (alphabet_of g) s)) (k_of (alphabet_of g) s) T ρ e)
-      → first_inconsistent hashed p.Ṽ p.ũ Δ s.t ≡ first_not s.τ (consistent_in (alphabet_of g) s Δ H' opened proof)
+      → (first : Option ℕ) → FirstInRows hashed p.Ṽ p.ũ Δ s.t first → FirstOf s.τ (consistent_in (alphabet_of g) s Δ H' opened proof) first
   unfolding consistent_in consistent_at
-  first_inconsistent_is H' hashed form bytes rows =
-      ap (λ n. first_not n (λ e. row_consistent (block_at hashed s.t e) (block_at p.Ṽ s.t e) p.ũ (byte_at Δ e) s.t)) long
-      ∙ first_congr s.τ _ _ (λ e l. consistent_is g s p e (byte_at Δ e) (challenges e) (w e) H' T hashed form (λ c h. holds e c l h) (λ ρ h. rows e ρ l h) bytes)
+  first_inconsistent_is H' hashed form bytes rows first is =
+      first_same (length Δ) s.τ _ _ first long (λ e l. consistent_is g s p e (byte_at Δ e) (challenges e) (w e) H' T hashed form (λ c h. holds e c l h) (λ ρ h. rows e ρ l h) bytes) is

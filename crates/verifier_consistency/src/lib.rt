@@ -7,13 +7,12 @@ ghost use Rattle.protocol.specs.Shape.{limits, w_of, most_hash_rows};
 ghost use Rattle.protocol.specs.Sections.{sections_in};
 ghost use Rattle.lanes.specs.Lanes.{lanes};
 ghost use Rattle.format.specs.Sizes.{alphabet_for, shape_for};
-ghost use Rattle.questions.specs.Facts.{HashForm, PlacesOf};
-ghost use Rattle.verifier_consistency.specs.Consistency.{BitMasks, RowsOf, row_consistent, first_inconsistent, FirstInconsistent};
+ghost use Rattle.questions.specs.Facts.{HashForm, ProofOf};
+ghost use Rattle.verifier_consistency.specs.Consistency.{BitMasks, RowsOf, row_consistent, FirstInRows, FirstInconsistent};
 
 use format::sizes::{MOST_HASH_ROWS, Sizes};
 use lanes::LANES;
-use questions_proof::proof::{U, V, proof_section};
-use sections::reader::Places;
+use sections::reader::Proof;
 use strings::MASK_BYTE;
 
 // masks[ρ] is all ones where bit ρ of ũ is set, and 0 elsewhere.
@@ -39,25 +38,19 @@ fn difference(hashed: &[u8], v: &[u8], masks: &[u8], delta: u8) -> u8
     found
 }
 
-// The first repetition that is not consistent, or their number where all are, with the masks made.
-fn first_of(hashed: &[u8], v: &[u8], masks: &[u8], delta: &[u8], t: usize) -> usize
+// The first repetition that is not consistent, with the masks made.
+fn first_of(hashed: &[u8], v: &[u8], masks: &[u8], delta: &[u8], t: usize) -> Option<usize>
     requires { RowsOf delta.now t hashed.now v.now × (length masks.now ≡ t) }
-    ensures { (u : List ℕ) → BitMasks u masks.now → result ≡ first_inconsistent hashed.now v.now u delta.now t }
+    ensures { (u : List ℕ) → BitMasks u masks.now → FirstInRows hashed.now v.now u delta.now t result }
 {
-    let mut e = 0;
-    while e < delta.len() {
-        if difference(
-            strings::row_at(hashed, t, e),
-            strings::row_at(v, t, e),
-            masks,
-            delta[e],
-        ) != 0
-        {
-            return e;
+    for e in 0..delta.len() {
+        let hashed_e = strings::row_at(hashed, t, e);
+        let v_e = strings::row_at(v, t, e);
+        if difference(hashed_e, v_e, masks, delta[e]) != 0 {
+            return Some(e);
         }
-        e += 1;
     }
-    e
+    None
 }
 
 // The same, the masks yet to be made.
@@ -68,64 +61,56 @@ fn first_masked(
     u: &[u8],
     delta: &[u8],
     t: usize,
-) -> usize
+) -> Option<usize>
     requires { RowsOf delta.now t hashed.now v.now × (length masks.old ≡ t) × (t ≤ length u.now * 8) }
-    ensures { result ≡ first_inconsistent hashed.now v.now u.now delta.now t }
+    ensures { FirstInRows hashed.now v.now u.now delta.now t result }
 {
     fill_masks(masks, u);
     first_of(hashed, v, masks, delta, t)
 }
 
-// The first repetition that is not consistent, or their number where all are.
-fn first_inconsistent(hashed: &[u8], v: &[u8], u: &[u8], delta: &[u8], t: usize) -> usize
+// The first repetition that is not consistent.
+fn first_inconsistent(hashed: &[u8], v: &[u8], u: &[u8], delta: &[u8], t: usize) -> Option<usize>
     requires { RowsOf delta.now t hashed.now v.now × (t ≤ most_hash_rows) × (t ≤ length u.now * 8) }
-    ensures { result ≡ first_inconsistent hashed.now v.now u.now delta.now t }
+    ensures { FirstInRows hashed.now v.now u.now delta.now t result }
 {
     let mut masks = [0u8; MOST_HASH_ROWS];
     first_masked(&mut masks[..t], hashed, v, u, delta, t)
 }
 
 // Question 14 in a buffer of exact length.
-fn check_hashed(
+fn check_hashed<'a>(
     hashed: &mut [u8],
     table: &[u8],
     matrix: &[u8],
     delta: &[u8],
-    proof: &[u8],
-    places: Places,
+    proof: Proof<'a>,
     s: Sizes,
-) -> usize
+) -> Option<usize>
     requires s_value { (limits (shape_for s) ≡ true) × HashForm (alphabet_for s) (shape_for s) matrix.now
-        × PlacesOf (alphabet_for s) (shape_for s) proof.now places × (length delta.now ≡ s.tau) }
+        × ProofOf (alphabet_for s) (shape_for s) proof × (length delta.now ≡ s.tau) }
     requires table_len { (length table.now ≡ 8 * w_of (alphabet_for s) (shape_for s) * lanes) × (length hashed.old ≡ s.tau * s.t) }
-    requires delta_value { (elements_in (alphabet_for s) delta.now ≡ true) × (elements_in (alphabet_for s) (sections_in (alphabet_for s) (shape_for s) proof.now).Ṽ ≡ true) }
-    ensures { FirstInconsistent (alphabet_for s) (shape_for s) delta.now matrix.now proof.now table.now result }
+    requires delta_value { (elements_in (alphabet_for s) delta.now ≡ true) × (elements_in (alphabet_for s) (sections_in (alphabet_for s) (shape_for s) proof.bytes.now).Ṽ ≡ true) }
+    ensures { FirstInconsistent (alphabet_for s) (shape_for s) delta.now matrix.now proof.entry.bytes.now table.now result }
 {
     let t = s.t;
     hash::vectors::hash_all(hashed, matrix, table, s);
-    first_inconsistent(
-        hashed,
-        proof_section(proof, places, V),
-        proof_section(proof, places, U),
-        delta,
-        t,
-    )
+    first_inconsistent(hashed, proof.v, proof.u, delta, t)
 }
 
-// Question 14: the first repetition that is not consistent, or their number where all are.
-pub fn check_consistency(
+// Question 14: the first repetition that is not consistent.
+pub fn check_consistency<'a>(
     table: &[u8],
     matrix: &[u8],
     delta: &[u8],
-    proof: &[u8],
-    places: Places,
+    proof: Proof<'a>,
     s: Sizes,
-) -> usize
+) -> Option<usize>
     requires s_value { (limits (shape_for s) ≡ true) × HashForm (alphabet_for s) (shape_for s) matrix.now
-        × PlacesOf (alphabet_for s) (shape_for s) proof.now places × (length delta.now ≡ s.tau) }
+        × ProofOf (alphabet_for s) (shape_for s) proof × (length delta.now ≡ s.tau) }
     requires table_len { length table.now ≡ 8 * w_of (alphabet_for s) (shape_for s) * lanes }
-    requires delta_value { (elements_in (alphabet_for s) delta.now ≡ true) × (elements_in (alphabet_for s) (sections_in (alphabet_for s) (shape_for s) proof.now).Ṽ ≡ true) }
-    ensures { FirstInconsistent (alphabet_for s) (shape_for s) delta.now matrix.now proof.now table.now result }
+    requires delta_value { (elements_in (alphabet_for s) delta.now ≡ true) × (elements_in (alphabet_for s) (sections_in (alphabet_for s) (shape_for s) proof.bytes.now).Ṽ ≡ true) }
+    ensures { FirstInconsistent (alphabet_for s) (shape_for s) delta.now matrix.now proof.entry.bytes.now table.now result }
 {
     let tau = s.tau;
     let t = s.t;
@@ -136,7 +121,6 @@ pub fn check_consistency(
         matrix,
         delta,
         proof,
-        places,
         s,
     )
 }

@@ -34,8 +34,10 @@ use Rattle.forms.proofs.FormsMeaning.{form_is, lin_is, batch_is, mask_is}
 use Rattle.tables_opened.specs.Opened.{Opened}
 use Rattle.tables.proofs.SumsMeaning.{same_bytes}
 use Rattle.tables_opened.proofs.OpenedMeaning.{opened-lane}
-use Rattle.questions.proofs.FirstLaws.{first_congr}
-use Rattle.verifier_product.specs.Product.{value_byte, product_byte, masked_byte, first_differing}
+use Rattle.std.specs.Prelude.{Option}
+use Rattle.format.specs.First.{FirstOf}
+use Rattle.format.proofs.FirstLaws.{first_same}
+use Rattle.verifier_product.specs.Product.{value_byte, product_byte, masked_byte, FirstInRow}
 
 -- a sum of products with three parts
 module _ (R : Ring) where
@@ -156,11 +158,11 @@ module _ (g : Setting) where
 
       pub first_differing_is : (key χ left : List ℕ) → ((i : ℕ) → byte_at χ i < size) → ((i : ℕ) → byte_at p.QS0 i < size)
           → ((e : ℕ) → e < s.τ → byte_at left e ≡ masked_byte g s (section_a A s key) (section_b A s key) (section_y A s key) χ e (byte_at challenge e) T' (f e))
-          → first_differing g.degree left p.QS0 p.QS1 Δ ≡ first_not s.τ (product_in A s key Δ χ opened proof)
+          → (first : Option ℕ) → FirstInRow g.degree left p.QS0 p.QS1 Δ first → FirstOf s.τ (product_in A s key Δ χ opened proof) first
       unfolding product_in product_at
-      first_differing_is key χ left bytes sent lefts =
-          ap (λ n. first_not n (λ e. eqb (byte_at left e) (bit_xor (byte_at p.QS0 e) (mul_byte C (byte_at p.QS1 e) (byte_at Δ e))))) long
-          ∙ first_congr s.τ _ _
+      first_differing_is key χ left bytes sent lefts first is =
+          first_same (length Δ) s.τ _ _ first long
           (λ e l.
           holds_is s p e (byte_at Δ e) (challenges e) (w e) key χ (f e) (front e l) T' l (λ c low h. stays e c l low ∙ holds e c l (k_below g s c h)) bytes left
           (lefts e l ∙ ap (λ z. masked_byte g s (section_a A s key) (section_b A s key) (section_y A s key) χ e z T' (f e)) (same e l)) (sent e))
+          is

@@ -8,17 +8,16 @@
 --   LeftSides d s A b y χ Δ f left left' == to byte e of left that of repetition e is added, f e being its vector
 --   masked_byte g s A b y χ e δ T f == the whole left side of repetition e: its mask, of the coordinates in lane e of
 --     the table T, plus product_byte
---   first_differing d == the first repetition whose left side is not QS0 + QS1·δ, or their number
+--   FirstInRow d left qs0 qs1 Δ first == first is the first repetition whose left side is not QS0 + QS1·δ
 --   SpaceRoom A s space == the space is no shorter than the table of the W_e, nor than the cells of the forms: it is
 --     first the one, and then the other
---   FirstDiffers A s key Δ χ proof table r == r is the first repetition whose product differs, or their number,
---     whatever leaves were opened into the table
+--   FirstDiffers A s key Δ χ proof table first == first is the first repetition whose product differs, whatever leaves
+--     were opened into the table
 -- Assumes nothing.
-use Rattle.std.specs.Prelude.{◌≡◌, true, List, ℕ, ◌+◌, ◌*◌, ◌<◌, ◌≤◌, eqb, length}
+use Rattle.std.specs.Prelude.{◌≡◌, true, List, ℕ, ◌+◌, ◌*◌, ◌<◌, ◌≤◌, eqb, length, Option}
 use Rattle.std.specs.Int.Bits.{bit_xor}
 use Rattle.algebra.specs.Coded.{mul_byte}
 use Rattle.galois.specs.Degrees.{field_of}
-use Rattle.protocol.specs.Lists.{first_not}
 use Rattle.protocol.specs.Strings.{bytes_for, bit}
 use Rattle.protocol.specs.Alphabet.{Alphabet}
 use Rattle.protocol.specs.Setting.{Setting, alphabet_of}
@@ -28,6 +27,7 @@ use Rattle.strings.specs.Sums.{byte_at, xor_sum}
 use Rattle.lanes.specs.Lanes.{lanes, lane_at, LanesAdded, mask_lane}
 use Rattle.equations.specs.Equations.{row_of}
 use Rattle.tables_opened.specs.Opened.{Opened}
+use Rattle.format.specs.First.{FirstOf}
 use Rattle.forms_batching.specs.Batched.{CellsRoom}
 use Rattle.forms.specs.Forms.{row_bit}
 use Rattle.forms.specs.Batch.{batch_byte, forms_byte}
@@ -52,11 +52,11 @@ LeftSides d s A b y χ Δ f left left' = LanesAdded s.τ (λ e. product_byte d s
 abbrev pub masked_byte : Setting → Shape → List ℕ → List ℕ → List ℕ → List ℕ → ℕ → ℕ → List ℕ → (ℕ → ℕ) → ℕ
 masked_byte g s A b y χ e δ T f = bit_xor (mask_lane g.degree T (mask_at (alphabet_of g) s e) e) (product_byte g.degree s.n s.m A b y χ e δ f)
 
-abbrev pub first_differing : ℕ → List ℕ → List ℕ → List ℕ → List ℕ → ℕ
-first_differing d left qs0 qs1 Δ = first_not (length Δ) (λ e. eqb (byte_at left e) (bit_xor (byte_at qs0 e) (mul_byte (field_of d) (byte_at qs1 e) (byte_at Δ e))))
+abbrev pub FirstInRow : ℕ → List ℕ → List ℕ → List ℕ → List ℕ → Option ℕ → Type 0
+FirstInRow d left qs0 qs1 Δ first = FirstOf (length Δ) (λ e. eqb (byte_at left e) (bit_xor (byte_at qs0 e) (mul_byte (field_of d) (byte_at qs1 e) (byte_at Δ e)))) first
 
 abbrev pub SpaceRoom : Alphabet → Shape → List ℕ → Type 0
 SpaceRoom A s space = (8 * w_of A s * lanes ≤ length space) × CellsRoom space
 
-abbrev pub FirstDiffers : Alphabet → Shape → List ℕ → List ℕ → List ℕ → List ℕ → List ℕ → ℕ → Type 0
-FirstDiffers A s key Δ χ proof table r = (opened : List ℕ) → Opened A s Δ opened proof table → r ≡ first_not s.τ (product_in A s key Δ χ opened proof)
+abbrev pub FirstDiffers : Alphabet → Shape → List ℕ → List ℕ → List ℕ → List ℕ → List ℕ → Option ℕ → Type 0
+FirstDiffers A s key Δ χ proof table first = (opened : List ℕ) → Opened A s Δ opened proof table → FirstOf s.τ (product_in A s key Δ χ opened proof) first

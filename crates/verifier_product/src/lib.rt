@@ -13,16 +13,15 @@ ghost use Rattle.format.specs.Sizes.{alphabet_for, shape_for};
 ghost use Rattle.forms_columns.specs.Stacks.{coordinate_of, VectorsRoom};
 ghost use Rattle.forms_batching.specs.Batched.{CellsRoom, VectorsNarrow};
 ghost use Rattle.forms_batching.specs.Lines.{VectorsEnd};
-ghost use Rattle.questions.specs.Facts.{KeyFacts, PlacesOf};
+ghost use Rattle.questions.specs.Facts.{KeyFacts, ProofOf};
 ghost use Rattle.forms.specs.Batch.{TableNarrow};
-ghost use Rattle.verifier_product.specs.Product.{KeyLanes, EquationsOf, value_byte, LeftSides, first_differing, SpaceRoom, FirstDiffers};
+ghost use Rattle.verifier_product.specs.Product.{KeyLanes, EquationsOf, value_byte, LeftSides, FirstInRow, SpaceRoom, FirstDiffers};
 
 use format::sizes::{MOST_VARIABLES, Sizes};
 use forms::batch::{Forms, batch_forms};
 use forms_batching::stacks::{VECTORS, fill_vectors};
 use lanes::LANES;
-use questions_proof::proof::{D, QS0, QS1, proof_section};
-use sections::reader::Places;
+use sections::reader::Proof;
 
 // Adds δ_e to coordinate c of each lane, where the bit is set.
 fn add_bit(table: &mut [u8], c: usize, bit: u8, delta: &[u8; LANES])
@@ -109,19 +108,23 @@ fn product_lanes(
     lanes::accumulate(left, &square, &values, degree);
 }
 
-// The right side: the first repetition whose left side is not QS0_e + QS1_e·δ_e, or their number where none is.
-fn first_differing(left: &[u8], qs0: &[u8], qs1: &[u8], delta: &[u8], degree: usize) -> usize
+// The right side: the first repetition whose left side is not QS0_e + QS1_e·δ_e.
+fn first_differing(
+    left: &[u8],
+    qs0: &[u8],
+    qs1: &[u8],
+    delta: &[u8],
+    degree: usize,
+) -> Option<usize>
     requires { (length delta.now ≤ length left.now) × (length qs0.now ≡ length delta.now) × (length qs1.now ≡ length delta.now) }
-    ensures { result ≡ first_differing degree left.now qs0.now qs1.now delta.now }
+    ensures { FirstInRow degree left.now qs0.now qs1.now delta.now result }
 {
-    let mut e = 0;
-    while e < delta.len() {
+    for e in 0..delta.len() {
         if left[e] != qs0[e] ^ field::multiply(degree, qs1[e], delta[e]) {
-            return e;
+            return Some(e);
         }
-        e += 1;
     }
-    e
+    None
 }
 
 // out[e] = δ_e, in a row of lanes.
@@ -132,22 +135,21 @@ fn load_challenge(out: &mut [u8], delta: &[u8])
     out[..delta.len()].copy_from_slice(delta);
 }
 
-// Question 15: the first repetition whose product differs, or their number where none does. The space begins with the
+// Question 15: the first repetition whose product differs. The space begins with the
 // table of the W_e, which become K_e. Once the masks and the vectors are taken from it, it is space for the forms.
-pub fn check_product(
+pub fn check_product<'a>(
     space: &mut [u8],
     key: &[u8],
     delta: &[u8],
     batching: &[u8],
-    proof: &[u8],
-    places: Places,
+    proof: Proof<'a>,
     s: Sizes,
-) -> usize
-    requires key_facts { KeyFacts (alphabet_for s) (shape_for s) key.now × PlacesOf (alphabet_for s) (shape_for s) proof.now places × (length delta.now ≡ s.tau) }
+) -> Option<usize>
+    requires key_facts { KeyFacts (alphabet_for s) (shape_for s) key.now × ProofOf (alphabet_for s) (shape_for s) proof × (length delta.now ≡ s.tau) }
     requires batching_len { (length batching.now ≡ s.tau * s.m) × SpaceRoom (alphabet_for s) (shape_for s) space.old }
     requires delta_value { (elements_in (alphabet_for s) delta.now ≡ true) × (elements_in (alphabet_for s) batching.now ≡ true)
-        × (elements_in (alphabet_for s) (sections_in (alphabet_for s) (shape_for s) proof.now).QS0 ≡ true) × TableNarrow (alphabet_for s) (shape_for s) space.old }
-    ensures { FirstDiffers (alphabet_for s) (shape_for s) key.now delta.now batching.now proof.now space.old result }
+        × (elements_in (alphabet_for s) (sections_in (alphabet_for s) (shape_for s) proof.bytes.now).QS0 ≡ true) × TableNarrow (alphabet_for s) (shape_for s) space.old }
+    ensures { FirstDiffers (alphabet_for s) (shape_for s) key.now delta.now batching.now proof.entry.bytes.now space.old result }
 {
     let n = s.n;
     let tau = s.tau;
@@ -155,7 +157,7 @@ pub fn check_product(
     let mut left = [0u8; LANES];
     let mut vectors = [0u8; VECTORS];
     load_challenge(&mut challenge, delta);
-    add_difference(space, proof_section(proof, places, D), n, &challenge);
+    add_difference(space, proof.d, n, &challenge);
     lanes::add_masks(&mut left, space, s);
     fill_vectors(&mut vectors, tau, space, n);
     product_lanes(
@@ -169,11 +171,5 @@ pub fn check_product(
         &vectors,
         s,
     );
-    first_differing(
-        &left,
-        proof_section(proof, places, QS0),
-        proof_section(proof, places, QS1),
-        delta,
-        s.degree,
-    )
+    first_differing(&left, proof.qs0, proof.qs1, delta, s.degree)
 }

@@ -2,14 +2,10 @@
 -- have still to follow.
 -- Assumes nothing.
 use mathlib.Core.Path.{◌≡◌}
-use Prim.Native.Nat.{◌-◌, ◌≤◌}
+use Prim.Native.Nat.{◌≤◌}
 use lib.ListN.{length, drop}
 use Rattle.protocol.specs.Frames.{framed}
 use Rattle.sections.proofs.sections_form.Given as goal
 
-abbrev pub invariant-loop-i : goal.invariant-loop-i
-invariant-loop-i l =
-    (l.i ≤ length l.lengths) × (l.next ≤ length l.s) × (framed l.lengths (drop l.at l.s) ≡ framed (drop l.i l.lengths) (drop l.next l.s))
-
-abbrev pub decreases-loop-i : goal.decreases-loop-i
-decreases-loop-i l = length l.lengths - l.i
+abbrev pub invariant-loop-length : goal.invariant-loop-length
+invariant-loop-length l = (l.next ≤ length l.s) × (framed l.lengths (drop l.at l.s) ≡ framed (drop l.length-index l.lengths) (drop l.next l.s))

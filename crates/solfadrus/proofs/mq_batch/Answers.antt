@@ -7,4 +7,4 @@ use Rattle.solfadrus.proofs.mq_batch.Goals as goal
 pub returns : goal.returns
 returns c =
     let told = c.batch in
-    (c.word_of.ensures ∙ ap word told.ensures.result_value, rw told.ensures.result_value at told.ensures.batch_output)
+    (c.from.ensures ∙ ap word told.ensures.result_value, rw told.ensures.result_value at told.ensures.batch_output)

@@ -7,4 +7,4 @@ use Rattle.solfadrus.proofs.mq_commit.Goals as goal
 pub returns : goal.returns
 returns c =
     let told = c.commit in
-    (c.word_of.ensures ∙ ap word told.ensures.result_value, rw told.ensures.result_value at told.ensures.commit_output)
+    (c.from.ensures ∙ ap word told.ensures.result_value, rw told.ensures.result_value at told.ensures.commit_output)

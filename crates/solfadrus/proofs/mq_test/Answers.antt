@@ -5,4 +5,4 @@ use Rattle.protocol.specs.Answers.{word}
 use Rattle.solfadrus.proofs.mq_test.Goals as goal
 
 pub returns : goal.returns
-returns c = c.word_of.ensures ∙ ap word c.test.ensures
+returns c = c.from.ensures ∙ ap word c.test.ensures

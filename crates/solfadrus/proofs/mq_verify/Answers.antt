@@ -5,4 +5,4 @@ use Rattle.protocol.specs.Answers.{word}
 use Rattle.solfadrus.proofs.mq_verify.Goals as goal
 
 pub returns : goal.returns
-returns c = c.word_of.ensures ∙ ap word c.verify.ensures
+returns c = c.from.ensures ∙ ap word c.verify.ensures

@@ -27,7 +27,7 @@ use Rattle.questions.specs.Facts.{KeyFacts}
 use Rattle.forms_columns.specs.Stacks.{coordinate_of}
 use Rattle.forms_choices.proofs.ChoiceLaws.{up-to-first}
 use Rattle.forms_batching.proofs.VectorLaws.{vectors_narrow}
-use Rattle.verifier_product.specs.Product.{product_byte, first_differing}
+use Rattle.verifier_product.specs.Product.{product_byte}
 use Rattle.questions_proof.proofs.ProofLaws.{section-lengths}
 use Rattle.verifier_product.proofs.ProductLaws.{key-narrow}
 use Rattle.verifier_product.proofs.ProductMeaning.{first_differing_is}
@@ -44,7 +44,7 @@ pub add_difference-requires : goal.add_difference-requires
 add_difference-requires c =
     let shape = shape_for c.args.s in (
       omega (arith, c.requires.batching_len.1.0, variables_fit (setting_for c.args.s) shape),
-      omega (arith, (c.proof_section.ensures c.args.s c.requires.key_facts.1.0).1, (section-lengths (alphabet_for c.args.s) shape).d_length, bytes-enough c.args.s.n),
+      omega (arith, c.requires.key_facts.1.d_is.1, (section-lengths (alphabet_for c.args.s) shape).d_length, bytes-enough c.args.s.n),
     )
 
 pub add_masks-requires : goal.add_masks-requires
@@ -81,25 +81,19 @@ product_lanes-requires c =
         c.fill_vectors.ensures.vectors_end,
         omega (arith, c.add_difference.auto.table, c.requires.batching_len.1.1),
         vectors_narrow c.args.s.degree c.args.s.n c.args.s.tau c.add_difference.new.table c.fill_vectors.new.vectors
-            (key-narrow c.args.s.degree c.args.s.n c.args.s.tau c.proof_section.result.now c.load_challenge.new.out c.args.space.now c.add_difference.new.table bounds.τ_most c.add_difference.ensures.key_lanes
+            (key-narrow c.args.s.degree c.args.s.n c.args.s.tau c.args.proof.d.now c.load_challenge.new.out c.args.space.now c.add_difference.new.table bounds.τ_most c.add_difference.ensures.key_lanes
             (λ e l. rw (c.load_challenge.ensures e (omega (arith, c.requires.key_facts.2, l))) (element_lt (alphabet_for c.args.s) c.args.delta.now c.requires.delta_value.0 e)) c.requires.delta_value.3)
             c.fill_vectors.ensures.vectors_are,
       );
     }
 
-pub proof_section-requires-2 : goal.proof_section-requires-2
-proof_section-requires-2 c = (c.requires.key_facts.1.1, lit< tt)
-
-pub proof_section-requires-3 : goal.proof_section-requires-3
-proof_section-requires-3 c = (c.requires.key_facts.1.1, lit< tt)
-
 pub first_differing-requires : goal.first_differing-requires
 first_differing-requires c =
     let shape = shape_for c.args.s in
-    let form = c.requires.key_facts.1.0 in (
+    let p = c.requires.key_facts.1 in (
       omega (arith, c.requires.key_facts.2, (in-limits shape c.requires.key_facts.0.in-range).τ_most),
-      (c.proof_section-2.ensures c.args.s form).1 ∙ (section-lengths (alphabet_for c.args.s) shape).qs0-length ∙ sym c.requires.key_facts.2,
-      (c.proof_section-3.ensures c.args.s form).1 ∙ (section-lengths (alphabet_for c.args.s) shape).qs1-length ∙ sym c.requires.key_facts.2,
+      p.qs0_is.1 ∙ (section-lengths (alphabet_for c.args.s) shape).qs0-length ∙ sym c.requires.key_facts.2,
+      p.qs1_is.1 ∙ (section-lengths (alphabet_for c.args.s) shape).qs1-length ∙ sym c.requires.key_facts.2,
     )
 
 pub shape_of-space : goal.shape_of-space
@@ -109,9 +103,9 @@ pub returns : goal.returns
 returns c opened is =
     let a = c.args in
     let shape = shape_for a.s in
-    let form = c.requires.key_facts.1.0 in
+    let p = c.requires.key_facts.1 in
     let key = a.key.now in
-    let proof = a.proof.now in
+    let proof = a.proof.bytes.now in
     let χ = a.batching.now in
     let keys = c.add_difference in
     let load = c.load_challenge in
@@ -122,11 +116,9 @@ returns c opened is =
     let T : List ℕ = keys.new.table in
     let f : ℕ → ℕ → ℕ = coordinate_of vectors.new.vectors in
     let y = c.section_y.result.now in
-    let d = (c.proof_section.ensures a.s form).0 in
+    let d = p.d_is.0 in
     let lane : (e : ℕ) → e < a.s.tau → e < lanes = λ e l. omega (arith, l, (in-limits shape c.requires.key_facts.0.in-range).τ_most) in
-    c.first_differing.ensures
-    ∙ ap₂ (λ (x y : List ℕ). first_differing a.s.degree left.new.left x y a.delta.now) (c.proof_section-2.ensures a.s form).0 (c.proof_section-3.ensures a.s form).0
-    ∙ first_differing_is (setting_for a.s) shape a.delta.now opened proof a.space.now is c.requires.key_facts.2 (element_lt (alphabet_for a.s) a.delta.now c.requires.delta_value.0) challenge T f
+    first_differing_is (setting_for a.s) shape a.delta.now opened proof a.space.now is c.requires.key_facts.2 (element_lt (alphabet_for a.s) a.delta.now c.requires.delta_value.0) challenge T f
     (λ e l. load.ensures e (omega (arith, c.requires.key_facts.2, l)))
     (λ e k l h.
     vectors.ensures.vectors_are e k l (omega (arith, h, (in-limits shape c.requires.key_facts.0.in-range).n_most))
@@ -139,4 +131,5 @@ returns c opened is =
     left.ensures e l
     ∙ ap₂ bit_xor (masks.ensures e l ∙ ap (λ (z : ℕ). bit_xor z (mask_lane a.s.degree T (mask_at (alphabet_for a.s) shape e) e)) (get_or-replicate lanes e 0 0 (lane e l)))
     (ap₂ (λ (r q : List ℕ). product_byte a.s.degree a.s.n a.s.m r q y χ e (byte_at challenge e) (f e)) c.section_a.ensures.0 c.section_b.ensures.0
-    ∙ ap (λ (r : List ℕ). product_byte a.s.degree a.s.n a.s.m (section_a (alphabet_for a.s) shape key) (section_b (alphabet_for a.s) shape key) r χ e (byte_at challenge e) (f e)) c.section_y.ensures.0))
+    ∙ ap (λ (r : List ℕ). product_byte a.s.degree a.s.n a.s.m (section_a (alphabet_for a.s) shape key) (section_b (alphabet_for a.s) shape key) r χ e (byte_at challenge e) (f e)) c.section_y.ensures.0)) _
+    (rw (← p.qs0_is.0, ← p.qs1_is.0) c.first_differing.ensures)

@@ -3,10 +3,39 @@
 use mathlib.Core.Path.{ap}
 use lib.Dec.{eqb}
 use Rattle.format.proofs.AllLaws.{all_one}
-use Rattle.format.proofs.AskLaws.{says_all, same_first, then_ask, same_also}
+use Rattle.format.proofs.AskLaws.{same_first, passed, left}
 use Rattle.questions.proofs.calls.batch_inputs.Goals as goal
+
+pub returns-in_err-ask : goal.returns-in_err-ask
+returns-in_err-ask c =
+    let q = c.from_residual in
+    left _ _ q.result (same_first 5 0 _ (all_one c.batching_exact-exact.ensures) c.ask.ensures) c.in_err-ask.was q.ensures.1
+
+pub returns-in_err-batching_form : goal.returns-in_err-batching_form
+returns-in_err-batching_form c =
+    let q = c.from_residual-in_err-batching_form in
+    passed _ _ (same_first 5 0 _ (all_one c.batching_exact-exact.ensures) c.ask.ensures) c.in_ok-ask.was
+    (left _ _ q.result c.batching_form.ensures c.in_err-batching_form.was q.ensures.1)
+
+pub returns-in_err-full_form : goal.returns-in_err-full_form
+returns-in_err-full_form c =
+    let q = c.from_residual-in_err-full_form in
+    passed _ _ (same_first 5 0 _ (all_one c.batching_exact-exact.ensures) c.ask.ensures) c.in_ok-ask.was
+    (passed _ _ c.batching_form.ensures c.in_ok-batching_form.was
+    (left _ _ q.result c.full_form.ensures c.in_err-full_form.was q.ensures.1))
+
+pub returns-in_err-witness_form : goal.returns-in_err-witness_form
+returns-in_err-witness_form c =
+    let q = c.from_residual-in_err-witness_form in
+    passed _ _ (same_first 5 0 _ (all_one c.batching_exact-exact.ensures) c.ask.ensures) c.in_ok-ask.was
+    (passed _ _ c.batching_form.ensures c.in_ok-batching_form.was
+    (passed _ _ c.full_form.ensures c.in_ok-full_form.was
+    (left _ _ q.result c.witness_form.ensures c.in_err-witness_form.was q.ensures.1)))
 
 pub returns : goal.returns
 returns c =
-    let q = same_first 5 0 _ (all_one c.batching_exact-exact.ensures) (then_ask _ _ says_all c.also-asked.ensures) in
-    then_ask _ _ (then_ask _ _ (then_ask _ _ (then_ask _ _ q c.batching_form-asked.ensures) c.full_form-asked.ensures) c.witness_form-asked.ensures) (same_also 10 _ (ap (eqb _) c.batch_bytes.ensures) c.also.ensures)
+    passed _ _ (same_first 5 0 _ (all_one c.batching_exact-exact.ensures) c.ask.ensures) c.in_ok-ask.was
+    (passed _ _ c.batching_form.ensures c.in_ok-batching_form.was
+    (passed _ _ c.full_form.ensures c.in_ok-full_form.was
+    (passed _ _ c.witness_form.ensures c.in_ok-witness_form.was
+    (same_first 10 0 _ (ap (eqb _) c.batch_bytes.ensures) c.ask-2.ensures))))

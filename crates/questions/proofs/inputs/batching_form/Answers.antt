@@ -1,11 +1,8 @@
--- `questions::inputs::batching_form` meets its contract. It returns the answer so far, or puts its question.
+-- `questions::inputs::batching_form` meets its contract. It puts its question.
 -- Assumes nothing.
 use Rattle.format.proofs.AllLaws.{all_one}
-use Rattle.format.proofs.AskLaws.{stop_at, same_also}
+use Rattle.format.proofs.AskLaws.{same_first}
 use Rattle.questions.proofs.inputs.batching_form.Goals as goal
 
-pub returns-in_default : goal.returns-in_default
-returns-in_default c = stop_at _ c.in_default.is
-
 pub returns : goal.returns
-returns c = same_also 17 _ (all_one c.elements.ensures) c.also.ensures
+returns c = same_first 17 0 _ (all_one c.elements.ensures) c.ask.ensures

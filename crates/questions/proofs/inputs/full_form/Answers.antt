@@ -3,11 +3,10 @@
 use mathlib.Core.Path.{ap, ◌∙◌}
 use Rattle.protocol.specs.Answers.{ask}
 use Rattle.format.specs.Sizes.{alphabet_for, shape_for}
-use Rattle.format.specs.Verdict.{answer_of, and_then}
 use Rattle.questions.specs.Asking.{leaf_questions}
 use Rattle.questions.proofs.inputs.full_form.Goals as goal
 
 pub returns : goal.returns
 returns c =
     let a = c.args in
-    c.leaves_form.ensures ∙ ap (λ per. and_then (answer_of a.so_far) (ask (leaf_questions (alphabet_for a.s) (shape_for a.s) per a.leaves.now))) c.tree_leaves.ensures.0
+    c.leaves_form.ensures ∙ ap (λ per. ask (leaf_questions (alphabet_for a.s) (shape_for a.s) per a.leaves.now)) c.tree_leaves.ensures.0

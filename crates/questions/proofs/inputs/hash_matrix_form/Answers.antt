@@ -1,7 +1,6 @@
--- `questions::inputs::hash_matrix_form` meets its contract. Each return is the first question that got a no, or none
--- did.
+-- `questions::inputs::hash_matrix_form` meets its contract: the one question, and then the other.
 -- Assumes nothing.
-use mathlib.Core.Path.{◌≡◌, refl, sym, ap, ◌∙◌}
+use mathlib.Core.Path.{◌≡◌, sym, ap, ◌∙◌}
 use Prim.Native.Nat.{◌*◌}
 use native.Mathlib.Omega.{arith}
 use lib.ListN.{length}
@@ -13,26 +12,22 @@ use Rattle.theorems.proofs.TestLaws.{eqb_eq}
 use Rattle.format.specs.Sizes.{setting_for, alphabet_for, shape_for}
 use Rattle.rows.proofs.SpareLaws.{rows_are}
 use Rattle.format.proofs.SizeLaws.{k-most}
-use Rattle.format.proofs.AskLaws.{no_of, yes_of, says_no, says_yes, says_all}
-use mathlib.Core.Bool.{not}
+use Rattle.format.proofs.AskLaws.{said_yes, same_first, passed, left}
 use Rattle.questions.proofs.inputs.hash_matrix_form.Goals as goal
 
-pub returns-then-not-exact : goal.returns-then-not-exact
-returns-then-not-exact c = says_no _ 5 0 _ (no_of refl (ap not c.if-not-exact.true)) c.refuse.ensures
+pub returns-in_err-ask : goal.returns-in_err-ask
+returns-in_err-ask c = left _ _ c.from_residual.result c.ask.ensures c.in_err-ask.was c.from_residual.ensures.1
 
-pub rows_spare-requires : goal.rows_spare-requires
+pub rows_spare-spare-requires : goal.rows_spare-spare-requires
 unfolding h_exact
-rows_spare-requires c =
+rows_spare-spare-requires c =
     let S = shape_for c.args.s in
-    let e : length c.args.hash_matrix.now ≡ S.t * bytes_for (k_of (alphabet_for c.args.s) S) = eqb_eq _ _ (c.requires.1 (yes_of refl (ap not c.if-not-exact.false))) in
+    let e : length c.args.hash_matrix.now ≡ S.t * bytes_for (k_of (alphabet_for c.args.s) S) = eqb_eq _ _ (c.requires.1 (said_yes _ 5 0 (sym c.in_ok-ask.ensures))) in
     (e ∙ ap (λ k. S.t * bytes_for k) (sym c.hashed_bits.ensures), omega (arith, k-most (setting_for c.args.s) S c.requires.0))
-
-pub returns-then-not-rows_spare : goal.returns-then-not-rows_spare
-unfolding h_spare
-returns-then-not-rows_spare c = says_yes _ 5 0 _ (yes_of refl (ap not c.if-not-exact.false)) (says_no _ 6 0 _ (no_of ((let spare' : c.rows_spare.result ≡ h_spare (alphabet_for c.args.s) (shape_for c.args.s) c.args.hash_matrix.now = let a = c.args in
-    rows_are (setting_for a.s) _ _ _ c.rows_spare.ensures ∙ ap (λ k. rows_spare (alphabet_for a.s) k a.s.t a.hash_matrix.now) c.hashed_bits.ensures in spare')) (ap not c.if-not-rows_spare.true)) c.refuse-then-not-rows_spare.ensures)
 
 pub returns : goal.returns
 unfolding h_spare
-returns c = says_yes _ 5 0 _ (yes_of refl (ap not c.if-not-exact.false)) (says_yes _ 6 0 _ (yes_of ((let spare' : c.rows_spare.result ≡ h_spare (alphabet_for c.args.s) (shape_for c.args.s) c.args.hash_matrix.now = let a = c.args in
-    rows_are (setting_for a.s) _ _ _ c.rows_spare.ensures ∙ ap (λ k. rows_spare (alphabet_for a.s) k a.s.t a.hash_matrix.now) c.hashed_bits.ensures in spare')) (ap not c.if-not-rows_spare.false)) says_all)
+returns c =
+    let a = c.args in
+    let spare = rows_are (setting_for a.s) _ _ _ c.rows_spare-spare.ensures ∙ ap (λ k. rows_spare (alphabet_for a.s) k a.s.t a.hash_matrix.now) c.hashed_bits.ensures in
+    passed _ _ c.ask.ensures c.in_ok-ask.was (same_first 6 0 _ spare c.ask-2.ensures)

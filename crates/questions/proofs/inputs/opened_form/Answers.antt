@@ -5,7 +5,6 @@ use Prim.Native.Nat.{◌-◌}
 use Rattle.protocol.specs.Shape.{per_opened}
 use Rattle.protocol.specs.Answers.{ask}
 use Rattle.format.specs.Sizes.{alphabet_for, shape_for}
-use Rattle.format.specs.Verdict.{answer_of, and_then}
 use Rattle.questions.specs.Asking.{leaf_questions}
 use Rattle.questions.proofs.inputs.opened_form.Goals as goal
 
@@ -13,4 +12,4 @@ pub returns : goal.returns
 unfolding per_opened
 returns c =
     let a = c.args in
-    c.leaves_form.ensures ∙ ap (λ per. and_then (answer_of a.so_far) (ask (leaf_questions (alphabet_for a.s) (shape_for a.s) (per - 1) a.opened.now))) c.tree_leaves.ensures.0
+    c.leaves_form.ensures ∙ ap (λ per. ask (leaf_questions (alphabet_for a.s) (shape_for a.s) (per - 1) a.opened.now)) c.tree_leaves.ensures.0

@@ -1,4 +1,4 @@
--- `questions::proof::proof_spare` meets its contract. The rows of C, then d, then ũ.
+-- `questions_proof::proof::proof_spare` meets its contract. The rows of C, then d, then ũ.
 -- Assumes nothing.
 use mathlib.Core.Path.{sym, ap, ◌∙◌}
 use Prim.Native.Nat.{◌*◌, ◌-◌}
@@ -21,25 +21,23 @@ pub rows_spare-requires : goal.rows_spare-requires
 unfolding lengths w_of
 rows_spare-requires c =
     let S = shape_for c.args.s in
-    ((c.proof_section.ensures c.args.s c.requires.1.0).1 ∙ ap (λ k. (S.τ - 1) * bytes_for k) (sym c.leaf_bits.ensures), omega (arith, l_most (setting_for c.args.s) S c.requires.0))
+    (c.requires.1.c_is.1 ∙ ap (λ k. (S.τ - 1) * bytes_for k) (sym c.leaf_bits.ensures), omega (arith, l_most (setting_for c.args.s) S c.requires.0))
 
 pub row_spare-requires : goal.row_spare-requires
 unfolding lengths
-row_spare-requires c =
-    ((c.proof_section-2.ensures c.args.s c.requires.1.0).1, omega (arith, in-limits (shape_for c.args.s) c.requires.0))
+row_spare-requires c = (c.requires.1.d_is.1, omega (arith, in-limits (shape_for c.args.s) c.requires.0))
 
 pub row_spare-requires-2 : goal.row_spare-requires-2
 unfolding lengths
-row_spare-requires-2 c =
-    ((c.proof_section-3.ensures c.args.s c.requires.1.0).1, omega (arith, in-limits (shape_for c.args.s) c.requires.0))
+row_spare-requires-2 c = (c.requires.1.u_is.1, omega (arith, in-limits (shape_for c.args.s) c.requires.0))
 
 pub returns : goal.returns
 unfolding proof_spare
 returns c =
     let S = shape_for c.args.s in
-    let form = c.requires.1.0 in
+    let A = alphabet_for c.args.s in
+    let p = c.requires.1 in
     all_three
-    (rows_are (setting_for c.args.s) _ _ _ c.rows_spare.ensures ∙ ap (λ k. rows_spare (alphabet_for c.args.s) k (S.τ - 1) c.proof_section.result.now) c.leaf_bits.ensures
-    ∙ ap (rows_spare (alphabet_for c.args.s) (l_of (alphabet_for c.args.s) S) (S.τ - 1)) (c.proof_section.ensures c.args.s form).0)
-    (c.row_spare.ensures ∙ ap (λ d. spare_zero d S.n) (c.proof_section-2.ensures c.args.s form).0)
-    (c.row_spare-2.ensures ∙ ap (λ u. spare_zero u S.t) (c.proof_section-3.ensures c.args.s form).0)
+    (rows_are (setting_for c.args.s) _ _ _ c.rows_spare.ensures ∙ ap (λ k. rows_spare A k (S.τ - 1) c.args.proof.c.now) c.leaf_bits.ensures ∙ ap (rows_spare A (l_of A S) (S.τ - 1)) p.c_is.0)
+    (c.row_spare.ensures ∙ ap (λ d. spare_zero d S.n) p.d_is.0)
+    (c.row_spare-2.ensures ∙ ap (λ u. spare_zero u S.t) p.u_is.0)

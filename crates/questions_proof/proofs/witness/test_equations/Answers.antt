@@ -7,12 +7,12 @@ use native.Mathlib.Nat.{mul_assoc}
 use native.Mathlib.Omega.{arith}
 use Rattle.protocol.specs.Strings.{bytes_for, spare_zero}
 use Rattle.protocol.specs.Shape.{Shape, shape_of}
+use Rattle.protocol.specs.Questions.{solves}
 use Rattle.protocol.specs.Key.{section_a, section_b, section_y}
-use Rattle.format.specs.Verdict.{answer_of}
 use Rattle.format.proofs.SizeLaws.{in-limits}
 use Rattle.equations.specs.Equations.{key_error}
 use Rattle.equations.proofs.BlockLaws.{bytes-enough}
-use Rattle.questions_proof.proofs.SolvedLaws.{solved_as}
+use Rattle.questions_proof.proofs.SolvedLaws.{place_fits, first_fails}
 use Rattle.format.specs.Sizes.{setting_for, alphabet_for, shape_for}
 use Rattle.questions.proofs.KeyLaws.{facts-sized}
 use Rattle.questions_proof.proofs.witness.test_equations.Goals as goal
@@ -38,9 +38,11 @@ equation_errors-requires c =
     )
 
 pub answer-requires : goal.answer-requires
-answer-requires c = omega (arith, c.equation_errors.auto.errors, c.requires.2, (in-limits (shape_for c.args.s) c.requires.1.of-key.in-range).m_most)
+answer-requires c =
+    place_fits _ c.first_failing.result (omega (arith, c.equation_errors.auto.errors, c.requires.2, (in-limits (shape_for c.args.s) c.requires.1.of-key.in-range).m_most)) c.first_failing.ensures
 
 pub returns : goal.returns
+unfolding solves
 returns c =
     let key = c.args.key.now in
     let x = c.args.witness.now in
@@ -49,4 +51,5 @@ returns c =
     let same : (i : ℕ) → key_error c.args.s.n c.section_a.result.now c.section_b.result.now c.section_y.result.now x i
     ≡ key_error (shape_of key).n (section_a (alphabet_for c.args.s) (shape_of key) key) (section_b (alphabet_for c.args.s) (shape_of key) key) (section_y (alphabet_for c.args.s) (shape_of key) key) x i =
     λ i. rw (c.section_a.ensures.0, c.section_b.ensures.0, c.section_y.ensures.0) (ap (λ (z : Shape). key_error z.n (section_a (alphabet_for c.args.s) z key) (section_b (alphabet_for c.args.s) z key) (section_y (alphabet_for c.args.s) z key) x i) e) in
-    solved_as (setting_for c.args.s) key x (subst (λ (z : Shape). spare_zero x z.n ≡ true) e c.requires.1.of_witness.witness-spare) p.new.errors (p.auto.errors ∙ c.requires.2 ∙ ap (λ (z : Shape). z.m) e) (λ i h. p.ensures i (rw p.auto.errors at h) ∙ same i) (answer_of c.answer.result) c.answer.ensures
+    let fails = first_fails (setting_for c.args.s) key x (subst (λ (z : Shape). spare_zero x z.n ≡ true) e c.requires.1.of_witness.witness-spare) p.new.errors (p.auto.errors ∙ c.requires.2 ∙ ap (λ (z : Shape). z.m) e) (λ i h. p.ensures i (rw p.auto.errors at h) ∙ same i) c.first_failing.result c.first_failing.ensures in
+    c.answer.ensures _ _ fails

@@ -1,67 +1,108 @@
--- `sections::reader::read_sections` meets its contract. The loop's invariant: from where the reader stands, the lengths
--- that are left have still to follow.
+-- `sections::reader::read_sections` meets its contract: after each section, the lengths that are left have still to
+-- follow from where the reader stands.
 -- Assumes nothing.
-use mathlib.Core.Path.{◌≡◌, refl, ap, ◌∙◌}
-use native.Mathlib.Numerals.{add-one}
+use mathlib.Core.Path.{refl, sym, ◌∙◌}
+use mathlib.Core.List.{[]}
 use native.Mathlib.Omega.{arith}
-use borrow.Author.Rules.{rules}
-use lib.Dec.{eqb}
-use lib.ListN.{length, length-set}
-use Rattle.protocol.specs.Frames.{framed}
-use Rattle.theorems.proofs.TestLaws.{eqb_same, eqb-other}
-use Rattle.format.specs.Verdict.{answer_of}
-use Rattle.format.proofs.AskLaws.{says_no, says_yes, says_all}
-use Rattle.sections.specs.Taking.{next_at, read_to}
-use Rattle.sections.proofs.SectionLaws.{turn_end}
-use Rattle.sections.proofs.ReaderLaws.{within, refused-not, read_refused, read_other, read_next, places_more}
+use Rattle.format.proofs.AskLaws.{exit, said_yes, same_first}
+use Rattle.sections.proofs.ReaderLaws.{none_passed, one_more, one_stops, one_is, all_passed, section-taken}
 use Rattle.sections.proofs.reader.read_sections.Goals as goal
 
-pub loop-i-init : goal.loop-i-init
-unfolding read_to
-loop-i-init c = (search rules, omega arith, refl, refl, refl, λ k h. absurd (omega (arith, h)))
+pub returns-in_err-c-clause-told : goal.returns-in_err-c-clause-told
+returns-in_err-c-clause-told c =
+    let ls = c.args.lengths.now in
+    let p = c.args.proof in
+    one_stops (omega arith) (none_passed ls p) c.from_residual.result c.next_of.ensures c.in_err-c.was c.from_residual.ensures.1
 
-pub returns-in_default : goal.returns-in_default
-returns-in_default c =
-    let l = c.loop-i in
-    let told = c.in_default.is in (
-      read_refused _ _ l.next l.i (omega arith) l.invariant.2 c.read_on-read.result c.read_on-read.ensures told,
-      λ h. absurd (refused-not (ap answer_of told) h),
+pub returns-in_err-d-clause-told : goal.returns-in_err-d-clause-told
+returns-in_err-d-clause-told c =
+    let ls = c.args.lengths.now in
+    let p = c.args.proof in
+    let p1 = one_more (omega arith) (none_passed ls p) c.next_of.ensures c.in_ok-c.was in
+    one_stops (omega arith) p1 c.from_residual-in_err-d.result c.next_of-2.ensures c.in_err-d.was c.from_residual-in_err-d.ensures.1
+
+pub returns-in_err-u-clause-told : goal.returns-in_err-u-clause-told
+returns-in_err-u-clause-told c =
+    let ls = c.args.lengths.now in
+    let p = c.args.proof in
+    let p1 = one_more (omega arith) (none_passed ls p) c.next_of.ensures c.in_ok-c.was in
+    let p2 = one_more (omega arith) p1 c.next_of-2.ensures c.in_ok-d.was in
+    one_stops (omega arith) p2 c.from_residual-in_err-u.result c.next_of-3.ensures c.in_err-u.was c.from_residual-in_err-u.ensures.1
+
+pub returns-in_err-v-clause-told : goal.returns-in_err-v-clause-told
+returns-in_err-v-clause-told c =
+    let ls = c.args.lengths.now in
+    let p = c.args.proof in
+    let p1 = one_more (omega arith) (none_passed ls p) c.next_of.ensures c.in_ok-c.was in
+    let p2 = one_more (omega arith) p1 c.next_of-2.ensures c.in_ok-d.was in
+    let p3 = one_more (omega arith) p2 c.next_of-3.ensures c.in_ok-u.was in
+    one_stops (omega arith) p3 c.from_residual-in_err-v.result c.next_of-4.ensures c.in_err-v.was c.from_residual-in_err-v.ensures.1
+
+pub returns-in_err-qs0-clause-told : goal.returns-in_err-qs0-clause-told
+returns-in_err-qs0-clause-told c =
+    let ls = c.args.lengths.now in
+    let p = c.args.proof in
+    let p1 = one_more (omega arith) (none_passed ls p) c.next_of.ensures c.in_ok-c.was in
+    let p2 = one_more (omega arith) p1 c.next_of-2.ensures c.in_ok-d.was in
+    let p3 = one_more (omega arith) p2 c.next_of-3.ensures c.in_ok-u.was in
+    let p4 = one_more (omega arith) p3 c.next_of-4.ensures c.in_ok-v.was in
+    one_stops (omega arith) p4 c.from_residual-in_err-qs0.result c.next_of-5.ensures c.in_err-qs0.was c.from_residual-in_err-qs0.ensures.1
+
+pub returns-in_err-qs1-clause-told : goal.returns-in_err-qs1-clause-told
+returns-in_err-qs1-clause-told c =
+    let ls = c.args.lengths.now in
+    let p = c.args.proof in
+    let p1 = one_more (omega arith) (none_passed ls p) c.next_of.ensures c.in_ok-c.was in
+    let p2 = one_more (omega arith) p1 c.next_of-2.ensures c.in_ok-d.was in
+    let p3 = one_more (omega arith) p2 c.next_of-3.ensures c.in_ok-u.was in
+    let p4 = one_more (omega arith) p3 c.next_of-4.ensures c.in_ok-v.was in
+    let p5 = one_more (omega arith) p4 c.next_of-5.ensures c.in_ok-qs0.was in
+    one_stops (omega arith) p5 c.from_residual-in_err-qs1.result c.next_of-6.ensures c.in_err-qs1.was c.from_residual-in_err-qs1.ensures.1
+
+pub returns-in_err-ask-clause-told : goal.returns-in_err-ask-clause-told
+returns-in_err-ask-clause-told c =
+    let ls = c.args.lengths.now in
+    let p = c.args.proof in
+    let p1 = one_more (omega arith) (none_passed ls p) c.next_of.ensures c.in_ok-c.was in
+    let p2 = one_more (omega arith) p1 c.next_of-2.ensures c.in_ok-d.was in
+    let p3 = one_more (omega arith) p2 c.next_of-3.ensures c.in_ok-u.was in
+    let p4 = one_more (omega arith) p3 c.next_of-4.ensures c.in_ok-v.was in
+    let p5 = one_more (omega arith) p4 c.next_of-5.ensures c.in_ok-qs0.was in
+    let p6 = one_more (omega arith) p5 c.next_of-6.ensures c.in_ok-qs1.was in
+    let q = c.from_residual-in_err-ask in
+    same_first 12 0 [] (sym (all_passed (omega arith) p6)) (exit q.result c.in_err-ask.was q.ensures.1 ∙ c.ask.ensures)
+
+pub returns-clause-told : goal.returns-clause-told
+returns-clause-told c =
+    let ls = c.args.lengths.now in
+    let p = c.args.proof in
+    let p1 = one_more (omega arith) (none_passed ls p) c.next_of.ensures c.in_ok-c.was in
+    let p2 = one_more (omega arith) p1 c.next_of-2.ensures c.in_ok-d.was in
+    let p3 = one_more (omega arith) p2 c.next_of-3.ensures c.in_ok-u.was in
+    let p4 = one_more (omega arith) p3 c.next_of-4.ensures c.in_ok-v.was in
+    let p5 = one_more (omega arith) p4 c.next_of-5.ensures c.in_ok-qs0.was in
+    let p6 = one_more (omega arith) p5 c.next_of-6.ensures c.in_ok-qs1.was in
+    same_first 12 0 [] (sym (all_passed (omega arith) p6)) c.in_ok-ask.ensures
+
+pub returns-clause-sections : goal.returns-clause-sections
+returns-clause-sections c =
+    let ls = c.args.lengths.now in
+    let p = c.args.proof in
+    let p0 = none_passed ls p in
+    let p1 = one_more (omega arith) p0 c.next_of.ensures c.in_ok-c.was in
+    let p2 = one_more (omega arith) p1 c.next_of-2.ensures c.in_ok-d.was in
+    let p3 = one_more (omega arith) p2 c.next_of-3.ensures c.in_ok-u.was in
+    let p4 = one_more (omega arith) p3 c.next_of-4.ensures c.in_ok-v.was in
+    let p5 = one_more (omega arith) p4 c.next_of-5.ensures c.in_ok-qs0.was in
+    let p6 = one_more (omega arith) p5 c.next_of-6.ensures c.in_ok-qs1.was in
+    let f = all_passed (omega arith) p6 ∙ said_yes _ 12 0 (sym c.in_ok-ask.ensures) in (
+      refl,
+      record {
+        c_is = one_is (omega arith) p0 c.next_of.ensures c.in_ok-c.was ∙ section-taken ls p.now 0 (omega arith) f;
+        d_is = one_is (omega arith) p1 c.next_of-2.ensures c.in_ok-d.was ∙ section-taken ls p.now 1 (omega arith) f;
+        u_is = one_is (omega arith) p2 c.next_of-3.ensures c.in_ok-u.was ∙ section-taken ls p.now 2 (omega arith) f;
+        v_is = one_is (omega arith) p3 c.next_of-4.ensures c.in_ok-v.was ∙ section-taken ls p.now 3 (omega arith) f;
+        qs0_is = one_is (omega arith) p4 c.next_of-5.ensures c.in_ok-qs0.was ∙ section-taken ls p.now 4 (omega arith) f;
+        qs1_is = one_is (omega arith) p5 c.next_of-6.ensures c.in_ok-qs1.was ∙ section-taken ls p.now 5 (omega arith) f;
+      },
     )
-
-pub returns-then-read-lengths : goal.returns-then-read-lengths
-returns-then-read-lengths c =
-    let l = c.loop-i in
-    let no = read_other _ _ l.next l.i (omega arith) l.invariant.2 c.read_on-read.result c.read_on-read.ensures c.if-read-lengths.true in
-    (says_no _ 12 0 _ no c.refuse-other.ensures, λ h. absurd (refused-not c.refuse-other.ensures h))
-
-pub loop-i-preserved : goal.loop-i-preserved
-unfolding read_to
-loop-i-preserved c =
-    let l = c.loop-i in
-    let proof = c.args.proof.now in
-    let r = c.read_on-read in (
-      omega arith,
-      omega (arith, r.ensures.2, within proof l.next l.invariant.1),
-      rw add-one (read_next _ _ l.next l.i (omega arith) l.invariant.2 r.result r.ensures c.in-Accepted.is c.if-read-lengths.false),
-      rw (add-one, read_to) (r.ensures.2 ∙ ap (next_at proof) l.invariant.3),
-      simp length-set l.invariant.4,
-      places_more l.at l.i l.next (read_to proof) (omega arith) l.invariant.3 l.invariant.5,
-    )
-
-pub returns-then-next-proof : goal.returns-then-next-proof
-returns-then-next-proof c =
-    let l = c.loop-i in
-    let a = c.args in
-    let end : l.i ≡ 6 = omega arith in (
-      says_yes _ 12 0 _ ((let ended' : framed c.args.lengths.now c.args.proof.now ≡ eqb c.loop-i.next (length c.args.proof.now) = let l = c.loop-i in
-          l.invariant.2 ∙ turn_end _ _ l.next l.i (omega arith) l.invariant.1 in ended') ∙ eqb_same l.next (length a.proof.now) (search rules)) says_all,
-      λ _ i h. l.invariant.5 i (omega (arith, h, end)),
-    )
-
-pub returns-else-next-proof : goal.returns-else-next-proof
-returns-else-next-proof c =
-    let l = c.loop-i in
-    let a = c.args in
-    let no = (let ended' : framed c.args.lengths.now c.args.proof.now ≡ eqb c.loop-i.next (length c.args.proof.now) = let l = c.loop-i in
-    l.invariant.2 ∙ turn_end _ _ l.next l.i (omega arith) l.invariant.1 in ended') ∙ eqb-other l.next (length a.proof.now) (search rules) in
-    (says_no _ 12 0 _ no c.refuse-answer.ensures, λ h. absurd (refused-not c.refuse-answer.ensures h))

@@ -1,22 +1,19 @@
--- `sections::reader::step_at` meets its contract: the section that `find` found; or the refusal 12, place 0, nothing,
--- and no further.
+-- `sections::reader::step_at` meets its contract: the section that `find` found; or the refusal 12, place 0.
 -- Assumes nothing.
 use mathlib.Core.Path.{ap, ◌∙◌}
-use native.Mathlib.Omega.{arith}
-use Rattle.protocol.specs.Lists.{part}
 use Rattle.sections.proofs.SpanLaws.{found, not_found, found_inside}
 use Rattle.sections.specs.Taking.{answer_on, next_on, bytes_on, answer_at, next_at, bytes_at}
 use Rattle.sections.proofs.reader.step_at.Goals as goal
 
 pub returns-in_default : goal.returns-in_default
-unfolding answer_at next_at bytes_at part
+unfolding answer_at
 returns-in_default c =
     let no = not_found c.in_default.is c.find.ensures.result_value in
-    (c.refuse.ensures ∙ ap answer_on no, ap (next_on _) no, (omega arith, omega arith), ap (bytes_on _) no)
+    (c.refuse.ensures ∙ ap answer_on no, tt)
 
 pub returns : goal.returns
 unfolding answer_at next_at bytes_at
 returns c =
     let p = c.find in
     let yes = found c.in-At.is p.ensures.result_value in
-    (ap answer_on yes, ap (next_on _) yes, found_inside _ c.in-At.is p.ensures.inside, ap (bytes_on _) yes)
+    (ap answer_on yes, (found_inside _ c.in-At.is p.ensures.inside, ap (next_on _) yes, ap (bytes_on _) yes))
