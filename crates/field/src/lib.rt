@@ -1,7 +1,7 @@
 // Arithmetic in the fields of sixteen and of 256 elements, each element in a byte; and in the field of a degree.
 #![tactic(auto)]
 
-ghost use Rattle.std.specs.Prelude.{◌≡◌, refl, ℕ, ◌*◌, ◌/◌, ◌<◌};
+ghost use Rattle.std.specs.Prelude.{◌≡◌, refl, ℕ, ◌*◌, ◌<◌};
 ghost use Rattle.algebra.specs.Coded.{Coded, mul_byte};
 ghost use Rattle.galois.specs.Gf16.{gf16, modulus as modulus_16};
 ghost use Rattle.galois.specs.Gf256.{gf256, modulus as modulus_256};
@@ -73,7 +73,7 @@ fn double<F: Field>(x: u8) -> u8
 }
 
 // GF(16). The trait's functions state what the constants are, so that neither can change alone. The constants are the
-// type's own: a trait's would not stand in the length of an array.
+// type's own, since Rattle refuses names in one trait that differ only in case, as DEGREE and `degree`.
 #[derive(Clone, Copy)]
 pub struct Gf16;
 

@@ -15,14 +15,6 @@ pub loop-e-init : goal.loop-e-init
 unfolding changed
 loop-e-init c = refl
 
-pub mask_at-requires : goal.mask_at-requires
-mask_at-requires c = omega (arith, c.requires.1 c.loop-e.e c.loop-e-test.true)
-
-pub mask_byte-requires : goal.mask_byte-requires
-mask_byte-requires c =
-    let fits = c.requires.1 c.loop-e.e c.loop-e-test.true in
-    rw c.mask_at.ensures fits
-
 pub loop-e-preserved : goal.loop-e-preserved
 loop-e-preserved c =
     let a = c.args in

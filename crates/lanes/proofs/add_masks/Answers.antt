@@ -16,9 +16,6 @@ pub loop-i-init : goal.loop-i-init
 unfolding xor_sum
 loop-i-init c e h = sym (xor_zero_r _)
 
-pub mask_row-row-requires : goal.mask_row-row-requires
-mask_row-row-requires c = (c.requires, omega arith)
-
 pub loop-i-preserved : goal.loop-i-preserved
 loop-i-preserved c e h =
     let a = c.args in
