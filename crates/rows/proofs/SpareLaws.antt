@@ -6,11 +6,10 @@ use mathlib.Core.Bool.{Bool, true, ◌&&◌, and_assoc}
 use mathlib.Core.List.{List, [], ◌∷◌, map}
 use Prim.Native.Nat.{ℕ, zero, suc, ◌+◌, ◌*◌, ◌-◌, ◌/◌, ◌%◌, ◌^◌, ◌≤◌, ◌<◌}
 use native.Mathlib.Nat.{zero-div, zero-mul, min-le_left}
+use native.Mathlib.Numerals.{add-one}
 use native.Mathlib.Omega.{arith}
-use denote.Ref.{Bor}
-use Rattle.std.proofs.lemmas.Nat.{div-mul-add}
-use Rattle.std.proofs.Common.{Option, Some, None, IfSome, slice_get}
-use Rattle.std.specs.List.{fold, IsSubsliceAt}
+use Rattle.std.proofs.Common.{IfSome, slice_get}
+use Rattle.std.specs.List.{fold}
 use lib.Bits.{bit_or, or_zero_l, or_add_and, and_le_l, and_le_r}
 use lib.Dec.{eqb, ltb}
 use lib.ListN.{length, get_or, drop, length-take}
@@ -124,11 +123,7 @@ last-is : (L i : ℕ) → 1 ≤ L % 8 → i * bytes_for L + L / 8 ≡ i * bytes_
 unfolding bytes_for
 last-is L i h = omega arith
 
--- chunk k, of so many bytes, of s
-abbrev pub IsChunk : ℕ → List ℕ → ℕ → Bor (List ℕ) → Type 0
-IsChunk w s k chunk = (length chunk.now ≡ w) × (k * w + w ≤ length s) × IsSubsliceAt w s (k * w) chunk.now
-
--- the rows, one after the other
+-- a turn of the loop over the rows
 module _ (s : List ℕ) (L rows : ℕ) (len : length s ≡ rows * bytes_for L) (part : 1 ≤ L % 8) (byte : (i : ℕ) → get_or s i 0 < 256) where
   pub row_fits : (i : ℕ) → i < rows → (1 ≤ i * bytes_for L + bytes_for L) × (i * bytes_for L + bytes_for L ≤ length s)
   row_fits i h = (omega (arith, last_lt L part), omega (arith, row-end i rows (bytes_for L) h))
@@ -141,39 +136,14 @@ module _ (s : List ℕ) (L rows : ℕ) (len : length s ≡ rows * bytes_for L) (
       let b : get_or (block_at s w i) (L / 8) 0 ≡ get_or s (i * w + w - 1) 0 = block_getD s w i (L / 8) q ∙ ap (λ k. get_or s k 0) e in
       spare-high (block_at s w i) L (length-block s w i (row_fits i h).1) part (rw b (byte (i * w + w - 1))) ∙ ap (λ x. eqb (x / 2 ^ (L % 8)) 0) b
 
-  -- the rows of a fold over them: each has its last byte where row k of s has it
-  abbrev pub IsRow : ℕ → Bor (List ℕ) → Type 0
-  IsRow k row = get_or row.now (bytes_for L - 1) 0 ≡ get_or s (k * bytes_for L + bytes_for L - 1) 0
-
-  pub rows-fold : (items : List (Bor (List ℕ))) → length items ≡ rows → ((k : ℕ) → IfSome (slice_get items k) (IsRow k))
-      → eqb (fold (λ found row. bit_or found (get_or row.now (bytes_for L - 1) 0 / 2 ^ (L % 8))) 0 items) 0 ≡ bits_spare L rows s
+  pub rows_more : (i found : ℕ) → i < rows → eqb found 0 ≡ bits_spare L i s
+      → eqb (bit_or found (get_or s (i * bytes_for L + bytes_for L - 1) 0 / 2 ^ (L % 8))) 0 ≡ bits_spare L (i + 1) s
   unfolding bits_spare
-  rows-fold items e are =
-      let f : Bor (List ℕ) → ℕ = λ row. get_or row.now (bytes_for L - 1) 0 / 2 ^ (L % 8) in
-      fold-or f 0 items
-      ∙ rw e (all_congr rows _ _ (λ k h. at-mapped f (λ y. eqb y 0 ≡ spare_zero (block_at s (bytes_for L) k) L) items k (omega arith) (weaker k (slice_get items k) h (are k))))
-    where
-      weaker : (k : ℕ) (o : Option (Bor (List ℕ))) → k < rows → IfSome o (IsRow k)
-          → IfSome o (λ row. eqb (get_or row.now (bytes_for L - 1) 0 / 2 ^ (L % 8)) 0 ≡ spare_zero (block_at s (bytes_for L) k) L)
-      weaker k None h i = tt
-      weaker k (Some row) h i = ap (λ b. eqb (b / 2 ^ (L % 8)) 0) i ∙ sym (row-high k h)
+  rows_more i found h e = or-zero found _ ∙ ap₂ ◌&&◌ e (sym (row-high i h)) ∙ rw add-one (sym (all_more i (λ i. spare_zero (block_at s (bytes_for L) i) L)))
 
-  -- the chunks of s, of a row each, are the rows
-  pub chunks-fold : (items : List (Bor (List ℕ))) (len : ℕ) (item : ℕ → Option (Bor (List ℕ))) → len ≡ length items → ((k : ℕ) → item k ≡ slice_get items k)
-      → len ≡ length s / bytes_for L → ((k : ℕ) → IfSome (item k) (IsChunk (bytes_for L) s k))
-      → eqb (fold (λ found row. bit_or found (get_or row.now (bytes_for L - 1) 0 / 2 ^ (L % 8))) 0 items) 0 ≡ bits_spare L rows s
-  chunks-fold items n item e at many are =
-      let w : 0 < bytes_for L = omega (arith, last_lt L part) in
-      let z : rows * bytes_for L + 0 ≡ length s = omega (arith, len) in
-      let q : length s / bytes_for L ≡ rows = rw (← z) (div-mul-add rows (bytes_for L) 0 w) in
-      rows-fold items (sym e ∙ many ∙ q) (λ k. rw (← at k) (row k (item k) (are k)))
-    where
-      row : (k : ℕ) (o : Option (Bor (List ℕ))) → IfSome o (IsChunk (bytes_for L) s k) → IfSome o (IsRow k)
-      row k None h = tt
-      row k (Some x) h =
-          let l : bytes_for L - 1 < bytes_for L = omega (arith, last_lt L part) in
-          let e : k * bytes_for L + (bytes_for L - 1) ≡ k * bytes_for L + bytes_for L - 1 = omega (arith, last_lt L part) in
-          h.2.2 (bytes_for L - 1) 0 l ∙ ap (λ i. get_or s i 0) e
+pub no_rows : (L : ℕ) (s : List ℕ) → eqb 0 0 ≡ bits_spare L 0 s
+unfolding bits_spare all_below
+no_rows L s = refl
 
 -- rows of bits, in every setting
 pub rows_are : (g : Setting) (L rows : ℕ) (s : List ℕ) {b : Bool} → b ≡ bits_spare L rows s → b ≡ rows_spare (alphabet_of g) L rows s
