@@ -1,7 +1,7 @@
 -- A turn of the loops that give bytes: a part of the output is filled, and those before it stay.
 -- Assumes nothing.
 use mathlib.Core.Path.{◌≡◌, refl, sym, ap, ap₂, ◌∙◌}
-use mathlib.Core.List.{List, [], ◌∷◌, ◌++◌, append_assoc}
+use mathlib.Core.List.{List, [], ◌∷◌, ◌++◌}
 use Prim.Native.Nat.{ℕ, zero, suc, ◌+◌, ◌*◌, ◌/◌, ◌%◌, ◌-◌, ◌^◌, ◌≤◌, ◌<◌}
 use native.Mathlib.Nat.{div-one}
 use native.Mathlib.Omega.{arith}
@@ -9,16 +9,12 @@ use lib.ListN.{length, get_or, take, drop, length-append, length-drop}
 use lib.Seq.{take_at, take_all, length-take-le}
 use mathlib.Core.Logic.{◌⊎◌, ⊎_elim}
 use borrow.Rule.Slice.PartMut.{put_mid, same_len_mid}
+use Rattle.std.proofs.lemmas.Slice.{take-put_mid}
 use Rattle.sponge.specs.Lanes.{listed}
 use Rattle.sponge.specs.Sponge.{byte_in, rate}
 use Rattle.std.specs.Int.{w64, to_le_bytes}
 use Rattle.shake.specs.Pieces.{Held, settled, given, after}
 use Rattle.shake.proofs.PieceLaws.{listed_more, given_more, after_more, given-part, after-part}
-
-pub take_put_end : (a k : ℕ) (l r : List ℕ) → a + k ≤ length l → length r ≡ k → take (a + k) (put_mid a k l r) ≡ take a l ++ r
-take_put_end a k l r h e =
-    ap (take (a + k)) (sym (append_assoc (take a l) r (drop k (drop a l))))
-    ∙ take_at (take a l ++ r) (drop k (drop a l)) (a + k) (length-append (take a l) r ∙ ap₂ ◌+◌ (length-take-le a l (omega arith)) e)
 
 module _ (h : Held) (s : List ℕ) (at i n : ℕ) (is : (s, at) ≡ after h i) (l : at < rate) (k : at + n ≤ rate) where
   pub given-step : given h i ++ listed n (byte_in s) at ≡ given h (i + n)
@@ -66,7 +62,7 @@ pub words_step : (s out r : List ℕ) (first i : ℕ) → i * 8 + 8 ≤ length o
 words_step s out r first i l e long is =
     let o : 8 * (first + i) + 0 ≡ 8 * first + i * 8 = omega arith in
     let n : (i + 1) * 8 ≡ i * 8 + 8 = omega arith in
-    rw n (take_put_end (i * 8) 8 out r l long
+    rw n (take-put_mid (i * 8) 8 out r (i * 8 + 8) (omega arith) (omega arith)
     ∙ ap₂ ◌++◌ is (e ∙ word-bytes (get_or s (first + i) 0) ∙ lane-bytes 8 0 (first + i) s (omega arith) ∙ ap (listed 8 (byte_in s)) o)
     ∙ sym (listed_more (i * 8) 8 (byte_in s) (8 * first)))
 
@@ -121,14 +117,14 @@ module _ (o r₁ r₂ r₃ : List ℕ) (f : ℕ → ℕ) (at h t : ℕ) (ht : h 
     unfolding o₂
     two =
         let e : t ≡ h + (t - h) = omega arith in
-        ap (λ k. take k o₂) e ∙ take_put_end h (t - h) o₁ r₂ (omega (arith, l₁)) n₂ ∙ ap (λ l. l ++ r₂) first
+        ap (λ k. take k o₂) e ∙ take-put_mid h (t - h) o₁ r₂ (h + (t - h)) (omega (arith, n₂)) (omega (arith, l₁)) ∙ ap (λ l. l ++ r₂) first
 
     three : put_mid t (length o₂ - t) o₂ r₃ ≡ r₁ ++ r₂ ++ r₃
     three =
         let all : t + (length o₂ - t) ≡ length o₂ = omega (arith, l₂) in
         let same : length (put_mid t (length o₂ - t) o₂ r₃) ≡ length o₂ = same_len_mid t (length o₂ - t) o₂ r₃ (n₃ ∙ sym end) in
         sym (take_all (t + (length o₂ - t)) (put_mid t (length o₂ - t) o₂ r₃) (omega arith))
-        ∙ take_put_end t (length o₂ - t) o₂ r₃ (omega arith) n₃ ∙ ap (λ l. l ++ r₃) two
+        ∙ take-put_mid t (length o₂ - t) o₂ r₃ (t + (length o₂ - t)) (omega (arith, n₃)) (omega arith) ∙ ap (λ l. l ++ r₃) two
 
     g₂ : r₂ ≡ listed (t - h) f (at + h)
     unfolding listed o₁

@@ -74,6 +74,7 @@ impl Shake {
     {
         let mut lanes = self.lanes;
         let mut at = self.absorbed;
+        // By an index, since its step is computed, and each part is lent for its turn alone.
         let mut i = 0;
         while i < out.len() {
             let n = (RATE - at).min(out.len() - i);

@@ -48,5 +48,5 @@ pub fn row_product(row: &[u8], x: &[u8]) -> u8
     }
     let words = (row.len() - 1) / WORD;
     let sum = shared_words(row, x, words) ^ last_word(row, x, words * WORD);
-    (u64::count_ones(sum) % 2) as u8
+    (sum.count_ones() % 2) as u8
 }

@@ -10,7 +10,7 @@ use lib.Seq.{take_at, take_all, length-take-le}
 use borrow.Rule.Slice.PartMut.{put_mid, same_len_mid}
 use Rattle.shake.specs.Pieces.{Held, fresh, absorbed, finished, given, after}
 use Rattle.shake.proofs.PieceLaws.{absorbed-append, given_more, shake_is}
-use Rattle.shake.proofs.EmitLaws.{take_put_end}
+use Rattle.std.proofs.lemmas.Slice.{take-put_mid}
 use Rattle.shake_calls.proofs.shake_pieces.Goals as goal
 
 -- a first part written, and then the rest
@@ -25,7 +25,7 @@ written o r₁ r₂ p h n₁ n₂ =
     let end : p + k ≡ length l = omega (arith, all) in
     let part : length (take k (drop p l)) ≡ k = length-take-le k (drop p l) (omega (arith, length-drop p l)) in
     let same : length (put_mid p k l r₂) ≡ length l = same_len_mid p k l r₂ (n ∙ sym part) in
-    sym (take_all (p + k) (put_mid p k l r₂) (omega arith)) ∙ take_put_end p k l r₂ (omega arith) n
+    sym (take_all (p + k) (put_mid p k l r₂) (omega arith)) ∙ take-put_mid p k l r₂ (p + k) (omega (arith, n)) (omega arith)
     ∙ ap (λ s. s ++ r₂) (take_at r₁ (drop p o) p n₁)
 
 pub slice_bounds-squeeze-end-2 : goal.slice_bounds-squeeze-end-2

@@ -6,12 +6,13 @@ use mathlib.Core.Path.{ap₂}
 use lib.ListN.{take, drop, length-take, length-drop}
 use lib.Seq.{take_all}
 use borrow.Rule.Slice.PartMut.{same_len_mid}
+use Rattle.std.proofs.lemmas.Slice.{take-put_mid}
 use Rattle.sponge.specs.Lanes.{listed}
 use Rattle.sponge.specs.Sponge.{byte_in, rate}
 use Rattle.shake.specs.Pieces.{given, after}
 use Rattle.shake.specs.Held.{held}
 use Rattle.shake.proofs.PieceLaws.{settled_lt}
-use Rattle.shake.proofs.EmitLaws.{take_put_end, given-step, after-step}
+use Rattle.shake.proofs.EmitLaws.{given-step, after-step}
 use Rattle.shake.proofs.state.Shake.squeeze.Goals as goal
 
 pub loop-i-init : goal.loop-i-init
@@ -34,7 +35,7 @@ loop-i-preserved c =
     record {
       within = rw e (omega (arith, same_len_mid l.i n l.out r (same ∙ sym long), within));
       inside = omega (arith, ap (λ g. g.1) now-is, settled_lt l.lanes (l.at + n) room);
-      bytes = rw e (take_put_end l.i n l.out r within same) ∙ ap₂ ◌++◌ l.invariant.bytes bytes ∙ given-step h l.lanes l.at l.i n l.invariant.state l.invariant.inside room;
+      bytes = rw e (take-put_mid l.i n l.out r (l.i + n) (omega arith) (omega arith)) ∙ ap₂ ◌++◌ l.invariant.bytes bytes ∙ given-step h l.lanes l.at l.i n l.invariant.state l.invariant.inside room;
       state = now-is ∙ after-step h l.lanes l.at l.i n l.invariant.state l.invariant.inside room;
     }
 
