@@ -33,8 +33,8 @@ const ELEMENTS: usize = 2 * EIGHT_ROWS;
 // The panels of a chunk: each has two bytes of it.
 const CHUNK_PANELS: usize = CHUNK / 2;
 
-// The tables of chunks of the lines of as many variables as a key may have. A constant's value may hold no call, as that
-// of div_ceil.
+// The tables of chunks of the lines of as many variables as a key may have. A constant's value may hold no call, as
+// that of div_ceil.
 const LINES_TABLES: usize = (MOST_VARIABLES + ELEMENTS - 1) / ELEMENTS;
 
 // The bytes of the lines of as many equations as a block may have.

@@ -98,7 +98,8 @@ fn reflect(
     clear_own(turned, k, col);
 }
 
-// The byte columns of the piece's panels of the matrix that stands in src from `from` on, for its sixteens of rows. From `width` on a row has no bytes: nothing is turned there.
+// The byte columns of the piece's panels, of the matrix that stands in src from `from` on, for the piece's sixteens of
+// rows. From `width` on a row has no bytes: nothing is turned there.
 pub fn reflect_all(turned: &mut [u8], src: &[u8], from: usize, width: usize, piece: Piece)
     requires { (piece.first < piece.end) × (piece.end ≤ piece.first + 4) × (piece.end ≤ most_panels) × (piece.count ≤ piece_sixteens)
         × (8 < piece.count → piece.end ≤ piece_sixteens) × TurnedFits turned.old × (from + piece.end * 16 * width + bytes_past ≤ length src.now) }
