@@ -179,8 +179,8 @@ pub fn sum_sixteens(
     ensures { TreeSummed tree.now w delta count r u.new planes.new w }
 {
     let last = w - SIXTEEN;
-    for k in 0..last.div_ceil(SIXTEEN) {
-        sum_sixteen(u, planes, r, tree, count, delta, w, k * SIXTEEN);
+    for at in (0..last).step_by(SIXTEEN) {
+        sum_sixteen(u, planes, r, tree, count, delta, w, at);
     }
     sum_sixteen(u, planes, r, tree, count, delta, w, last);
 }
