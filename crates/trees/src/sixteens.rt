@@ -10,7 +10,6 @@ ghost use Rattle.std.specs.Prelude.{◌≡◌, cond, ℕ, ◌+◌, ◌*◌, ◌-
 ghost use Rattle.std.specs.Int.Bits.{bit_xor};
 ghost use Rattle.protocol.specs.Leaves.{place};
 ghost use Rattle.strings.specs.Sums.{byte_at, bit_of};
-ghost use Rattle.strings.specs.Rows.{RowAdded, RowsKept};
 ghost use Rattle.trees.specs.Trees.{leaf_byte, TreeFits, TreeSummed};
 ghost use Rattle.trees.specs.Partial.{held_plane, RunningLeaves};
 
