@@ -5,7 +5,7 @@ ghost use Rattle.std.specs.Prelude.{◌≡◌, ℕ, ◌+◌, ◌*◌, ◌/◌, �
 ghost use Rattle.strings.specs.Sums.{byte_at};
 ghost use Rattle.strings.specs.Rows.{RowsKept};
 ghost use Rattle.chunks.specs.Chunks.{most_block};
-ghost use Rattle.forms_choices.specs.Entries.{fives, two_sixteens, picks_bytes, choice, in_rows};
+ghost use Rattle.forms_choices.specs.Entries.{fives, choice, in_rows};
 
 use chunks::MOST_BLOCK;
 use chunks::cells::copy_apart;

@@ -40,8 +40,8 @@ pub fn spread_parts(table: &mut [u8], e: usize, planes: &[u8], w: usize)
     ensures lanes_kept { LanesKept e table.old table.new }
 {
     let last = w - SIXTEEN;
-    for k in 0..last.div_ceil(SIXTEEN) {
-        spread_part(table, e, planes, w, k * SIXTEEN);
+    for at in (0..last).step_by(SIXTEEN) {
+        spread_part(table, e, planes, w, at);
     }
     spread_part(table, e, planes, w, last);
 }

@@ -1,7 +1,6 @@
 // Leaves by four, where none is left out: of these, two leaves go to plane 0 alone and one to the planes 0 and 1, so
 // that their sums stay in registers, and one in four is added to what is held in memory.
 ghost use Rattle.std.specs.Prelude.{◌≡◌, ℕ, ◌+◌, ◌*◌, ◌-◌, ◌%◌, ◌<◌, ◌≤◌, length};
-ghost use Rattle.strings.specs.Sums.{byte_at};
 ghost use Rattle.trees.specs.Partial.{held_plane, RunningHeld, RunningLow, ThreeAdded, Placed, FoursFit};
 
 use super::sixteens::{HELD, held_row};

@@ -55,9 +55,9 @@ fn add_leaf(u: &mut [u8], tree: &[u8], delta: usize, j: usize)
     }
 }
 
-// `tree_sums` row by row. Here and below, the tree's bytes, its count, delta and w stay parameters: in a struct with the
-// fact that they fit, each clause would name the struct's fields as passed, and be longer. Plane p takes the running sum of the leaves where bit p of the leaf's number changes, so that
+// `tree_sums` row by row. Plane p takes the running sum of the leaves where bit p of the leaf's number changes, so that
 // three rows are added for each leaf, and not five.
+// Here and below the tree's bytes, count, delta and w stay parameters: of a struct each clause would name the fields.
 fn sum_rows(
     u: &mut [u8],
     planes: &mut [u8],

@@ -10,7 +10,6 @@ ghost use Rattle.std.specs.Prelude.{◌≡◌, cond, ℕ, ◌+◌, ◌*◌, ◌-
 ghost use Rattle.std.specs.Int.Bits.{bit_xor};
 ghost use Rattle.protocol.specs.Leaves.{place};
 ghost use Rattle.strings.specs.Sums.{byte_at, bit_of};
-ghost use Rattle.strings.specs.Rows.{RowAdded, RowsKept};
 ghost use Rattle.trees.specs.Trees.{leaf_byte, TreeFits, TreeSummed};
 ghost use Rattle.trees.specs.Partial.{held_plane, RunningLeaves};
 
@@ -179,8 +178,8 @@ pub fn sum_sixteens(
     ensures { TreeSummed tree.now w delta count r u.new planes.new w }
 {
     let last = w - SIXTEEN;
-    for k in 0..last.div_ceil(SIXTEEN) {
-        sum_sixteen(u, planes, r, tree, count, delta, w, k * SIXTEEN);
+    for at in (0..last).step_by(SIXTEEN) {
+        sum_sixteen(u, planes, r, tree, count, delta, w, at);
     }
     sum_sixteen(u, planes, r, tree, count, delta, w, last);
 }

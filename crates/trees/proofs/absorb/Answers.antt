@@ -16,7 +16,7 @@ use Rattle.trees.proofs.absorb.Goals as goal
 use Rattle.trees.proofs.absorb.Goals.{then-j-p-eq1, else-j-p-eq1}
 
 pub loop-p-init : goal.loop-p-init
-loop-p-init c = (search rules, refl, λ q b h. absurd (omega arith), λ q b h k. refl)
+loop-p-init c = (λ q b h. absurd (omega arith), λ q b h k. refl)
 
 pub xor_row-requires : goal.xor_row-requires
 xor_row-requires c =
@@ -45,11 +45,9 @@ loop-p-preserved c =
         (λ q b h o. refl),
       )
     ] in (
-      omega arith,
-      step.0 ∙ l.invariant.1,
-      done_more g a.planes.now l.planes c.if-j-p-eq1.planes w l.p step.1 step.2 l.invariant.3 l.invariant.2,
-      left_less g a.planes.now l.planes c.if-j-p-eq1.planes w l.p step.1 step.2 l.invariant.3,
+      done_more g a.planes.now l.planes c.if-j-p-eq1.planes w l.p step.1 step.2 l.invariant.1 l.invariant.0,
+      left_less g a.planes.now l.planes c.if-j-p-eq1.planes w l.p step.1 step.2 l.invariant.1,
     )
 
 pub returns : goal.returns
-returns c p b hp hb = c.loop-p.invariant.2 p b (omega arith) hb
+returns c p b hp hb = c.loop-p.invariant.0 p b (omega arith) hb
