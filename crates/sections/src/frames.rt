@@ -21,7 +21,7 @@ fn put_section(out: &mut [u8], section: &[u8])
     ensures { out.new ≡ frame (section.now ∷ []) }
 {
     put_count(&mut out[..COUNT], section.len());
-    strings::copies::copy_into(&mut out[COUNT..], section);
+    out[COUNT..].copy_from_slice(section);
 }
 
 // Two sections, one after the other.

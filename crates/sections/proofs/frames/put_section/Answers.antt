@@ -17,5 +17,5 @@ pub returns : goal.returns
 returns c =
     let a = c.args in
     let count = c.put_count in
-    let copied = c.copy_into in
-    framed-one (length a.section.now) count.new.out a.out.now copied.new.dst a.section.now (count.auto.out ∙ simp length-take (omega arith)) count.ensures copied.ensures (ap length copied.ensures)
+    let copied = c.copy_from_slice in
+    framed-one (length a.section.now) count.new.out a.out.now copied.new.self a.section.now (count.auto.out ∙ simp length-take (omega arith)) count.ensures copied.ensures.after (ap length copied.ensures.after)
