@@ -1,13 +1,14 @@
--- Decimal digits: the last one after the digits of a tenth, and how many there are; and a line that is stored part by
--- part.
+-- Decimal digits, and a line that is stored part by part.
 -- Assumes nothing.
 use mathlib.Core.Path.{◌≡◌, sym, ap, ◌∙◌}
-use mathlib.Core.List.{List, [], ◌∷◌, ◌++◌}
-use Prim.Native.Nat.{ℕ, zero, suc, ◌+◌, ◌/◌, ◌%◌, ◌≤◌, ◌<◌}
+use mathlib.Core.List.{List, [], ◌∷◌, ◌++◌, append_assoc}
+use Prim.Native.Nat.{ℕ, zero, suc, ◌+◌, ◌/◌, ◌%◌, ◌^◌, ◌≤◌, ◌<◌}
 use native.Mathlib.Decide.{dec_le}
 use native.Mathlib.Omega.{arith}
-use lib.ListN.{length, set, drop, length-append}
-use lib.Seq.{sets, sets-eq}
+use lib.ListN.{length, set, take, drop, length-append}
+use lib.Seq.{sets, sets-eq, drop-drop}
+use Rattle.std.specs.Fmt.{decimal as library}
+use Rattle.std.proofs.lemmas.Fmt.{decimal_by_steps, length-decimal-le}
 use Rattle.protocol.specs.Check.{decimal_digits, decimal}
 use Rattle.theorems.proofs.TestLaws.{ltb_yes, ltb_no}
 use Rattle.checking.specs.Checked.{line_text}
@@ -32,31 +33,21 @@ enough zero g x h k = absurd (omega arith)
 enough (suc f) zero x h k = absurd (omega arith)
 enough (suc f) (suc g) x h k = enough-step f g x (dec_le 10 x) (λ l. enough f g (x / 10) (omega arith) (omega arith))
 
-pub decimal-one : (x : ℕ) → x < 10 → decimal x ≡ (48 + x) ∷ []
+decimal-one : (x : ℕ) → x < 10 → decimal x ≡ (48 + x) ∷ []
 unfolding decimal
 decimal-one x h = digits-one x x h
 
-pub decimal_more : (x : ℕ) → 10 ≤ x → decimal x ≡ decimal (x / 10) ++ ((48 + x % 10) ∷ [])
+decimal_more : (x : ℕ) → 10 ≤ x → decimal x ≡ decimal (x / 10) ++ ((48 + x % 10) ∷ [])
 unfolding decimal
 decimal_more x h = digits_more x x h ∙ ap (λ l. l ++ ((48 + x % 10) ∷ [])) (enough x (suc (x / 10)) (x / 10) (omega arith) (omega arith))
 
-pub length-one : (x : ℕ) → x < 10 → length (decimal x) ≡ 1
-length-one x h = ap length (decimal-one x h)
-
-pub length_more : (x : ℕ) → 10 ≤ x → length (decimal x) ≡ length (decimal (x / 10)) + 1
-length_more x h = ap length (decimal_more x h) ∙ length-append (decimal (x / 10)) _
-
-one_more : (n x : ℕ) → length (decimal (x / 10)) ≤ n → length (decimal x) ≤ n + 1
-one_more n x h = go (dec_le 10 x)
-  where
-    go : Dec (10 ≤ x) → length (decimal x) ≤ n + 1
-    go (yes l) = omega (arith, length_more x l)
-    go (no l) = omega (arith, length-one x (omega arith))
+-- the library's digits are the same
+pub decimal_is : (x : ℕ) → x < 2 ^ 64 → library x ≡ decimal x
+decimal_is =
+    decimal_by_steps (λ n ds. ds ≡ decimal n) (λ n h. sym (decimal-one n h)) (λ n ds h e. ap (λ l. l ++ ((48 + n % 10) ∷ [])) e ∙ sym (decimal_more n h))
 
 pub five-digits : (x : ℕ) → x < 65536 → length (decimal x) ≤ 5
-five-digits x h =
-    let one : length (decimal (x / 10 / 10 / 10 / 10)) ≤ 1 = omega (arith, length-one (x / 10 / 10 / 10 / 10) (omega arith)) in
-    one_more 4 x (one_more 3 (x / 10) (one_more 2 (x / 10 / 10) (one_more 1 (x / 10 / 10 / 10) one)))
+five-digits x h = rw (← decimal_is x (omega arith)) (length-decimal-le 5 x (omega arith) (omega arith) (omega arith))
 
 -- ---- the parts of a line, as they are stored one after the other
 
@@ -70,6 +61,12 @@ pub sets_first : (l vs : List ℕ) → length vs ≤ length l → sets l 0 vs �
 sets_first l vs h =
     let z : 0 + length vs ≡ length vs = omega arith in
     sets-eq vs l 0 (omega arith) ∙ ap (λ k. vs ++ drop k l) z
+
+-- a part of a line, put where it belongs
+pub put_sets : (l part : List ℕ) (at k : ℕ) → k ≡ length part → at + length part ≤ length l → take at l ++ (part ++ drop k (drop at l)) ≡ sets l at part
+put_sets l part at k e h =
+    let d : drop k (drop at l) ≡ drop (at + length part) l = drop-drop k at l ∙ ap (λ j. drop (at + j) l) e in
+    ap (λ r. take at l ++ (part ++ r)) d ∙ sym (append_assoc (take at l) part _) ∙ sym (sets-eq part l at h)
 
 module _ (out word : List ℕ) (i p n₁ n₂ n₃ : ℕ) (e₁ : n₁ ≡ length word) (e₂ : n₂ ≡ n₁ + length (32 ∷ decimal i)) (e₃ : n₃ ≡ n₂ + length (32 ∷ decimal p)) where
   pub line-length : n₃ + 1 ≡ length (line_text word i p)

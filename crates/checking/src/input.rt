@@ -1,11 +1,10 @@
 // The check program's input: key, Δ, H', χ, opened leaves and proof, each after its four-byte count, and no more.
-ghost use Rattle.std.specs.Prelude.{◌≡◌, true, ◌≤◌, length};
-ghost use Rattle.protocol.specs.Frames.{framed, framed_length};
-ghost use Rattle.protocol.specs.Check.{eight, lengths_in, check_of};
+ghost use Rattle.std.specs.Prelude.{◌≡◌, ◌≤◌, length};
+ghost use Rattle.protocol.specs.Frames.{framed_length};
+ghost use Rattle.protocol.specs.Check.{eight, check_of};
 ghost use Rattle.format.specs.Verdict.{answer_of};
-ghost use Rattle.checking.specs.Checked.{checked_of, verify_parts};
+ghost use Rattle.checking.specs.Checked.{checked_of, lengths_read, verify_parts};
 
-use super::Checked;
 use field::Gf256;
 use format::Verdict;
 use sections::{Span, find, section_no};
@@ -16,26 +15,29 @@ const MOST_INPUT: usize = 65536;
 // The degree of the check program (request 3).
 const DEGREE: u32 = Gf256::DEGREE as u32;
 
-// Reads as many sections as lengths has room for, one at a time, by the counts that stand there. Are they all whole,
-// and is nothing left over? Then lengths has their lengths.
-fn read_lengths(s: &[u8], lengths: &mut [usize]) -> bool
-    ensures value { result ≡ framed (lengths_in (length lengths.old) s.now) s.now }
-    ensures filled { result ≡ true → lengths.new ≡ lengths_in (length lengths.old) s.now }
+// The sections of the input.
+const SECTIONS: usize = 6;
+
+// The lengths of the input's sections, by the counts that stand there, one after the other, where all are whole and
+// nothing is left over.
+fn read_lengths(s: &[u8]) -> Option<[usize; SECTIONS]>
+    ensures { result ≡ lengths_read s.now }
 {
+    let mut lengths = [0; SECTIONS];
     let mut next = 0;
-    for i in 0..lengths.len() {
+    for i in 0..SECTIONS {
         let Span::At { start, end } = find(s, next) else {
-            return false;
+            return None;
         };
         lengths[i] = end - start;
         next = end;
     }
-    next == s.len()
+    (next == s.len()).then_some(lengths)
 }
 
 // What the verifier answers to six sections of these lengths.
-fn verify_sections(input: &[u8], lengths: &[usize]) -> Verdict
-    requires { (framed_length lengths.now ≤ length input.now) × (length lengths.now ≡ 6) }
+fn verify_sections(input: &[u8], lengths: &[usize; SECTIONS]) -> Verdict
+    requires { framed_length lengths.now ≤ length input.now }
     ensures { answer_of result ≡ verify_parts lengths.now input.now }
 {
     verifier::verify(
@@ -49,16 +51,13 @@ fn verify_sections(input: &[u8], lengths: &[usize]) -> Verdict
     )
 }
 
-// What the verifier answers to the input's six sections, or that they could not be read.
-pub fn read_and_verify(input: &[u8]) -> Checked
+// What the verifier answers to the input's six sections, if they could be read.
+pub fn read_and_verify(input: &[u8]) -> Option<Verdict>
     ensures { checked_of result ≡ check_of eight input.now }
 {
     if MOST_INPUT < input.len() {
-        return Checked::Unread;
+        return None;
     }
-    let mut lengths = [0usize; 6];
-    if !read_lengths(input, &mut lengths) {
-        return Checked::Unread;
-    }
-    Checked::Answered(verify_sections(input, &lengths))
+    let lengths = read_lengths(input)?;
+    Some(verify_sections(input, &lengths))
 }

@@ -7,16 +7,8 @@ mod line;
 ghost use Rattle.std.specs.Prelude.{◌≡◌, ◌++◌, ◌≤◌, length, drop};
 ghost use Rattle.protocol.specs.Check.{eight, check_line};
 
-use format::Verdict;
 pub use input::read_and_verify;
 pub use line::{LINE, write_line};
-
-// What the program prints: an answer of the verifier, or that the input could not be read.
-#[derive(Clone, Copy)]
-pub enum Checked {
-    Answered(Verdict),
-    Unread,
-}
 
 // The check program of 01, from its whole input to its whole output: the line stands at the start of out, and the bytes
 // after it are as they were. Answers the line's length.

@@ -2,13 +2,12 @@
 -- sections before `next`, and from there on the others have still to follow.
 -- Assumes nothing.
 use mathlib.Core.Path.{◌≡◌, refl, sym, ap, ◌∙◌}
-use mathlib.Core.Bool.{false≢true}
-use Prim.Native.Nat.{◌≤◌}
 use native.Mathlib.Omega.{arith}
 use borrow.Author.Rules.{rules}
 use lib.ListN.{length, length-set}
+use lib.Dec.{eqb}
 use lib.Seq.{take_all}
-use Rattle.protocol.specs.Frames.{framed_length}
+use Rattle.protocol.specs.Frames.{framed, framed_length}
 use Rattle.protocol.specs.Check.{lengths_in}
 use Rattle.sections.proofs.SpanLaws.{found, not_found, found_inside}
 use Rattle.checking.proofs.LengthLaws.{turn_first, turn_missing, turn_next, turn_end, lengths_more, end_more}
@@ -16,14 +15,13 @@ use Rattle.checking.proofs.input.read_lengths.Goals as goal
 
 pub loop-i-init : goal.loop-i-init
 unfolding lengths_in framed_length
-loop-i-init c = (search rules, refl, search rules, refl, refl, turn_first c.args.s.now (length c.args.lengths.now))
+loop-i-init c = (refl, search rules, refl, refl, turn_first c.args.s.now 6)
 
 pub returns-in_default : goal.returns-in_default
 returns-in_default c =
     let l = c.loop-i in
-    let a = c.args in
-    let no = turn_missing a.s.now (length a.lengths.now) l.i l.next (omega arith) (not_found c.in_default.is c.find.ensures.result_value) in
-    record { value = sym (l.invariant.5 ∙ no); filled = λ h. absurd (false≢true h) }
+    let no = l.invariant.4 ∙ turn_missing c.args.s.now 6 l.i l.next (omega arith) (not_found c.in_default.is c.find.ensures.result_value) in
+    rw no refl
 
 pub overflow_sub-lengths : goal.overflow_sub-lengths
 overflow_sub-lengths c =
@@ -33,22 +31,20 @@ overflow_sub-lengths c =
 pub loop-i-preserved : goal.loop-i-preserved
 loop-i-preserved c =
     let l = c.loop-i in
-    let a = c.args in
+    let s = c.args.s.now in
     let m = found c.in-At.is c.find.ensures.result_value in (
-      omega arith,
-      simp length-set l.invariant.1,
+      simp length-set l.invariant.0,
       (found_inside _ c.in-At.is c.find.ensures.inside).1,
-      lengths_more a.s.now l.lengths l.i l.next _ _ l.invariant.3 l.invariant.4 m c.loop-i-test.true,
-      end_more a.s.now l.lengths l.i l.next _ _ l.invariant.3 l.invariant.4 m,
-      l.invariant.5 ∙ turn_next a.s.now (length a.lengths.now) l.i l.next (omega arith) _ _ m,
+      lengths_more s l.lengths l.i l.next _ _ l.invariant.2 l.invariant.3 m (omega arith),
+      end_more s l.lengths l.i l.next _ _ l.invariant.2 l.invariant.3 m,
+      l.invariant.4 ∙ turn_next s 6 l.i l.next (omega arith) _ _ m,
     )
 
 pub returns : goal.returns
 returns c =
     let l = c.loop-i in
-    let a = c.args in
-    let all : l.i ≡ length a.lengths.now = omega arith in
-    let full : length l.lengths ≤ l.i = omega arith in record {
-      value = sym (l.invariant.5 ∙ turn_end a.s.now (length a.lengths.now) l.i l.next all l.invariant.2);
-      filled = λ h. sym (take_all l.i l.lengths full) ∙ l.invariant.3 ∙ ap (λ k. lengths_in k a.s.now) all;
-    }
+    let s = c.args.s.now in
+    let all : l.i ≡ 6 = omega arith in
+    let whole : framed (lengths_in 6 s) s ≡ eqb l.next (length s) = l.invariant.4 ∙ turn_end s 6 l.i l.next all l.invariant.1 in
+    let are : l.lengths ≡ lengths_in 6 s = sym (take_all l.i l.lengths (omega arith)) ∙ l.invariant.2 ∙ ap (λ k. lengths_in k s) all in
+    c.then_some.ensures ∙ rw (whole, ← are) refl

