@@ -15,4 +15,4 @@ returns-in-Accepted c =
 pub returns-in-Refused : goal.returns-in-Refused
 unfolding line_of
 returns-in-Refused c =
-    record { value = rw (c.in-Some.is, c.in-Refused.is, ← c.number-number.ensures.0, ← c.from-place.ensures) c.put_line-in-Refused.ensures.value; line = rw (c.in-Some.is, c.in-Refused.is, ← c.number-number.ensures.0, ← c.from-place.ensures) c.put_line-in-Refused.ensures.put }
+    record { value = rw (c.in-Some.is, c.in-Refused.is, ← c.from-number.ensures.0, ← c.from-place.ensures) c.put_line-in-Refused.ensures.value; line = rw (c.in-Some.is, c.in-Refused.is, ← c.from-number.ensures.0, ← c.from-place.ensures) c.put_line-in-Refused.ensures.put }
