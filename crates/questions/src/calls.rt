@@ -35,7 +35,13 @@ fn hash_inputs(leaves: &[u8], hash_matrix: &[u8], out_len: usize, s: Sizes) -> R
     ask(out_len == hash_bytes(s), Reason::OutputLength)
 }
 
-fn batch_inputs(leaves: &[u8], witness: &[u8], batching: &[u8], out_len: usize, s: Sizes) -> Result<(), Refusal>
+fn batch_inputs(
+    leaves: &[u8],
+    witness: &[u8],
+    batching: &[u8],
+    out_len: usize,
+    s: Sizes,
+) -> Result<(), Refusal>
     requires { limits (shape_for s) ≡ true }
     ensures { told result ≡ ask (batch_inputs (alphabet_for s) (shape_for s) leaves.now witness.now batching.now out_len) }
 {
@@ -96,7 +102,13 @@ pub fn test_form(key: &[u8], witness: &[u8], s: Sizes) -> Result<(), Refusal>
 }
 
 // The first step: questions 16, 1 to 4, 7 to 10. Of the output only its length is asked.
-pub fn commit_form(key: &[u8], leaves: &[u8], witness: &[u8], out_len: usize, s: Sizes) -> Result<(), Refusal>
+pub fn commit_form(
+    key: &[u8],
+    leaves: &[u8],
+    witness: &[u8],
+    out_len: usize,
+    s: Sizes,
+) -> Result<(), Refusal>
     requires { SizesOf key.now s }
     ensures { CommitAsked (setting_for s) key.now leaves.now witness.now out_len (told result) }
 {
@@ -105,7 +117,13 @@ pub fn commit_form(key: &[u8], leaves: &[u8], witness: &[u8], out_len: usize, s:
 }
 
 // The second step: questions 16, 1 to 8, 10.
-pub fn hash_form(key: &[u8], leaves: &[u8], hash_matrix: &[u8], out_len: usize, s: Sizes) -> Result<(), Refusal>
+pub fn hash_form(
+    key: &[u8],
+    leaves: &[u8],
+    hash_matrix: &[u8],
+    out_len: usize,
+    s: Sizes,
+) -> Result<(), Refusal>
     requires { SizesOf key.now s }
     ensures { HashAsked (setting_for s) key.now leaves.now hash_matrix.now out_len (told result) }
 {

@@ -19,9 +19,7 @@ pub fn proof_spare<'a>(proof: Proof<'a>, s: Sizes) -> bool
 {
     let n = s.n;
     let t = s.t;
-    rows_spare(proof.c, leaf_bits(s), s.tau - 1)
-        & row_spare(proof.d, n)
-        & row_spare(proof.u, t)
+    rows_spare(proof.c, leaf_bits(s), s.tau - 1) & row_spare(proof.d, n) & row_spare(proof.u, t)
 }
 
 // Question 18: is each byte of Ṽ, QS0 and QS1 an element of the field?

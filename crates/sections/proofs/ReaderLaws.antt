@@ -3,15 +3,15 @@
 -- answer, the section's length, and what is left.
 -- Assumes nothing.
 use mathlib.Core.Path.{◌≡◌, refl, sym, ap, ◌∙◌}
-use mathlib.Core.Bool.{Bool, true, false, ◌&&◌, false≢true}
+use mathlib.Core.Bool.{true, ◌&&◌}
 use mathlib.Core.List.{List, [], ◌∷◌}
 use Prim.Native.Nat.{ℕ, zero, suc, ◌+◌, ◌-◌, ◌<◌, ◌≤◌}
 use native.Mathlib.Nat.{add-sub_cancel_left}
 use native.Mathlib.Decide.{ℕ_discrete}
 use native.Mathlib.Omega.{arith}
 use lib.Dec.{eqb, leb}
-use lib.ListN.{length, get_or, set, take, drop}
-use lib.Seq.{drop-drop, drop-cons, get_or-set_same, get_or-set_other}
+use lib.ListN.{length, get_or, take, drop}
+use lib.Seq.{drop-drop, drop-cons}
 use Rattle.algebra.proofs.CountLaws.{and_right}
 use Rattle.protocol.specs.Lists.{part}
 use Rattle.protocol.specs.Frames.{num4, framed, section_no, framed_length}
@@ -20,7 +20,7 @@ use denote.Ref.{Bor}
 use Rattle.std.specs.Prelude.{Result, Ok, Err}
 use Rattle.std.specs.Result.{IsErrAnd}
 use Rattle.std.proofs.lemmas.Result.{IfOk-at_ok}
-use Rattle.protocol.specs.Answers.{Answer, accepted, refused, is_accepted, question, ask}
+use Rattle.protocol.specs.Answers.{Answer, refused, is_accepted, question, ask}
 use Rattle.theorems.proofs.TestLaws.{eqb_same, eqb-other}
 use Rattle.format.specs.Verdict.{and_then, told}
 use Rattle.format.specs.declared.Refusal.{Refusal}

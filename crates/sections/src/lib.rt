@@ -16,7 +16,7 @@ ghost use Rattle.format.specs.Verdict.{number_for, told};
 use format::numbers::number4;
 use format::{Reason, Refusal, ask, refuse};
 
-// Where a section's bytes start and end, or that it is not there whole.
+// Where a section's bytes start and end, or that it is not there whole. No Option: 01 names an enum of the two.
 #[derive(Clone, Copy)]
 pub enum Span {
     At { start: usize, end: usize },

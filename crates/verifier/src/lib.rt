@@ -71,13 +71,11 @@ fn both_checks<'a>(
         key.now delta.now matrix.now batching.now opened.now proof.entry.bytes.now) }
 {
     let mut space = [0u8; SPACE];
-    ask_checks(
-        &mut space, key, delta, matrix, batching, opened, proof, s,
-    )
+    ask_checks(&mut space, key, delta, matrix, batching, opened, proof, s)
 }
 
 // The verifier's questions: 16, 1 to 6, 17, 7, 8, 12, 13, 18, 14, 15.
-fn ask_all(
+fn try_verify(
     key: &[u8],
     degree: u32,
     delta: &[u8],
@@ -107,7 +105,5 @@ pub fn verify(
 ) -> Verdict
     ensures { answer_of result ≡ verify_answer (setting degree) key.now delta.now matrix.now batching.now opened.now proof.now }
 {
-    Verdict::from(ask_all(
-        key, degree, delta, matrix, batching, opened, proof,
-    ))
+    Verdict::from(try_verify(key, degree, delta, matrix, batching, opened, proof))
 }

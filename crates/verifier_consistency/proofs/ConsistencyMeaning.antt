@@ -1,12 +1,12 @@
 -- What the consistency check on bytes is in 01's terms, where a table holds the verifier's vectors in its lanes.
 -- Assumes nothing.
-use mathlib.Core.Path.{◌≡◌, sym, ap, ap₂, ◌∙◌}
+use mathlib.Core.Path.{◌≡◌, sym, ap₂, ◌∙◌}
 use mathlib.Core.List.{List}
 use Prim.Native.Nat.{ℕ, ◌+◌, ◌*◌, ◌<◌}
 use lib.Dec.{eqb}
 use lib.ListN.{length}
 use lib.Bits.{bit_xor}
-use Rattle.protocol.specs.Lists.{first_not, block_at}
+use Rattle.protocol.specs.Lists.{block_at}
 use Rattle.protocol.specs.Strings.{bytes_for, bit}
 use Rattle.protocol.specs.Alphabet.{sym as symbol, elem_at}
 use Rattle.protocol.specs.Setting.{Setting, alphabet_of, size_of}

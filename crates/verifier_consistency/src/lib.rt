@@ -115,12 +115,5 @@ pub fn check_consistency<'a>(
     let tau = s.tau;
     let t = s.t;
     let mut hashed = [0u8; LANES * MOST_HASH_ROWS];
-    check_hashed(
-        &mut hashed[..tau * t],
-        table,
-        matrix,
-        delta,
-        proof,
-        s,
-    )
+    check_hashed(&mut hashed[..tau * t], table, matrix, delta, proof, s)
 }

@@ -14,7 +14,6 @@ use Rattle.algebra.specs.Sum.{sum}
 use Rattle.algebra.proofs.RingLaws.{ring}
 use Rattle.algebra.proofs.SumLaws.{sum_ext, sum-add, sum-mul}
 use Rattle.galois.specs.Degrees.{degree_of, mask_element_of}
-use Rattle.protocol.specs.Lists.{first_not}
 use Rattle.protocol.specs.Strings.{bit}
 use Rattle.protocol.specs.Alphabet.{Alphabet, sym as symbol, elem_at}
 use Rattle.protocol.specs.Setting.{Setting, alphabet_of}

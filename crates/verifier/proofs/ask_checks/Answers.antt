@@ -5,7 +5,7 @@ use Prim.Native.Nat.{ℕ, ◌*◌}
 use mathlib.Core.Path.{sym, ap, ◌∙◌}
 use native.Mathlib.Omega.{arith}
 use lib.ListN.{length}
-use Rattle.protocol.specs.Shape.{w_of, most_repetitions}
+use Rattle.protocol.specs.Shape.{w_of}
 use Rattle.lanes.specs.Lanes.{lanes}
 use Rattle.format.specs.Sizes.{setting_for, alphabet_for, shape_for}
 use Rattle.format.proofs.AskLaws.{passed, left}

@@ -1,10 +1,8 @@
 -- `verifier_consistency::check_hashed` meets its contract: the hashed lanes are H-as-W_e.
 -- Assumes nothing.
 use Prim.Native.Nat.{ℕ, ◌*◌}
-use mathlib.Core.Path.{sym, ap, ap₂, ◌∙◌}
-use mathlib.Core.List.{List}
+use mathlib.Core.Path.{sym, ap, ◌∙◌}
 use native.Mathlib.Omega.{arith}
-use lib.Dec.{lit<}
 use Rattle.protocol.specs.Sections.{sections_in}
 use Rattle.format.specs.Sizes.{setting_for, alphabet_for, shape_for}
 use Rattle.theorems.proofs.ElementLaws.{element_lt}

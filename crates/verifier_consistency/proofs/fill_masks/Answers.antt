@@ -1,10 +1,8 @@
 -- `verifier_consistency::fill_masks` meets its contract. Each element is changed once (`Elementwise`).
 -- Assumes nothing.
-use borrow.Author.Rules.{rules}
 use Prim.Native.Nat.{◌*◌, ◌<◌}
 use mathlib.Core.Path.{refl, ap}
 use native.Mathlib.Omega.{arith}
-use lib.ListN.{length-set}
 use Rattle.theorems.proofs.StringLaws.{bit_lt}
 use Rattle.strings.proofs.Elementwise.{changed, changed_more, changed-all}
 use Rattle.verifier_consistency.proofs.fill_masks.Invariants.{change}
@@ -12,7 +10,7 @@ use Rattle.verifier_consistency.proofs.fill_masks.Goals as goal
 
 pub loop-i-init : goal.loop-i-init
 unfolding changed
-loop-i-init c = (search rules, refl, refl)
+loop-i-init c = refl
 
 pub overflow_mul-masks : goal.overflow_mul-masks
 overflow_mul-masks c =
@@ -22,14 +20,11 @@ overflow_mul-masks c =
 pub loop-i-preserved : goal.loop-i-preserved
 loop-i-preserved c =
     let a = c.args in
-    let l = c.loop-i in (
-      omega arith,
-      changed_more (change a.u.now) a.masks.now l.masks l.i _ l.invariant.1 (ap (λ q. q * 255) c.bit_at.ensures),
-      simp length-set l.invariant.2,
-    )
+    let l = c.loop-i in
+    changed_more (change a.u.now) a.masks.now l.masks l.i _ l.invariant (ap (λ q. q * 255) c.bit_at.ensures)
 
 pub returns : goal.returns
 returns c i h =
     let a = c.args in
     let l = c.loop-i in
-    changed-all (change a.u.now) a.masks.now l.masks l.i l.invariant.1 (omega arith) (omega arith) i (omega (arith, l.invariant.2))
+    changed-all (change a.u.now) a.masks.now l.masks l.i l.invariant (omega arith) (omega arith) i (omega arith)

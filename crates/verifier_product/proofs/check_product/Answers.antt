@@ -6,7 +6,6 @@ use mathlib.Core.Path.{sym, ap, ap₂, ◌∙◌}
 use mathlib.Core.List.{List}
 use native.Mathlib.Nat.{mul_assoc}
 use native.Mathlib.Omega.{arith}
-use lib.Dec.{lit<}
 use lib.ListN.{get_or-replicate}
 use lib.Bits.{bit_xor}
 use Rattle.galois.specs.Degrees.{degree_of}

@@ -1,7 +1,7 @@
 -- `questions::calls::batch_form` meets its contract. The questions on the key, then those on the other inputs, by the
 -- sizes that the key has.
 -- Assumes nothing.
-use mathlib.Core.Path.{sym, ap, ap₂, ◌∙◌}
+use mathlib.Core.Path.{sym, ap₂, ◌∙◌}
 use Rattle.protocol.specs.Answers.{ask}
 use Rattle.questions.specs.Asking.{batch_inputs}
 use Rattle.format.specs.Sizes.{alphabet_for}

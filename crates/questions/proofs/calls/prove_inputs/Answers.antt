@@ -8,7 +8,7 @@ use Rattle.format.proofs.AskLaws.{same_first, passed, left}
 use Rattle.questions.proofs.calls.prove_inputs.Goals as goal
 
 pub hash_matrix_form-requires : goal.hash_matrix_form-requires
-hash_matrix_form-requires c = 
+hash_matrix_form-requires c =
     (c.requires, λ e. sym c.hash_matrix_exact.ensures ∙ and_left c.hash_matrix_exact.result c.batching_exact.result e)
 
 pub returns-in_err-hash_matrix_form : goal.returns-in_err-hash_matrix_form

@@ -4,11 +4,11 @@ use mathlib.Core.Path.{◌≡◌, sym, ap, ◌∙◌, subst}
 use mathlib.Core.Bool.{Bool, true}
 use mathlib.Core.List.{List, [], ◌∷◌}
 use Prim.Native.Nat.{ℕ}
-use Rattle.std.proofs.lemmas.Result.{err_from_is_err_and, IfOk-at_ok}
+use Rattle.std.proofs.lemmas.Result.{err_from_is_err_and}
 use Rattle.protocol.specs.Alphabet.{Alphabet}
 use Rattle.protocol.specs.Shape.{Shape}
 use Rattle.protocol.specs.Frames.{framed}
-use Rattle.protocol.specs.Sections.{Sections, lengths, sections_in}
+use Rattle.protocol.specs.Sections.{lengths, sections_in}
 use Rattle.protocol.specs.Answers.{Answer, question, ask}
 use Rattle.protocol.specs.Questions.{proof_spare, proof_elements, q12, q13, q18}
 use Rattle.format.specs.Sizes.{alphabet_for, shape_for}
@@ -53,7 +53,7 @@ returns-in_err-ask c =
     let q = c.from_residual-in_err-ask in
     let p = err_from_is_err_and q.result q.ensures.1 in (
       passed _ _ (twelve (alphabet_for z) (shape_for z) c.args.proof.now _ c.proof_lengths-lengths.ensures c.read_sections.ensures.told) c.in_ok-proof.was
-      (left _ _ q.result (thirteen (alphabet_for z) (shape_for z) c.args.proof.now _ c.proof_lengths-lengths.ensures _ c.in_ok-proof.ensures.sections.0 c.proof_spare.ensures c.ask.ensures) c.in_err-ask.was q.ensures.1),
+          (left _ _ q.result (thirteen (alphabet_for z) (shape_for z) c.args.proof.now _ c.proof_lengths-lengths.ensures _ c.in_ok-proof.ensures.sections.0 c.proof_spare.ensures c.ask.ensures) c.in_err-ask.was q.ensures.1),
       rw p.1 tt,
     )
 
@@ -69,8 +69,8 @@ returns-in_err-ask-2 c =
     let q = c.from_residual-in_err-ask-2 in
     let p = err_from_is_err_and q.result q.ensures.1 in (
       passed _ _ (twelve (alphabet_for z) (shape_for z) c.args.proof.now _ c.proof_lengths-lengths.ensures c.read_sections.ensures.told) c.in_ok-proof.was
-      (passed _ _ (thirteen (alphabet_for z) (shape_for z) c.args.proof.now _ c.proof_lengths-lengths.ensures _ c.in_ok-proof.ensures.sections.0 c.proof_spare.ensures c.ask.ensures) c.in_ok-ask.was
-      (left _ _ q.result (eighteen (alphabet_for z) (shape_for z) c.args.proof.now _ c.proof_lengths-lengths.ensures _ c.in_ok-proof.ensures.sections.0 c.proof_elements.ensures c.ask-2.ensures) c.in_err-ask-2.was q.ensures.1)),
+          (passed _ _ (thirteen (alphabet_for z) (shape_for z) c.args.proof.now _ c.proof_lengths-lengths.ensures _ c.in_ok-proof.ensures.sections.0 c.proof_spare.ensures c.ask.ensures) c.in_ok-ask.was
+          (left _ _ q.result (eighteen (alphabet_for z) (shape_for z) c.args.proof.now _ c.proof_lengths-lengths.ensures _ c.in_ok-proof.ensures.sections.0 c.proof_elements.ensures c.ask-2.ensures) c.in_err-ask-2.was q.ensures.1)),
       rw p.1 tt,
     )
 
@@ -79,7 +79,7 @@ returns c =
     let z = c.args.s in
     let p = c.in_ok-proof in (
       passed _ _ (twelve (alphabet_for z) (shape_for z) c.args.proof.now _ c.proof_lengths-lengths.ensures c.read_sections.ensures.told) p.was
-      (passed _ _ (thirteen (alphabet_for z) (shape_for z) c.args.proof.now _ c.proof_lengths-lengths.ensures _ p.ensures.sections.0 c.proof_spare.ensures c.ask.ensures) c.in_ok-ask.was
-      (eighteen (alphabet_for z) (shape_for z) c.args.proof.now _ c.proof_lengths-lengths.ensures _ p.ensures.sections.0 c.proof_elements.ensures c.in_ok-ask-2.ensures)),
+          (passed _ _ (thirteen (alphabet_for z) (shape_for z) c.args.proof.now _ c.proof_lengths-lengths.ensures _ p.ensures.sections.0 c.proof_spare.ensures c.ask.ensures) c.in_ok-ask.was
+          (eighteen (alphabet_for z) (shape_for z) c.args.proof.now _ c.proof_lengths-lengths.ensures _ p.ensures.sections.0 c.proof_elements.ensures c.in_ok-ask-2.ensures)),
       (p.ensures.sections.0, read (alphabet_for z) (shape_for z) c.args.proof.now _ c.proof_lengths-lengths.ensures p.proof (said_yes _ 12 0 (sym p.ensures.told)) p.ensures.sections),
     )

@@ -28,7 +28,7 @@ returns-in_err-ask c =
     let p = err_from_is_err_and q.result q.ensures.1 in
     let x = IfOk-at_ok (λ section. section.now ≡ bytes_at r.proof.now r.at) c.in_ok-section.was c.next_section.ensures.2 in (
       then_length c.args.length r.proof.now r.at c.next_section.ensures.0
-      (go_on c.in_ok-section.was (exit q.result c.in_err-ask.was q.ensures.1 ∙ c.ask.ensures ∙ ap (λ (s : List ℕ). ask (question (eqb (length s) c.args.length) 12 0 ∷ [])) x)),
+          (go_on c.in_ok-section.was (exit q.result c.in_err-ask.was q.ensures.1 ∙ c.ask.ensures ∙ ap (λ (s : List ℕ). ask (question (eqb (length s) c.args.length) 12 0 ∷ [])) x)),
       c.next_section.ensures.1,
       rw p.1 tt,
     )
@@ -38,7 +38,7 @@ returns c =
     let r = c.args.self.now in
     let x = IfOk-at_ok (λ section. section.now ≡ bytes_at r.proof.now r.at) c.in_ok-section.was c.next_section.ensures.2 in (
       then_length c.args.length r.proof.now r.at c.next_section.ensures.0
-      (go_on c.in_ok-section.was (c.in_ok-ask.ensures ∙ ap (λ (s : List ℕ). ask (question (eqb (length s) c.args.length) 12 0 ∷ [])) x)),
+          (go_on c.in_ok-section.was (c.in_ok-ask.ensures ∙ ap (λ (s : List ℕ). ask (question (eqb (length s) c.args.length) 12 0 ∷ [])) x)),
       c.next_section.ensures.1,
       x,
     )

@@ -2,11 +2,8 @@
 -- Assumes nothing.
 use mathlib.Core.Path.{ap, ◌∙◌}
 use Rattle.std.proofs.lemmas.Result.{err_from_is_err_and}
-use Rattle.format.specs.Verdict.{told}
 use Rattle.format.proofs.AskLaws.{exit}
 use Rattle.sections.proofs.ReaderLaws.{stays}
-use Rattle.sections.specs.Taking.{bytes_at}
-use Rattle.sections.specs.declared.reader.Reader.{Reader}
 use Rattle.sections.proofs.reader.Reader.next_section.Goals as goal
 
 pub returns-in_err-start : goal.returns-in_err-start

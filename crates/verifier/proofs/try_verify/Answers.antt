@@ -1,4 +1,4 @@
--- `verifier::ask_all` meets its contract: a refusal on the key, the other inputs or the proof is its answer, and else
+-- `verifier::try_verify` meets its contract: a refusal on the key, the other inputs or the proof is its answer, and else
 -- the two checks give it.
 -- Assumes nothing.
 use mathlib.Core.Path.{refl, sym, ap, ◌∙◌, subst}
@@ -10,7 +10,7 @@ use Rattle.format.proofs.AskLaws.{go_on, stop_at}
 use Rattle.questions.proofs.KeyLaws.{key-sized}
 use Rattle.verifier.specs.Given.{VerifyFacts, check_questions}
 use Rattle.verifier.proofs.GivenLaws.{verify-facts, all_asked}
-use Rattle.verifier.proofs.ask_all.Goals as goal
+use Rattle.verifier.proofs.try_verify.Goals as goal
 
 pub key_form-requires : goal.key_form-requires
 key_form-requires c = c.sizes_of-s.ensures.0
