@@ -1,17 +1,8 @@
-// Byte strings copied, and their spare bits cleared.
+// The spare bits of byte strings, cleared.
 ghost use Rattle.std.specs.Prelude.{◌≡◌, ℕ, ◌*◌, ◌<◌, ◌≤◌, length};
 ghost use Rattle.protocol.specs.Strings.{bytes_for, bit};
 
 use super::BITS;
-
-// TO GO
-// dst becomes src.
-pub fn copy_into(dst: &mut [u8], src: &[u8])
-    requires { length src.now ≡ length dst.old }
-    ensures { dst.new ≡ src.now }
-{
-    dst.copy_from_slice(src);
-}
 
 // Makes the spare bits of a string of n coordinates 0, by a mask: n alone decides whether there are any.
 pub fn clear_spare(s: &mut [u8], n: usize)

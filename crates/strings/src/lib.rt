@@ -56,14 +56,6 @@ pub fn xor_of(dst: &mut [u8], a: &[u8], b: &[u8])
     }
 }
 
-// TO GO
-// Each byte is 0.
-pub fn clear(dst: &mut [u8])
-    ensures { (i : ℕ) → i < length dst.old → byte_at dst.new i ≡ 0 }
-{
-    dst.fill(0);
-}
-
 // Row i of a table, as that part of it.
 pub fn row_at(table: &[u8], width: usize, i: usize) -> &[u8]
     requires { i * width + width ≤ length table.now }
@@ -110,34 +102,10 @@ pub fn xor_bit(s: &mut [u8], c: usize, q: u8)
     s[c / BITS] ^= q << (c % BITS);
 }
 
-// TO GO
-// A byte as an index.
-pub fn wide(x: u8) -> usize
-    ensures { (result ≡ x) × (result < 256) }
-{
-    usize::from(x)
-}
-
-// TO GO
-// A byte as a word.
-pub fn word(x: u8) -> u64
-    ensures { (result ≡ x) × (result < 256) }
-{
-    u64::from(x)
-}
-
 // Eight bytes as one number, lowest first: one load.
 pub fn word_at(s: &[u8], at: usize) -> u64
     requires { at + 8 ≤ length s.now }
     ensures { result ≡ word_of s.now at 8 }
 {
     u64::from_le_bytes(*s[at..].first_chunk::<WORD>().unwrap())
-}
-
-// TO GO
-// The lesser of two numbers.
-pub fn least(a: usize, b: usize) -> usize
-    ensures { (result ≤ a) × (result ≤ b) × ((result < a) → result ≡ b) }
-{
-    a.min(b)
 }
