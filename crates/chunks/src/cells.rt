@@ -2,9 +2,6 @@
 ghost use Rattle.std.specs.Prelude.{◌≡◌, ℕ, ◌+◌, ◌*◌, ◌<◌, ◌≤◌, length};
 ghost use Rattle.strings.specs.Sums.{byte_at};
 ghost use Rattle.strings.specs.Rows.{RowsKept};
-ghost use Rattle.chunks.specs.Chunks.{chunk};
-
-use super::CHUNK;
 
 // The first bytes of dst become those of src from `from` on. A loop, and not copy_from_slice, here and below: that asks
 // at run time whether the two overlap, so that what is copied leaves the registers, and the leaf sums take a tenth more.
@@ -37,15 +34,5 @@ pub fn copy_apart(dst: &mut [u8], count: usize, w: usize, src: &[u8], from: usiz
 {
     for z in 0..count {
         copy_part(dst, z, w, src, from + z * width);
-    }
-}
-
-pub fn copy_chunk(out: &mut [u8], src: &[u8; CHUNK])
-    requires { length out.old ≡ chunk }
-    ensures { (e : ℕ) → e < chunk → byte_at out.new e ≡ byte_at src.now e }
-{
-    // TO GO
-    for e in 0..CHUNK {
-        out[e] = src[e];
     }
 }

@@ -7,6 +7,7 @@ ghost use Rattle.strings.specs.Rows.{RowsKept};
 ghost use Rattle.chunks.specs.Chunks.{chunk, cell_at};
 ghost use Rattle.forms_choices.specs.Entries.{fives, most_sums, Tabled, five, word_byte, looked_up, InWords};
 
+use chunks::cells::{copy_front, copy_part};
 use chunks::subsets::fill_group;
 use chunks::{CHUNK, PAIR};
 use forms_choices::fives::ROW_WORDS;
@@ -17,15 +18,6 @@ const FIVE: usize = 5;
 
 // The entries of the table of sums for five rows, one for each value of five bits.
 pub const ENTRIES: usize = 32;
-
-fn store(sums: &mut [u8], k: usize, src: &[u8; CHUNK])
-    requires { k * chunk + chunk ≤ length sums.old }
-    ensures by_index { (f : ℕ) → f < chunk → cell_at sums.new k f ≡ byte_at src.now f }
-    ensures rows_kept { RowsKept chunk k sums.old sums.new }
-{
-    let at = k * CHUNK;
-    chunks::cells::copy_chunk(&mut sums[at..at + CHUNK], src);
-}
 
 // The table of sums of the n rows, 32 entries for each five of them. Made once, it serves every plane of every
 // repetition.
@@ -121,8 +113,8 @@ pub fn look_up_two(out: &mut [u8; PAIR], words: &[u64], r: usize, groups: usize,
         groups,
         sums,
     );
-    store(out, 0, &first);
-    store(out, 1, &second);
+    copy_part(out, 0, CHUNK, &first, 0);
+    copy_part(out, 1, CHUNK, &second, 0);
 }
 
 // dst[f] ^= sums[f] for a chunk. As the first entry is 0 this changes nothing; but it is an access to the start of two
@@ -162,5 +154,5 @@ pub fn look_up(out: &mut [u8], words: &[u64], r: usize, groups: usize, sums: &[u
     if groups > 30 {
         add_word::<2>(&mut sum, words[at + 3], sums, 3);
     }
-    chunks::cells::copy_chunk(out, &sum);
+    copy_front(out, &sum, 0, CHUNK);
 }

@@ -1,6 +1,7 @@
 -- `forms_sums::sums::look_up` meets its contract. The invariant: the entries that the words below k choose are added.
 -- Assumes nothing.
 use Rattle.std.proofs.Common.{ℕ, List, ◌≡◌, ◌+◌, ◌*◌, ◌/◌, ◌-◌, sym, ap, ◌∙◌, arith}
+use Rattle.std.proofs.Math.Nat.{zero-add}
 use lib.ListN.{get_or-replicate}
 use lib.Bits.{bit_xor, xor_zero_r}
 use Rattle.strings.specs.Sums.{byte_at, xor_sum}
@@ -41,6 +42,6 @@ returns c f h =
           let none : a.groups - 30 ≡ 0 = omega (arith, low) in
           rw none (ap (λ (s : List ℕ). byte_at s f) w.sum-is ∙ sym (xor_zero_r _))
     ] in
-    c.copy_chunk.ensures f h ∙ last
+    (simp zero-add at (c.copy_front.ensures.by_index f h)) ∙ last
     ∙ ap (λ (x : ℕ). bit_xor x (word_byte S 3 (a.groups - 30) (byte_at W (a.r * 4 + 3)) f)) whole
     ∙ sym (looked_last S W a.r a.groups f c.requires.2)

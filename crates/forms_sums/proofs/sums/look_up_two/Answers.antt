@@ -4,6 +4,7 @@
 use Prim.Native.Nat.{ℕ, ◌+◌, ◌*◌, ◌/◌, ◌-◌}
 use mathlib.Core.Path.{◌≡◌, sym, ap, ap₂, ◌∙◌}
 use native.Mathlib.Omega.{arith}
+use Rattle.std.proofs.Math.Nat.{zero-add}
 use lib.ListN.{get_or-replicate}
 use lib.Bits.{bit_xor}
 use Rattle.strings.specs.Sums.{byte_at, xor_sum}
@@ -39,12 +40,12 @@ returns c =
     let end : l.k ≡ a.groups / 10 = omega arith in
     let at : a.r * 4 + 4 + 3 ≡ (a.r + 1) * 4 + 3 = omega arith in record {
       by_index = (λ f h.
-          c.store-2.ensures.rows_kept 0 f (λ e. omega arith) h ∙ c.store.ensures.by_index f h
+          c.copy_part-2.ensures.rows_kept 0 f (λ e. omega arith) h ∙ c.copy_part.ensures.by_index f h ∙ ap (byte_at c.add_last.new.first) (zero-add f)
           ∙ done.ensures.by_index f h
           ∙ ap (λ (x : ℕ). bit_xor x (word_byte S 3 (a.groups - 30) (byte_at W (a.r * 4 + 3)) f)) ((rw end at l.invariant.0) f h)
           ∙ sym (looked_last S W a.r a.groups f c.requires.1));
       by_index_2 = (λ f h.
-          c.store-2.ensures.by_index f h
+          c.copy_part-2.ensures.by_index f h ∙ ap (byte_at c.add_last.new.second) (zero-add f)
           ∙ done.ensures.by_index_2 f h
           ∙ ap₂ (λ (x y : ℕ). bit_xor x (word_byte S 3 (a.groups - 30) (byte_at W y) f)) ((rw end at l.invariant.1) f h) at
           ∙ sym (looked_last S W (a.r + 1) a.groups f c.requires.1));
