@@ -1,6 +1,7 @@
 -- `verifier_product::check_product` meets its contract: the space begins with the K_e, the vectors are taken from
 -- it before it is lent as cells, and the left sides are those of the product check.
 -- Assumes nothing.
+use borrow.Author.Rules.{rules}
 use Prim.Native.Nat.{ℕ, ◌*◌, ◌<◌}
 use mathlib.Core.Path.{sym, ap, ap₂, ◌∙◌}
 use mathlib.Core.List.{List}
@@ -56,7 +57,7 @@ pub fill_vectors-requires : goal.fill_vectors-requires
 fill_vectors-requires c =
     let shape = shape_for c.args.s in
     let b = in-limits shape c.requires.key_facts.0.in-range in
-    (omega (arith, c.add_difference.auto.table, c.requires.batching_len.1.0, variables_fit (setting_for c.args.s) shape), b.n_most, b.τ_most, omega (arith, b.τ_most))
+    (omega (arith, c.add_difference.auto.table, c.requires.batching_len.1.0, variables_fit (setting_for c.args.s) shape), b.n_most, b.τ_most)
 
 pub section_b-requires : goal.section_b-requires
 section_b-requires c = sized c.requires.key_facts.0
@@ -76,7 +77,7 @@ product_lanes-requires c =
         c.requires.batching_len.0,
       );
       rooms = (
-        c.fill_vectors.auto.vectors,
+        search rules,
         c.fill_vectors.ensures.vectors_end,
         omega (arith, c.add_difference.auto.table, c.requires.batching_len.1.1),
         vectors_narrow c.args.s.degree c.args.s.n c.args.s.tau c.add_difference.new.table c.fill_vectors.new.vectors
