@@ -144,6 +144,9 @@ variants_of_code() {
          inside && /^}/ { exit }
          inside && /^    [A-Z]/ { sub(/,/, ""); print ++count, $1 }' "$1"
 }
+numbers_of_enum() {
+    sed -nE 's/^    ([A-Z][A-Za-z]+) = ([0-9]+),$/\2 \1/p' "$1"
+}
 numbers_of_specs() {
     sed -nE 's/^number_for ([A-Za-z]+) = ([0-9]+)$/\2 \1/p' "$1"
 }
@@ -199,7 +202,7 @@ same() {
         held constants constants_of_page $page && held variants variants_of_wrapper $wrapper/refusal.rs &&
         held variants published_by_wrapper $wrapper/refusal.rs && held variants numbers_of_code $wrapper/refusal.rs &&
         held texts texts_of_wrapper $wrapper/refusal.rs && held variants variants_of_code $format/src/lib.rt &&
-        held variants numbers_of_code $format/src/lib.rt && held variants numbers_of_specs $format/specs/Verdict.antt &&
+        held variants numbers_of_enum $format/src/lib.rt && held variants numbers_of_specs $format/specs/Verdict.antt &&
         calls calls_of_header $header && calls calls_of_page $page && calls calls_of_list $list &&
         calls calls_of_wrapper $wrapper/calls.rs && calls calls_of_vectors tests/vectors.c || return
     [ ! -f $helpers ] || held messages messages_of_helpers $helpers
@@ -242,7 +245,7 @@ other "a number of the wrapper" $wrapper/refusal.rs 's/Reason::KeyLength => 3,/R
 other "the order of the published reasons" $wrapper/refusal.rs '/^const PUBLISHED/,/^];/s/KeyLength/KeySpareBit/'
 other "a comment's number in the wrapper" $wrapper/refusal.rs 's|/// 6: |/// 7: |'
 other "the numbers of a call of the wrapper" $wrapper/calls.rs 's/Refusals 1 to 4, 9, 11/Refusals 1 to 4, 9/'
-other "a number of the code" $format/src/lib.rt 's/Reason::LeafLength => 7,/Reason::LeafLength => 8,/'
+other "a number of the code" $format/src/lib.rt 's/^    LeafLength = 7,/    LeafLength = 8,/'
 other "a number of the specification" $format/specs/Verdict.antt 's/^\(number_for Inconsistent\) = 14/\1 = 15/'
 other "the numbers of a call in vectors.c" tests/vectors.c '/{ "commit", call_commit/s/BITS(7, 11)/BITS(7, 10)/'
 [ ! -f $helpers ] || other "a message for C" $helpers 's/"consistency does not hold"/"consistency holds"/'

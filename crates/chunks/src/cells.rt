@@ -4,7 +4,7 @@ ghost use Rattle.strings.specs.Sums.{byte_at};
 ghost use Rattle.strings.specs.Rows.{RowsKept};
 
 // The first bytes of dst become those of src from `from` on. A loop, and not copy_from_slice, here and below: that asks
-// at run time whether the two overlap, so that what is copied leaves the registers, and the leaf sums take a tenth more.
+// at run time whether the two overlap, so that what is copied leaves the registers: leaf sums take a tenth more.
 pub fn copy_front(dst: &mut [u8], src: &[u8], from: usize, len: usize)
     requires { (len ≤ length dst.old) × (from + len ≤ length src.now) }
     ensures by_index { (f : ℕ) → f < len → byte_at dst.new f ≡ byte_at src.now (from + f) }

@@ -105,6 +105,7 @@ fn batch_block(
     let f = k.forms;
     let groups = groups_for(k.count);
     let width = f.n.div_ceil(BITS);
+    // No heap: room for the largest key, of which the front is used.
     let mut words = [0u64; WORDS];
     let mut lines = [0u8; LINES];
     fill_words(&mut words, chi, f.m, k.from, k.count, f.tau);

@@ -154,6 +154,7 @@ pub fn add_forms(
         ≡ bit_xor (bit_xor (byte_at mid.old e) (polar_sum s.degree s.n s.width s.m a.now χ e (byte_at xs.now) (coordinate_of vectors.now e)))
         (line_form s.degree s.n lines.old s.m χ e (coordinate_of vectors.now e)) }
 {
+    // No heap: room for the largest key, of which the front is used.
     let mut sums = [0u8; SUMS];
     let mut bits = [0u8; MOST_VARIABLES];
     let mut stacks = [0u8; LANES * STACK];
@@ -163,6 +164,7 @@ pub fn add_forms(
         top: 0,
         p: 0,
     };
+    // A walk and no count: how far a turn goes is the piece's to say.
     while place.first * SIXTEEN < s.n {
         let piece = place.piece(s.n);
         load(cells, &mut sums, a, s.n, s.width, s.m, piece, place.p);

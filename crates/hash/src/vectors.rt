@@ -124,6 +124,7 @@ pub fn hash_all(out: &mut [u8], matrix: &[u8], table: &[u8], s: Sizes)
 {
     let k = format::sizes::hashed_bits(s);
     let width = format::sizes::bytes_for(k);
+    // No heap: room for the largest block, of which the front is used.
     let mut entries = [0u8; BLOCK * PER_BYTE * LANES];
     for g in 0..width.div_ceil(BLOCK) {
         let from = g * BLOCK;

@@ -17,8 +17,8 @@ use sections::outputs::{commit_bytes, hash_bytes};
 use steps::{batch_into, commit_into, hash_into};
 use strings::BITS;
 
-// Room for the largest key: the table of the v_e, and the u_e. The steps that batch put the table at the front of the
-// cells, which need more room and are made when the table has served.
+// No heap: room for the largest key, of which the front is used. The table of the v_e, and the u_e. The steps that
+// batch put the table at the front of the cells, which need more room and are made when the table has served.
 const TABLE_ROOM: usize = BITS * MOST_LEAF * LANES;
 
 const SUMS_ROOM: usize = LANES * MOST_LEAF;

@@ -36,6 +36,7 @@ pub fn solved(key: &[u8], witness: &[u8], s: Sizes) -> Result<(), Refusal>
     ensures { told result ≡ ask (q11 (alphabet_for s) (shape_of key.now) key.now witness.now ∷ []) }
 {
     let m = s.m;
+    // No heap: room for the largest key, of which the front is used.
     let mut errors = [0u8; MOST_EQUATIONS];
     test_equations(&mut errors[..m], key, witness, s)
 }

@@ -126,6 +126,7 @@ pub fn load_trees(table: &mut [u8], sums: &mut [u8], leaves: &[u8], tau: usize, 
     ensures sums_are { SumsAre sums.new leaves.now tau w (2 ^ r) }
     ensures table_is { TableIs table.new leaves.now tau w (2 ^ r) }
 {
+    // No heap: room for the largest key, of which the front is used.
     let mut planes = [0u8; BITS * MOST_LEAF];
     for e in 0..tau {
         load_row(table, sums, &mut planes[..BITS * w], leaves, e, w, r);

@@ -61,6 +61,7 @@ pub fn load_opened(
     ensures { OpenedTableIs table.new opened.now delta.now corrections.now tau w (2 ^ r) }
 {
     let len = (leaves_of(r) - 1) * w;
+    // No heap: room for the largest key, of which the front is used.
     let mut u = [0u8; MOST_LEAF];
     let mut planes = [0u8; BITS * MOST_LEAF];
     for e in 0..tau {

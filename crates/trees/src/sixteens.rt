@@ -21,8 +21,8 @@ use strings::{SIXTEEN, add_at, xor_row};
 // A row for each plane, and one.
 pub const HELD: usize = (Gf256::DEGREE + 1) * SIXTEEN;
 
-// out[from + i] = sum[i], for each i. A loop, and not copy_from_slice: that asks at run time whether the two overlap, so
-// that sum leaves its register, and the leaf sums take 2 to 3 % more.
+// out[from + i] = sum[i], for each i. A loop, and not copy_from_slice: that asks at run time whether the two overlap,
+// so that sum leaves its register, and the leaf sums take 2 to 3 % more.
 fn put_sixteen(out: &mut [u8], from: usize, sum: &[u8; SIXTEEN])
     requires { from + 16 ≤ length out.old }
     ensures by_index { (i : ℕ) → i < 16 → byte_at out.new (from + i) ≡ byte_at sum.now i }

@@ -25,8 +25,8 @@ use strings::BITS;
 use verifier_consistency::check_consistency;
 use verifier_product::check_product;
 
-// The space of a call: it is first the table of the W_e, and then the cells of the forms. These are longer than the
-// longest table.
+// The space of a call, for the largest key, since there is no heap. It is first the table of the W_e, and then the
+// cells of the forms. These are longer than the longest table.
 const SPACE: usize = CELLS;
 
 // Questions 14 and 15, in that space.

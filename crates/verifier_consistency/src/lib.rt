@@ -74,6 +74,7 @@ fn first_inconsistent(hashed: &[u8], v: &[u8], u: &[u8], delta: &[u8], t: usize)
     requires { RowsOf delta.now t hashed.now v.now × (t ≤ most_hash_rows) × (t ≤ length u.now * 8) }
     ensures { FirstInRows hashed.now v.now u.now delta.now t result }
 {
+    // No heap: room for the largest key, of which the front is used.
     let mut masks = [0u8; MOST_HASH_ROWS];
     first_masked(&mut masks[..t], hashed, v, u, delta, t)
 }
@@ -114,6 +115,7 @@ pub fn check_consistency<'a>(
 {
     let tau = s.tau;
     let t = s.t;
+    // No heap: room for the largest key, of which the front is used.
     let mut hashed = [0u8; LANES * MOST_HASH_ROWS];
     check_hashed(&mut hashed[..tau * t], table, matrix, delta, proof, s)
 }
