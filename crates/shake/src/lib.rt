@@ -30,7 +30,8 @@ const LAST_BIT: u64 = 0x80;
 impl Shake {
     // The state before any byte.
     pub fn new() -> Shake
-        ensures { held result ≡ fresh }
+        ensures state { held result ≡ fresh }
+        ensures inside { result.absorbed < rate }
     {
         Shake {
             lanes: [0; 25],
@@ -40,10 +41,12 @@ impl Shake {
 
     // The state after the bytes of a piece.
     pub fn absorb(self, piece: &[u8]) -> Shake
-        ensures { held result ≡ absorbed (held self) piece.now }
+        ensures state { held result ≡ absorbed (held self) piece.now }
+        ensures inside { result.absorbed < rate }
     {
         let mut lanes = self.lanes;
-        let mut at = self.absorbed;
+        let mut at = self.absorbed % RATE;
+        // How far a turn goes is computed: up to the end of a block.
         let mut rest = piece;
         while !rest.is_empty() {
             let (part, left) = rest.split_at((RATE - at).min(rest.len()));
@@ -59,10 +62,11 @@ impl Shake {
 
     // The state after the padding: its bytes are the output.
     pub fn finish(self) -> Shake
-        ensures { held result ≡ finished (held self) }
+        ensures state { held result ≡ finished (held self) }
+        ensures inside { result.absorbed < rate }
     {
         let mut lanes = self.lanes;
-        pad(&mut lanes, self.absorbed);
+        pad(&mut lanes, self.absorbed % RATE);
         permute(&mut lanes);
         Shake { lanes, absorbed: 0 }
     }
@@ -71,9 +75,10 @@ impl Shake {
     pub fn squeeze(self, out: &mut [u8]) -> Shake
         ensures bytes { out.new ≡ given (held self) (length out.old) }
         ensures state { held result ≡ after (held self) (length out.old) }
+        ensures inside { result.absorbed < rate }
     {
         let mut lanes = self.lanes;
-        let mut at = self.absorbed;
+        let mut at = self.absorbed % RATE;
         // By an index, since its step is computed, and each part is lent for its turn alone.
         let mut i = 0;
         while i < out.len() {

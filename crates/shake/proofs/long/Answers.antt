@@ -9,4 +9,4 @@ pub returns : goal.returns
 returns c =
     let m = c.args.input.now in
     let n = length c.args.out.now in
-    c.squeeze.ensures.bytes ∙ ap (λ h. given h n) (c.finish.ensures ∙ ap finished (c.absorb.ensures ∙ ap (λ h. absorbed h m) c.new.ensures)) ∙ shake_is m n
+    c.squeeze.ensures.bytes ∙ ap (λ h. given h n) (c.finish.ensures.state ∙ ap finished (c.absorb.ensures.state ∙ ap (λ h. absorbed h m) c.new.ensures.state)) ∙ shake_is m n

@@ -1,6 +1,6 @@
 -- `shake::Shake::absorb` meets its contract. What is left to absorb, absorbed by the state as it stands, gives the result.
 -- Assumes nothing.
-use Rattle.std.proofs.Common.{◌≡◌, ◌+◌, ◌≤◌, [], length, sym, ap, ◌∙◌, arith}
+use Rattle.std.proofs.Common.{◌≡◌, ◌+◌, ◌%◌, ◌≤◌, [], length, sym, ap, ◌∙◌, arith}
 use Rattle.std.proofs.lemmas.Grind.{common_steps}
 use Rattle.sponge.specs.Sponge.{rate, added_all}
 use Rattle.shake.specs.Pieces.{settled, absorbed}
@@ -24,4 +24,8 @@ unfolding absorbed
 returns c =
     let l = c.loop-rest in
     let none : l.rest.now ≡ [] = grind (arith, common_steps) in
-    ap (absorbed (l.lanes, l.at)) (sym none) ∙ l.invariant.same
+    let place : l.at % rate ≡ l.at = omega (arith, l.invariant.inside) in
+    record {
+      state = ap (λ k. (l.lanes, k)) place ∙ ap (absorbed (l.lanes, l.at)) (sym none) ∙ l.invariant.same;
+      inside = l.invariant.inside;
+    }

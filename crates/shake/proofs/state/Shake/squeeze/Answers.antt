@@ -1,7 +1,7 @@
 -- `shake::Shake::squeeze` meets its contract. The bytes passed are the first of those to give, and the state is the one
 -- after them.
 -- Assumes nothing.
-use Rattle.std.proofs.Common.{◌≡◌, ◌+◌, ◌-◌, ◌≤◌, ◌++◌, length, refl, sym, ap, ◌∙◌, rules, arith}
+use Rattle.std.proofs.Common.{◌≡◌, ◌+◌, ◌%◌, ◌-◌, ◌≤◌, ◌++◌, length, refl, sym, ap, ◌∙◌, rules, arith}
 use mathlib.Core.Path.{ap₂}
 use lib.ListN.{take, drop, length-take, length-drop}
 use lib.Seq.{take_all}
@@ -44,7 +44,9 @@ returns c =
     let l = c.loop-i in
     let h = held c.args.self in
     let end : l.i ≡ length c.args.out.now = omega arith in
+    let place : l.at % rate ≡ l.at = omega (arith, l.invariant.inside) in
     record {
       bytes = sym (take_all l.i l.out (omega arith)) ∙ l.invariant.bytes ∙ ap (given h) end;
-      state = l.invariant.state ∙ ap (after h) end;
+      state = ap (λ k. (l.lanes, k)) place ∙ l.invariant.state ∙ ap (after h) end;
+      inside = l.invariant.inside;
     }
