@@ -31,4 +31,22 @@ done
 "$work/shake" "$nist/SHAKE256ShortMsg.rsp" "$nist/SHAKE256LongMsg.rsp" "$nist/SHAKE256VariableOut.rsp" \
     "$nist/SHAKE256Monte.rsp"
 
-echo "each of 4 changed bytes was found"
+# one_round FOLDER: whether the round stands once in the crate's sources, is called in both its instances, and nowhere
+# asks which of the two it is.
+one_round() {
+    [ "$(cat "$1"/*.rt | grep -cE '^ *(pub(\([a-z]+\))? )?(const )?fn round\b')" = 1 ] &&
+        [ "$(grep -cE '(^|[^:_[:alnum:]])round::<true>\(' "$1/lib.rt")" = 1 ] &&
+        [ "$(grep -cE '(^|[^:_[:alnum:]])round::<false>\(' "$1/lib.rt")" = 1 ] &&
+        [ "$(cat "$1"/*.rt | grep -v '^ *//' | grep -c '\bODD\b')" = 1 ]
+}
+keccak=crates/keccak/src
+one_round $keccak || { echo "the two rounds of keccak are not one function" >&2 && exit 1; }
+for slip in 's/^    let d = effects(a);/    let d = if ODD { effects(a) } else { effects(a) };/' \
+    's/round::<true>(/round::<false>(/' 's/ round::<true>(/ odd::round::<true>(/'; do
+    rm -rf "$work/keccak" && cp -r $keccak "$work/keccak"
+    sed "$slip" $keccak/lib.rt >"$work/keccak/lib.rt"
+    ! cmp -s $keccak/lib.rt "$work/keccak/lib.rt" || { echo "nothing was changed in keccak" >&2 && exit 1; }
+    ! one_round "$work/keccak" || { echo "not found out: $slip" >&2 && exit 1; }
+done
+rm -rf "$work/keccak"
+echo "the two rounds of keccak are one function; each of 4 changed bytes and of 3 slips was found"

@@ -33,11 +33,11 @@ enough zero g x h k = absurd (omega arith)
 enough (suc f) zero x h k = absurd (omega arith)
 enough (suc f) (suc g) x h k = enough-step f g x (dec_le 10 x) (λ l. enough f g (x / 10) (omega arith) (omega arith))
 
-decimal-one : (x : ℕ) → x < 10 → decimal x ≡ (48 + x) ∷ []
+pub decimal-one : (x : ℕ) → x < 10 → decimal x ≡ (48 + x) ∷ []
 unfolding decimal
 decimal-one x h = digits-one x x h
 
-decimal_more : (x : ℕ) → 10 ≤ x → decimal x ≡ decimal (x / 10) ++ ((48 + x % 10) ∷ [])
+pub decimal_more : (x : ℕ) → 10 ≤ x → decimal x ≡ decimal (x / 10) ++ ((48 + x % 10) ∷ [])
 unfolding decimal
 decimal_more x h = digits_more x x h ∙ ap (λ l. l ++ ((48 + x % 10) ∷ [])) (enough x (suc (x / 10)) (x / 10) (omega arith) (omega arith))
 

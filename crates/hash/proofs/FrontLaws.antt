@@ -4,8 +4,10 @@
 use mathlib.Core.Path.{◌≡◌, refl, sym, ap, ap₂, ◌∙◌}
 use mathlib.Core.List.{List}
 use Prim.Native.Nat.{ℕ, zero, suc, ◌+◌, ◌*◌, ◌/◌, ◌%◌, ◌≤◌, ◌<◌}
+use native.Mathlib.Decide.{dec_lt}
 use native.Mathlib.Omega.{arith}
 use lib.Bits.{bit_xor, xor_zero_l}
+use lib.Dec.{lit<}
 use lib.ListN.{drop}
 use lib.Seq.{get_or-take, get_or-drop}
 use Rattle.protocol.specs.Lists.{part, block_at}
@@ -18,7 +20,7 @@ use Rattle.strings.proofs.Rows.{row-byte}
 use Rattle.strings.proofs.SumLaws.{sum_same, sum_parts, xor_swap}
 use Rattle.strings.proofs.Meaning.{bit_is}
 use Rattle.lanes.specs.Lanes.{lanes, lane_at}
-use Rattle.hash.specs.Hashed.{front_lane}
+use Rattle.hash.specs.Hashed.{block, front_lane}
 
 pub front-none : (H' T : List ℕ) (width k ρ e : ℕ) → front_lane H' width k T 0 ρ e ≡ lane_at T (k + ρ) e
 unfolding xor_sum
@@ -30,7 +32,15 @@ pub front_start : (H' T : List ℕ) (width k from ρ e v : ℕ) → (from ≡ 0 
 front_start H' T width k zero ρ e v first later = first refl ∙ sym (front-none H' T width k ρ e)
 front_start H' T width k (suc n) ρ e v first later = later (omega arith)
 
--- there is a byte in each row of H'
+-- there is a byte in each block
+pub block-some : (n x : ℕ) → 0 < n → x ≤ n → (x < n → x ≡ block) → 0 < x
+block-some n x pos le full = go (dec_lt x n)
+  where
+    go : Dec (x < n) → 0 < x
+    go (yes lt) = rw (full lt) (lit< tt)
+    go (no ge) = omega arith
+
+-- and in each row of H'
 pub row-some : (g : Setting) (s : Shape) → 1 ≤ s.n → 0 < bytes_for (k_of (alphabet_of g) s)
 unfolding bytes_for k_of
 row-some g s h = omega arith

@@ -157,6 +157,10 @@ pub flips-twice : (m : List Bool) (a : List ℕ) → flips m (flips m a) ≡ sta
 unfolding flips
 flips-twice m a = state_same _ _ (λ x y. ap (flag (named m x y)) (lane-flips m a x y) ∙ flag-twice (named m x y) (lane a x y))
 
+pub flips-length : (m : List Bool) (a : List ℕ) → length (flips m a) ≡ 25
+unfolding flips state_of
+flips-length m a = refl
+
 -- θ, lane by lane
 θ_is : (a : List ℕ) → θ a ≡ state_of (λ x y. bit_xor (lane a x y) (bit_xor (column a (x + 4)) (rotated (column a (x + 1)) 1)))
 unfolding θ with_effects effects listed column state_of lane

@@ -38,6 +38,9 @@ const CONSTANTS: [u64; 24] = [
     0x8000000080008008,
 ];
 
+// A lane of ones: what is added to it has each bit changed.
+pub const ONES: u64 = 0xffff_ffff_ffff_ffff;
+
 // Changes the lanes that are held changed between the rounds.
 fn flip(a: [u64; 25]) -> [u64; 25]
     ensures { result ≡ flips outer a }

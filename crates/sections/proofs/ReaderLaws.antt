@@ -74,7 +74,7 @@ section-first l ls s at = go (section_at s at) refl
         same (yes m) = follow_next l ls s at a z (sym e) m ∙ sym (ap (λ b. b && framed ls (drop z s)) (eqb_same (length (part s a (z - a))) l (long ∙ m)))
         same (no n) = follow_other l ls s at a z (sym e) n ∙ sym (ap (λ b. b && framed ls (drop z s)) (eqb-other (length (part s a (z - a))) l (λ m. n (sym long ∙ m))))
 
-within : (s : List ℕ) (at : ℕ) → at ≤ length s → next_at s at ≤ length s
+pub within : (s : List ℕ) (at : ℕ) → at ≤ length s → next_at s at ≤ length s
 unfolding next_at
 within s at h = go (section_at s at) refl
   where

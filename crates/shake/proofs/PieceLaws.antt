@@ -5,10 +5,10 @@ use mathlib.Core.Path.{◌≡◌, refl, sym, ap, ap₂, ◌∙◌}
 use mathlib.Core.List.{List, [], ◌∷◌, ◌++◌}
 use Prim.Native.Nat.{ℕ, zero, suc, ◌+◌, ◌*◌, ◌-◌, ◌/◌, ◌%◌, ◌≤◌, ◌<◌}
 use mathlib.Core.Logic.{⊎_elim}
-use native.Mathlib.Nat.{add-zero, eq-or-lt_of_le, le_of_suc-le-suc}
+use native.Mathlib.Nat.{add-zero, eq-or-lt_of_le, le_of_suc-le-suc, mod-eq_of_lt}
 use native.Mathlib.Numerals.{add-one}
 use native.Mathlib.Omega.{arith}
-use lib.ListN.{length, take, drop, length-append, length-drop, take-append-drop}
+use lib.ListN.{length, take, drop, length-append, length-drop, take-append-drop, drop_of_length-le}
 use lib.Seq.{length-take-le, take-append-le, drop-append-le, take_all}
 use borrow.Author.Tests.{eq-eqb, ne_eqb}
 use Rattle.sponge.specs.Keccak.{keccak}
@@ -27,6 +27,9 @@ rest s at h = ap (λ t. either t (keccak s, 0) (s, at)) (ne_eqb at rate h)
 
 pub part : (s : List ℕ) (at : ℕ) → at < rate → settled s at ≡ (s, at)
 part s at h = rest s at (λ e. omega arith)
+
+pub in_block : (s : List ℕ) (at : ℕ) → at < rate → ◌≡◌ {A = Held} (s, at % rate) (s, at)
+in_block s at h = ap (λ k. (s, k)) (mod-eq_of_lt h)
 
 -- absorbing a and then b is absorbing both at once
 pub absorbed-append : (a b : List ℕ) (h : Held) → absorbed h (a ++ b) ≡ absorbed (absorbed h a) b
@@ -137,6 +140,13 @@ settled_lt s at h =
     (λ (l : at < rate). let x : (settled s at).1 ≡ at = ap (λ g. g.1) (part s at l) in omega arith)
     (eq-or-lt_of_le h)
 
+pub settled-length : (s : List ℕ) (at : ℕ) → at ≤ rate → length s ≡ lane_count → length (settled s at).0 ≡ lane_count
+settled-length s at h l =
+    ⊎_elim
+    (λ (e : at ≡ rate). ap (λ g. length g.0) (full s at e) ∙ keccak-length s)
+    (λ (k : at < rate). ap (λ g. length g.0) (part s at k) ∙ l)
+    (eq-or-lt_of_le h)
+
 -- a turn of the loop that absorbs: p, within a block, of what is left
 pub absorbed-step : (p q s : List ℕ) (at : ℕ) → at < rate → at + length p ≤ rate → absorbed (settled (added_all s at p) (at + length p)) q ≡ absorbed (s, at) (p ++ q)
 absorbed-step p q s at h k = ap (λ g. absorbed g q) (sym (absorbed-part p s at h k)) ∙ sym (absorbed-append p q (s, at))
@@ -152,6 +162,10 @@ listed_more (suc n) m f i =
 pub listed_next : (n : ℕ) (f : ℕ → ℕ) (i : ℕ) → listed (n + 1) f i ≡ listed n f i ++ (f (i + n) ∷ [])
 unfolding listed
 listed_next n f i = listed_more n 1 f i
+
+pub none-absorbed : (piece s : List ℕ) (at i : ℕ) → length piece ≤ i → (s, at) ≡ absorbed (s, at) (drop i piece)
+unfolding absorbed
+none-absorbed piece s at i h = ap (absorbed (s, at)) (sym (drop_of_length-le piece h))
 
 -- an input and an output of a block each
 pub short_is : (m : List ℕ) (n : ℕ) → length m < rate → n ≤ rate → listed n (byte_in (keccak (added (added (added_all zero_state 0 m) (length m) suffix) (rate - 1) last_bit))) 0 ≡ shake256 m n

@@ -4,10 +4,11 @@ use mathlib.Core.Path.{◌≡◌, refl, sym, ap, ap₂, ◌∙◌}
 use mathlib.Core.List.{List, [], ◌∷◌}
 use Prim.Native.Nat.{ℕ, zero, suc, ◌+◌, ◌*◌, ◌/◌, ◌%◌, ◌^◌, ◌≤◌, ◌<◌}
 use native.Mathlib.Nat.{le_refl, zero-mul, mod-lt, mod-mod, pow-suc, div-lt_iff_lt-mul}
+use native.Mathlib.Numerals.{add-one}
 use native.Mathlib.Omega.{arith}
 use lib.Arith.{lt-one}
-use lib.Bits.{bit_and, bit_xor, and_shr, and_mod, xor_add_and, xor_mod, xor_shr}
-use lib.Count.{ones, ones_step}
+use lib.Bits.{bit_and, bit_xor, and_shr, and_mod, and_le_l, xor_add_and, xor_mod, xor_shr}
+use lib.Count.{ones, ones_step, ones-le}
 use lib.Dec.{lit<}
 use lib.ListN.{length}
 use Rattle.std.specs.List.{fold, sum_by, zip}
@@ -90,6 +91,18 @@ shared-parity (suc n) row x h =
 
 pub row-product : RowProduct
 row-product row x h l = shared-parity (length row) row x h
+
+-- ---- bounds
+
+pub shared_le : (n : ℕ) (row x : List ℕ) → ((i : ℕ) → byte_at row i < 256) → shared n row x ≤ 8 * n
+unfolding shared
+shared_le zero row x h = omega arith
+shared_le (suc n) row x h =
+    omega (arith, shared_le n row x h, ones-le 8 (bit_and (byte_at row n) (byte_at x n)) (omega (arith, and_le_l (byte_at row n) (byte_at x n), h n)))
+
+pub shared_more : (n : ℕ) (row x : List ℕ) → shared (n + 1) row x ≡ shared n row x + ones (bit_and (byte_at row n) (byte_at x n))
+unfolding shared
+shared_more n row x = rw add-one
 
 -- ---- the same count, taken along the rows
 

@@ -67,6 +67,9 @@ module _ (f a : ℕ → ℕ → ℕ) (r j : ℕ) (u x y u' : ℕ → ℕ) (run :
       ∙ ap (λ z. bit_xor z (bit_of 3 p * y b)) (xor_swap (a p b) (differing j p * u' b) (bit_of 1 p * x b))
       ∙ xor_swap (bit_xor (a p b) (bit_of 1 p * x b)) (differing j p * u' b) (bit_of 3 p * y b))
 
+pub from_front : (l l' s : List ℕ) → ((i : ℕ) → i < 16 → byte_at l' i ≡ bit_xor (byte_at l i) (byte_at s (0 + i))) → (i : ℕ) → i < 16 → byte_at l' i ≡ bit_xor (byte_at l i) (byte_at s i)
+from_front l l' s done i h = let e : 0 + i ≡ i = omega arith in done i h ∙ ap (λ k. bit_xor (byte_at l i) (byte_at s k)) e
+
 -- ---- sums of 0
 
 pub low-none : (a : ℕ → ℕ → ℕ) (x y : ℕ → ℕ) (p b : ℕ) → x b ≡ 0 → y b ≡ 0 → with_low a x y p b ≡ a p b

@@ -1,15 +1,15 @@
--- `strings::word_at` meets its contract.
+-- `strings::word_at` meets its contract: the library's sum of the bytes, each times its worth, is the word.
 -- Assumes nothing.
 use Rattle.std.proofs.Common.{◌≡◌, arith, ap, ◌∙◌}
-use Rattle.std.proofs.lemmas.Grind.{common_steps}
-use Rattle.std.specs.Int.{w64, from_le_bytes}
-use lib.ListN.{take, drop}
-use Rattle.strings.proofs.WordLaws.{word_read}
+use Prim.Native.Nat.{◌+◌}
+use Rattle.strings.specs.Sums.{byte_at}
+use Rattle.strings.specs.Words.{word_of}
 use Rattle.strings.proofs.word_at.Goals as goal
 
 pub returns : goal.returns
+unfolding word_of
 returns c =
-    let s = c.args.s.now in
     let at = c.args.at in
-    let e : c.unwrap.result.now ≡ take 8 (drop at s) = grind (arith, common_steps, c.unwrap.ensures, c.first_chunk.ensures.cases) in
-    c.from_le_bytes.ensures ∙ ap (from_le_bytes w64) e ∙ word_read s at
+    let e : at + 0 ≡ at = omega arith in
+    let first = ap (byte_at c.args.s.now) e in
+    omega (arith, c.from_le_bytes.ensures, first)

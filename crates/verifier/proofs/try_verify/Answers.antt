@@ -7,6 +7,7 @@ use Prim.Native.Nat.{ℕ}
 use Rattle.protocol.specs.Answers.{ask}
 use Rattle.format.specs.Sizes.{alphabet_for, shape_for}
 use Rattle.format.proofs.AskLaws.{go_on, stop_at}
+use Rattle.questions.specs.Facts.{ProofAsked}
 use Rattle.questions.proofs.KeyLaws.{key-sized}
 use Rattle.verifier.specs.Given.{VerifyFacts, check_questions}
 use Rattle.verifier.proofs.GivenLaws.{verify-facts, all_asked}
@@ -51,21 +52,22 @@ pub both_checks-requires : goal.both_checks-requires
 both_checks-requires c =
     let a = c.args in
     let z = c.sizes_of-s.result in
-    let p = c.in_ok-proof in
     let of = c.sizes_of-s.ensures in
     let facts = key-sized c.sizes_of-s.result a.key.now of.0 (sym c.in_ok-key_form.ensures) in
     let e = of.0 facts.header in
-    let given = verify-facts (alphabet_for z) (shape_for z) a.key.now a.delta.now a.matrix.now a.batching.now a.opened.now a.proof.now facts (sym c.in_ok-verify_inputs.ensures) (sym p.ensures.0) in
-    (subst (VerifyFacts (alphabet_for z) (shape_for z) a.key.now a.delta.now a.matrix.now a.batching.now a.opened.now) (sym p.ensures.1.0) given, p.ensures.1.1)
+    let asked = subst (ProofAsked (alphabet_for z) (shape_for z) a.proof.now) c.in_ok-proof.was c.proof_form.ensures in
+    let given = verify-facts (alphabet_for z) (shape_for z) a.key.now a.delta.now a.matrix.now a.batching.now a.opened.now a.proof.now facts (sym c.in_ok-verify_inputs.ensures) (sym asked.0) in
+    (subst (VerifyFacts (alphabet_for z) (shape_for z) a.key.now a.delta.now a.matrix.now a.batching.now a.opened.now) (sym asked.1.0) given, asked.1.1)
 
 pub returns : goal.returns
 returns c =
     let a = c.args in
     let z = c.sizes_of-s.result in
-    let p = c.in_ok-proof in
+    let was = c.in_ok-proof.was in
     let of = c.sizes_of-s.ensures in
     let facts = key-sized c.sizes_of-s.result a.key.now of.0 (sym c.in_ok-key_form.ensures) in
     let e = of.0 facts.header in
-    go_on c.in_ok-key_form.was (go_on c.in_ok-verify_inputs.was (go_on p.was refl))
+    let asked = subst (ProofAsked (alphabet_for z) (shape_for z) a.proof.now) was c.proof_form.ensures in
+    go_on c.in_ok-key_form.was (go_on c.in_ok-verify_inputs.was (go_on was refl))
     ∙ all_asked _ _ a.key.now a.delta.now a.matrix.now a.batching.now a.opened.now a.proof.now of.1 e c.key_form.ensures c.verify_inputs.ensures c.proof_form.ensures.0
-    (c.both_checks.ensures ∙ ap (λ (bytes : List ℕ). ask (check_questions (alphabet_for z) (shape_for z) a.key.now a.delta.now a.matrix.now a.batching.now a.opened.now bytes)) p.ensures.1.0)
+    (c.both_checks.ensures ∙ ap (λ (bytes : List ℕ). ask (check_questions (alphabet_for z) (shape_for z) a.key.now a.delta.now a.matrix.now a.batching.now a.opened.now bytes)) asked.1.0)
