@@ -1,6 +1,7 @@
 #!/bin/sh
 # SHAKE256 as compiled, against all of NIST's vectors that Debian ships: builds the archive of the crate shake_calls (or
-# takes that of SHAKE_CALLS). Controls: in each file one byte of an output is changed, which must be reported.
+# takes that of SHAKE_CALLS). And that the two rounds of keccak are one function. Controls: in each file one byte of an
+# output is changed, and three slips are made in keccak; each must be reported.
 set -eu
 cd "$(dirname "$0")/.."
 . tests/need.sh

@@ -11,8 +11,10 @@ use Rattle.theorems.proofs.AnswerLaws.{ask-none, ask_no, ask_yes, ask-accepts}
 use Rattle.std.specs.Prelude.{Result, Ok, Err}
 use Rattle.std.specs.Result.{IsErrAnd}
 use Rattle.std.proofs.lemmas.Result.{err_from_is_err_and}
-use Rattle.format.specs.Verdict.{and_then, told}
+use Rattle.format.specs.Verdict.{answer_of, and_then, told}
 use Rattle.format.specs.declared.Refusal.{Refusal}
+use Rattle.format.specs.declared.Verdict.{Verdict}
+use Rattle.format.specs.declared.Verdict.TheVariants.{Accepted, Refused}
 
 -- ---- one question
 
@@ -71,7 +73,16 @@ pub stop_at : {T U : Type 0} (a : Answer) {v : Result T Refusal} {f : Refusal} (
 unfolding and_then
 stop_at a r was is = exit r was is ∙ rw was
 
--- the same of lists of questions: those that a `?` has let pass, and those that it leaves with
+-- the same of a verdict
+pub go_on_verdict : {v : Verdict} {r x : Answer} → v ≡ Accepted → r ≡ x → r ≡ and_then (answer_of v) x
+unfolding and_then
+go_on_verdict {x = x} p e = e ∙ ap (λ w. and_then (answer_of w) x) (sym p)
+
+pub stop_at_verdict : (x : Answer) {v : Verdict} {f : Refusal} → v ≡ Refused f → answer_of v ≡ and_then (answer_of v) x
+unfolding and_then
+stop_at_verdict x p = rw p
+
+-- of lists of questions: those that a `?` has let pass, and those that it leaves with
 pub passed : {T : Type 0} (before after : List Question) {v : Result T Refusal} {x : T} {r : Answer} → told v ≡ ask before → v ≡ Ok x → r ≡ ask after → r ≡ ask (before ++ after)
 passed before after h was e = then_ask before after h (go_on was e)
 
@@ -92,3 +103,6 @@ passed_and b c i h e = e ∙ ap (λ d. ask (question (d && c) i 0 ∷ [])) (sym 
 
 pub same_first : {b c : Bool} (i p : ℕ) (qs : List Question) {r : Answer} → b ≡ c → r ≡ ask (question b i p ∷ qs) → r ≡ ask (question c i p ∷ qs)
 same_first i p qs e h = h ∙ ap (λ b. ask (question b i p ∷ qs)) e
+
+pub same_also : {b c : Bool} (i : ℕ) (v : Answer) {r : Answer} → b ≡ c → r ≡ and_then v (ask (question b i 0 ∷ [])) → r ≡ and_then v (ask (question c i 0 ∷ []))
+same_also i v e h = h ∙ ap (λ b. and_then v (ask (question b i 0 ∷ []))) e

@@ -16,6 +16,7 @@ use lib.ListN.{length, get_or, drop, length-take}
 use lib.Pow.{shr-shr, shr_lt}
 use lib.Seq.{take_all}
 use Rattle.algebra.proofs.CountLaws.{and_left, and_right}
+use Rattle.galois.specs.Gf16.{gf16}
 use Rattle.protocol.specs.Lists.{all_below, part, block_at}
 use Rattle.protocol.specs.Strings.{bytes_for, bit, from_bits, spare_zero}
 use Rattle.protocol.specs.Setting.{Setting, alphabet_of}
@@ -152,9 +153,24 @@ rows_are g L rows s h = h
 
 -- ---- bytes that are elements of the smaller field
 
+-- the first i bytes are
+unfoldable pub narrow_to : ℕ → List ℕ → Bool
+narrow_to i s = all_below i (λ k. ltb (get_or s k 0) gf16.base.size)
+
+pub narrow-none : (s : List ℕ) → eqb 0 0 ≡ narrow_to 0 s
+unfolding narrow_to all_below
+narrow-none s = refl
+
 below_sixteen : (x : ℕ) → eqb (x / 16) 0 ≡ ltb x 16
 below_sixteen x = bool_iff _ _ (λ h. let e : x / 16 ≡ 0 = eqb_eq (x / 16) 0 h in ltb_yes x 16 (omega arith)) (λ h. let l : x < 16 = ltb_lt x 16 h in eqb_same (x / 16) 0 (omega arith))
 
+pub narrow_more : (i : ℕ) (s : List ℕ) (found : ℕ) → eqb found 0 ≡ narrow_to i s → eqb (bit_or found (get_or s i 0 / 16)) 0 ≡ narrow_to (i + 1) s
+unfolding narrow_to
+narrow_more i s found h =
+    or-zero found (get_or s i 0 / 16) ∙ ap₂ ◌&&◌ h (below_sixteen (get_or s i 0)) ∙ sym (all_more i (λ k. ltb (get_or s k 0) gf16.base.size))
+    ∙ ap (λ n. all_below n (λ k. ltb (get_or s k 0) gf16.base.size)) (sym (add-one i))
+
+-- and all of them are
 pub narrow-fold : (s : List ℕ) → eqb (fold (λ found x. bit_or found (x / 16)) 0 s) 0 ≡ narrow s
 unfolding narrow
 narrow-fold s =

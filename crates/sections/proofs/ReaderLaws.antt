@@ -3,15 +3,15 @@
 -- answer, the section's length, and what is left.
 -- Assumes nothing.
 use mathlib.Core.Path.{◌≡◌, refl, sym, ap, ◌∙◌}
-use mathlib.Core.Bool.{true, ◌&&◌}
+use mathlib.Core.Bool.{Bool, true, false, ◌&&◌, and_assoc}
 use mathlib.Core.List.{List, [], ◌∷◌}
 use Prim.Native.Nat.{ℕ, zero, suc, ◌+◌, ◌-◌, ◌<◌, ◌≤◌}
 use native.Mathlib.Nat.{add-sub_cancel_left}
 use native.Mathlib.Decide.{ℕ_discrete}
 use native.Mathlib.Omega.{arith}
 use lib.Dec.{eqb, leb}
-use lib.ListN.{length, get_or, take, drop}
-use lib.Seq.{drop-drop, drop-cons}
+use lib.ListN.{length, get_or, set, take, drop}
+use lib.Seq.{drop-drop, drop-cons, get_or-set_same, get_or-set_other}
 use Rattle.algebra.proofs.CountLaws.{and_right}
 use Rattle.protocol.specs.Lists.{part}
 use Rattle.protocol.specs.Frames.{num4, framed, section_no, framed_length}
@@ -20,12 +20,12 @@ use denote.Ref.{Bor}
 use Rattle.std.specs.Prelude.{Result, Ok, Err}
 use Rattle.std.specs.Result.{IsErrAnd}
 use Rattle.std.proofs.lemmas.Result.{IfOk-at_ok}
-use Rattle.protocol.specs.Answers.{Answer, refused, is_accepted, question, ask}
+use Rattle.protocol.specs.Answers.{Answer, accepted, refused, is_accepted, question, ask}
 use Rattle.theorems.proofs.TestLaws.{eqb_same, eqb-other}
 use Rattle.format.specs.Verdict.{and_then, told}
 use Rattle.format.specs.declared.Refusal.{Refusal}
 use Rattle.format.proofs.AskLaws.{refused-not, said_yes, same_first, left_and}
-use Rattle.sections.proofs.SectionLaws.{whole, section_is, follow_missing, follow_other, follow_next, turn_end, length_more, section-end, section-part, length_part, framed-length}
+use Rattle.sections.proofs.SectionLaws.{whole, section_is, and_no, follow_missing, follow_other, follow_next, turn_end, length_more, section-end, section-part, length_part, framed-length}
 use Rattle.sections.specs.Taking.{answer_on, next_on, bytes_on, answer_at, next_at, bytes_at, read_to}
 use Rattle.sections.specs.Moved.{moved_on, has, Takes}
 use Rattle.sections.specs.declared.reader.Reader.{Reader}
@@ -82,14 +82,19 @@ within s at h = go (section_at s at) refl
     go missing e = rw e h
     go (between a z) e = rw e (section_is s at a z e).2
 
--- what the reader says of a section, and then a question on it of the same number
-asked_has : (l : ℕ) (s : List ℕ) (at : ℕ) → and_then (answer_at s at) (ask (question (eqb (length (bytes_at s at)) l) 12 0 ∷ [])) ≡ ask (question (has l s at) 12 0 ∷ [])
-unfolding has answer_at and_then ask
-asked_has l s at = go (section_at s at)
+-- what the reader says of a section, and then a question of the same number
+asked-after : (s : List ℕ) (at : ℕ) (b : Bool) → and_then (answer_at s at) (ask (question b 12 0 ∷ [])) ≡ ask (question (is_accepted (answer_at s at) && b) 12 0 ∷ [])
+unfolding answer_at and_then ask
+asked-after s at b = go (section_at s at)
   where
-    go : (x : Extent) → and_then (answer_on x) (ask (question (eqb (length (bytes_at s at)) l) 12 0 ∷ [])) ≡ ask (question (is_accepted (answer_on x) && eqb (length (bytes_at s at)) l) 12 0 ∷ [])
+    go : (x : Extent) → and_then (answer_on x) (ask (question b 12 0 ∷ [])) ≡ ask (question (is_accepted (answer_on x) && b) 12 0 ∷ [])
     go missing = refl
     go (between a z) = refl
+
+-- and that question is on its length
+asked_has : (l : ℕ) (s : List ℕ) (at : ℕ) → and_then (answer_at s at) (ask (question (eqb (length (bytes_at s at)) l) 12 0 ∷ [])) ≡ ask (question (has l s at) 12 0 ∷ [])
+unfolding has
+asked_has l s at = asked-after s at (eqb (length (bytes_at s at)) l)
 
 pub then_length : (l : ℕ) (s : List ℕ) (at : ℕ) {v r : Answer} → v ≡ answer_at s at → r ≡ and_then v (ask (question (eqb (length (bytes_at s at)) l) 12 0 ∷ [])) → r ≡ ask (question (has l s at) 12 0 ∷ [])
 then_length l s at e f = f ∙ ap (λ v. and_then v (ask (question (eqb (length (bytes_at s at)) l) 12 0 ∷ []))) e ∙ asked_has l s at
@@ -102,6 +107,43 @@ stays s at h = go (section_at s at) h
     go : (x : Extent) {i p : ℕ} → refused i p ≡ answer_on x → at ≡ next_on at x
     go missing h = refl
     go (between a z) h = absurd (refused-not h refl)
+
+refused-stays : (x : Answer) {a : Answer} {n p : ℕ} → refused n p ≡ a → a ≡ and_then a x
+unfolding and_then
+refused-stays x e = sym e ∙ ap (λ a. and_then a x) e
+
+-- a turn of the reader's: from index at on the lengths from i on have to follow
+module _ (ls s : List ℕ) (at i : ℕ) (h : i < length ls) (left : framed ls s ≡ framed (drop i ls) (drop at s)) where
+  l : ℕ
+  l = get_or ls i 0
+
+  others : Bool
+  others = framed (drop (suc i) ls) (drop (next_at s at) s)
+
+  first : framed ls s ≡ (has (get_or ls i 0) s at && framed (drop (suc i) ls) (drop (next_at s at) s))
+  first = left ∙ ap (λ k. framed k (drop at s)) (drop-cons ls i 0 h) ∙ section-first (get_or ls i 0) (drop (suc i) ls) s at
+
+  one_by_one : framed ls s ≡ (is_accepted (answer_at s at) && (eqb (length (bytes_at s at)) l && others))
+  unfolding l others has
+  one_by_one = first ∙ and_assoc (is_accepted (answer_at s at)) (eqb (length (bytes_at s at)) l) others
+
+  -- it leaves with the reader's own refusal
+  pub read_refused : {n p : ℕ} → refused n p ≡ answer_at s at → answer_at s at ≡ ask (question (framed ls s) 12 0 ∷ [])
+  read_refused e =
+      let b = eqb (length (bytes_at s at)) l && others in
+      refused-stays (ask (question b 12 0 ∷ [])) e ∙ asked-after s at b ∙ ap (λ b. ask (question b 12 0 ∷ [])) (sym one_by_one)
+
+  -- a section of another length
+  pub read_other : (length (bytes_at s at) ≡ get_or ls i 0 → ⊥) → framed ls s ≡ false
+  unfolding l
+  read_other n = one_by_one ∙ and_no (is_accepted (answer_at s at)) _ (ap (λ b. b && others) (eqb-other (length (bytes_at s at)) (get_or ls i 0) n))
+
+  -- the reader goes on
+  pub read_next : answer_at s at ≡ accepted → length (bytes_at s at) ≡ get_or ls i 0 → framed ls s ≡ framed (drop (suc i) ls) (drop (next_at s at) s)
+  unfolding l others
+  read_next p e =
+      one_by_one ∙ ap (λ b. b && (eqb (length (bytes_at s at)) (get_or ls i 0) && others)) (ap is_accepted p)
+      ∙ ap (λ b. b && others) (eqb_same (length (bytes_at s at)) (get_or ls i 0) e)
 
 -- of a lent proof, the reader after i sections
 abbrev pub after : Bor (List ℕ) → ℕ → Reader
@@ -120,7 +162,7 @@ none_passed ls p = record { stands = refl; inside = omega arith; follows = refl 
 module _ {ls : List ℕ} {p : Bor (List ℕ)} {i : ℕ} {r : Reader} (h : i < length ls) (was : Passed ls p i r) where
   split : framed ls p.now ≡ (has (get_or ls i 0) p.now (read_to p.now i) && framed (drop (suc i) ls) (drop (read_to p.now (suc i)) p.now))
   unfolding read_to
-  split = was.follows ∙ ap (λ k. framed k (drop (read_to p.now i) p.now)) (drop-cons ls i 0 h) ∙ section-first (get_or ls i 0) (drop (suc i) ls) p.now (read_to p.now i)
+  split = first ls p.now (read_to p.now i) i h was.follows
 
   told_has : {a : Answer} → a ≡ ask (question (has (get_or ls i 0) r.proof.now r.at) 12 0 ∷ []) → a ≡ ask (question (has (get_or ls i 0) p.now (read_to p.now i)) 12 0 ∷ [])
   told_has e = e ∙ ap (λ (x : Reader). ask (question (has (get_or ls i 0) x.proof.now x.at) 12 0 ∷ [])) was.stands
@@ -149,6 +191,14 @@ module _ {ls : List ℕ} {p : Bor (List ℕ)} {i : ℕ} {r : Reader} (h : i < le
 -- after the last
 pub all_passed : {ls : List ℕ} {p : Bor (List ℕ)} {i : ℕ} {r : Reader} → i ≡ length ls → Passed ls p i r → framed ls p.now ≡ eqb r.at (length p.now)
 all_passed {ls} {p} {i} e was = was.follows ∙ turn_end ls p.now (read_to p.now i) i e was.inside ∙ ap (λ (x : Reader). eqb x.at (length p.now)) (sym was.stands)
+
+-- one place more
+pub places_more : (at : List ℕ) (i next : ℕ) (f : ℕ → ℕ) → i < length at → next ≡ f i → ((k : ℕ) → k < i → get_or at k 0 ≡ f k) → (k : ℕ) → k < i + 1 → get_or (set at i next) k 0 ≡ f k
+places_more at i next f room e before k h = go (ℕ_discrete k i)
+  where
+    go : Dec (k ≡ i) → get_or (set at i next) k 0 ≡ f k
+    go (yes s) = ap (λ j. get_or (set at i next) j 0) s ∙ get_or-set_same at i next 0 room ∙ e ∙ ap f (sym s)
+    go (no n) = get_or-set_other at i k next 0 n ∙ before k (omega (arith, n, h))
 
 -- of a string of sections of given lengths, the reader has read i of them where the lengths say
 read_to_lem : (ls s : List ℕ) (i : ℕ) → i ≤ length ls → framed ls s ≡ true → read_to s i ≡ framed_length (take i ls)

@@ -1,15 +1,24 @@
--- Lists that a run of stores makes: one part after another.
+-- Lists that a run of stores makes: four bytes, and one part after another.
 -- Assumes nothing.
-use mathlib.Core.Path.{◌≡◌, sym, ap, ap₂, ◌∙◌}
+use mathlib.Core.Path.{◌≡◌, refl, sym, ap, ap₂, ◌∙◌}
 use mathlib.Core.List.{List, [], ◌∷◌, ◌++◌, append-nil}
 use Prim.Native.Nat.{ℕ, ◌+◌, ◌-◌, ◌≤◌}
 use native.Mathlib.Nat.{min-eq_left}
 use native.Mathlib.Omega.{arith}
 use borrow.Rule.Slice.PartMut.{put_mid}
-use lib.ListN.{length, take, drop, drop_of_length-le, length-append, length-take, length-drop, replicate, length-replicate}
+use lib.ListN.{length, set, take, drop, drop_of_length-le, length-append, length-take, length-drop, replicate, length-replicate}
 use lib.Seq.{take_at, drop_at}
 use Rattle.protocol.specs.Frames.{count4, frame}
 use Rattle.theorems.proofs.FrameLaws.{frame-append}
+
+-- four stores to a list of four
+pub four : (l : List ℕ) (a b c d : ℕ) → length l ≡ 4 → set (set (set (set l 0 a) 1 b) 2 c) 3 d ≡ a ∷ b ∷ c ∷ d ∷ []
+four [] a b c d h = absurd (omega arith)
+four (w ∷ []) a b c d h = absurd (omega arith)
+four (w ∷ x ∷ []) a b c d h = absurd (omega arith)
+four (w ∷ x ∷ y ∷ []) a b c d h = absurd (omega arith)
+four (w ∷ x ∷ y ∷ z ∷ []) a b c d h = refl
+four (w ∷ x ∷ y ∷ z ∷ v ∷ l) a b c d h = absurd (omega arith)
 
 -- the last part of a buffer is written after what stands before it
 pub seam : (a : ℕ) (p q r : List ℕ) → length p ≡ a → put_mid a (length (p ++ q) - a) (p ++ q) r ≡ p ++ r

@@ -5,7 +5,7 @@ use mathlib.Core.List.{List, [], ◌∷◌, ◌++◌}
 use Prim.Native.Nat.{ℕ, zero, suc, ◌+◌, ◌*◌, ◌/◌, ◌%◌, ◌-◌, ◌^◌, ◌≤◌, ◌<◌}
 use native.Mathlib.Nat.{div-one}
 use native.Mathlib.Omega.{arith}
-use lib.ListN.{length, get_or, take, drop, length-append, length-drop}
+use lib.ListN.{length, get_or, set, take, drop, length-append, length-drop}
 use lib.Seq.{take_at, take_all, length-take-le}
 use mathlib.Core.Logic.{◌⊎◌, ⊎_elim}
 use borrow.Rule.Slice.PartMut.{put_mid, same_len_mid}
@@ -24,13 +24,32 @@ module _ (h : Held) (s : List ℕ) (at i n : ℕ) (is : (s, at) ≡ after h i) (
   after-step = sym (after-part n s at l k) ∙ ap (λ g. after g n) is ∙ sym (after_more i n h)
 
 -- byte k of a number
-unfoldable word_byte : ℕ → ℕ → ℕ
+unfoldable pub word_byte : ℕ → ℕ → ℕ
 word_byte w k = w / 2 ^ (8 * k) % 2 ^ 8
 
 word-bytes : (w : ℕ) → to_le_bytes w64 w ≡ listed 8 (word_byte w) 0
 unfolding listed word_byte
 word-bytes w =
     ap (λ x. x % 256 ∷ w / 2 ^ 8 % 256 ∷ w / 2 ^ 16 % 256 ∷ w / 2 ^ 24 % 256 ∷ w / 2 ^ 32 % 256 ∷ w / 2 ^ 40 % 256 ∷ w / 2 ^ 48 % 256 ∷ w / 2 ^ 56 % 256 ∷ []) (sym (div-one w))
+
+-- eight bytes written, whatever stood there
+eight : (l : List ℕ) (a b c d e f g h : ℕ) → length l ≡ 8
+    → set (set (set (set (set (set (set (set l 0 a) 1 b) 2 c) 3 d) 4 e) 5 f) 6 g) 7 h ≡ a ∷ b ∷ c ∷ d ∷ e ∷ f ∷ g ∷ h ∷ []
+eight [] a b c d e f g h n = absurd (omega arith)
+eight (_ ∷ []) a b c d e f g h n = absurd (omega arith)
+eight (_ ∷ _ ∷ []) a b c d e f g h n = absurd (omega arith)
+eight (_ ∷ _ ∷ _ ∷ []) a b c d e f g h n = absurd (omega arith)
+eight (_ ∷ _ ∷ _ ∷ _ ∷ []) a b c d e f g h n = absurd (omega arith)
+eight (_ ∷ _ ∷ _ ∷ _ ∷ _ ∷ []) a b c d e f g h n = absurd (omega arith)
+eight (_ ∷ _ ∷ _ ∷ _ ∷ _ ∷ _ ∷ []) a b c d e f g h n = absurd (omega arith)
+eight (_ ∷ _ ∷ _ ∷ _ ∷ _ ∷ _ ∷ _ ∷ []) a b c d e f g h n = absurd (omega arith)
+eight (_ ∷ _ ∷ _ ∷ _ ∷ _ ∷ _ ∷ _ ∷ _ ∷ []) a b c d e f g h n = refl
+eight (_ ∷ _ ∷ _ ∷ _ ∷ _ ∷ _ ∷ _ ∷ _ ∷ _ ∷ l) a b c d e f g h n = absurd (omega arith)
+
+pub word_stored : (l : List ℕ) (w : ℕ) → length l ≡ 8
+    → set (set (set (set (set (set (set (set l 0 (w % 256)) 1 (w / 2 ^ 8 % 256)) 2 (w / 2 ^ 16 % 256)) 3 (w / 2 ^ 24 % 256)) 4 (w / 2 ^ 32 % 256)) 5 (w / 2 ^ 40 % 256)) 6 (w / 2 ^ 48 % 256)) 7 (w / 2 ^ 56 % 256) ≡ listed 8 (word_byte w) 0
+word_stored l w n =
+    eight l (w % 256) (w / 2 ^ 8 % 256) (w / 2 ^ 16 % 256) (w / 2 ^ 24 % 256) (w / 2 ^ 32 % 256) (w / 2 ^ 40 % 256) (w / 2 ^ 48 % 256) (w / 2 ^ 56 % 256) n ∙ word-bytes w
 
 listed-at : (n k i : ℕ) (f : ℕ → ℕ) → k < n → get_or (listed n f i) k 0 ≡ f (i + k)
 unfolding listed

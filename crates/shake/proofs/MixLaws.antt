@@ -23,10 +23,11 @@ split_at p a at h l =
     ∙ sym (all_append (take h p) (drop h p) a at) ∙ ap (added_all a at) (take-append-drop h p)
 
 -- the whole lanes start where a lane does, unless there are none
-pub where_words : (at h n : ℕ) → h ≡ min ((8 - at % 8) % 8) n → (h + (n - h) / 8 * 8 ≡ h) ⊎ (8 * ((at + h) / 8) ≡ at + h)
-where_words at h n e =
-    let l : h ≤ (8 - at % 8) % 8 = omega arith in
-    ⊎_elim (λ (e : h ≡ (8 - at % 8) % 8). inr (omega arith)) (λ (k : h < (8 - at % 8) % 8). inl (omega arith)) (eq-or-lt_of_le l)
+pub where_words : (at h n : ℕ) → h ≤ (8 - at % 8) % 8 → (h < (8 - at % 8) % 8 → h ≡ n) → (h + (n - h) / 8 * 8 ≡ h) ⊎ (8 * ((at + h) / 8) ≡ at + h)
+where_words at h n l full = ⊎_elim (λ (e : h ≡ (8 - at % 8) % 8). inr (omega arith)) (λ (k : h < (8 - at % 8) % 8). inl (omega (arith, full k))) (eq-or-lt_of_le l)
+
+pub where-words_min : (at h n : ℕ) → h ≡ min ((8 - at % 8) % 8) n → (h + (n - h) / 8 * 8 ≡ h) ⊎ (8 * ((at + h) / 8) ≡ at + h)
+where-words_min at h n e = where_words at h n (omega arith) (λ k. omega arith)
 
 -- bytes up to a lane's end, whole lanes, and the bytes that are left
 pub three_parts : (p a : List ℕ) (at h t : ℕ) → h ≤ t → t ≤ length p → (t ≡ h) ⊎ (8 * ((at + h) / 8) ≡ at + h)

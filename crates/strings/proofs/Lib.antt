@@ -8,6 +8,7 @@ pub mod BitLaws
 pub mod TopLaws
 pub mod ProductLaws
 pub mod WordLaws
+pub mod LeastLaws
 pub mod ParityLaws
 pub mod SharedLaws
 pub mod TableLaws

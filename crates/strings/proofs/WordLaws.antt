@@ -6,12 +6,12 @@ use mathlib.Core.Logic.{⊎_elim}
 use Prim.Native.Nat.{ℕ, zero, suc, ◌+◌, ◌*◌, ◌/◌, ◌%◌, ◌-◌, ◌^◌, ◌≤◌, ◌<◌}
 use native.Mathlib.Nat.{mul-le-mul, le_refl, mod-eq_of_lt, div-one, add_assoc, eq-or-lt_of_le, le_of_suc-le-suc}
 use native.Mathlib.Omega.{arith}
-use lib.Bits.{bit_xor, xor_shr, xor_mod}
+use lib.Bits.{bit_or, bit_xor, or_shifted_r, xor_shr, xor_mod}
 use lib.Dec.{lit<}
 use lib.ListN.{take, drop}
 use lib.Seq.{get_or-take, get_or-drop}
 use Rattle.std.specs.Int.{w64, from_le_bytes}
-use lib.Pow.{pow-add, shr-shr, high, low, field, mod-mod-pow}
+use lib.Pow.{pow-add, shl_exact, shr-shr, high, low, field, mod-mod-pow}
 use Rattle.strings.specs.Sums.{byte_at, xor_sum}
 use Rattle.strings.specs.Words.{word_of}
 use Rattle.strings.proofs.SumLaws.{sum_same, sum_parts, sum_both}
@@ -48,6 +48,17 @@ module _ (s : List ℕ) (at : ℕ) (bytes : (i : ℕ) → byte_at s i < 256) whe
       let p : 2 ^ (8 * suc n) ≡ 256 * 2 ^ (8 * n) = ap (λ k. 2 ^ k) e ∙ pow-add 2 8 (8 * n) in
       let b : byte_at s (at + n) ≤ 255 = omega (arith, bytes (at + n)) in
       omega (arith, p, word_lt n, mul-le-mul b (le_refl (2 ^ (8 * n))))
+
+  pub word_first : byte_at s at ≡ word_of s at 1
+  unfolding word_of
+  word_first = let e : at + 0 ≡ at = omega arith in rw e (omega arith)
+
+  -- a byte more, shifted to its place
+  pub word_next : (n : ℕ) → n < 8 → bit_or (word_of s at n) (byte_at s (at + n) * 2 ^ (8 * n) % 2 ^ 64) ≡ word_of s at (suc n)
+  unfolding word_of
+  word_next n h =
+      ap (bit_or (word_of s at n)) (shl_exact 8 (8 * n) 64 (bytes (at + n)) (omega arith))
+      ∙ or_shifted_r (byte_at s (at + n)) (8 * n) (word_of s at n) (word_lt n)
 
   word_byte_lem : (n i : ℕ) → i < n → byte_of (word_of s at n) i ≡ byte_at s (at + i)
   unfolding word_of

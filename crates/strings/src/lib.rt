@@ -102,8 +102,8 @@ pub fn xor_bit(s: &mut [u8], c: usize, q: u8)
     s[c / BITS] ^= q << (c % BITS);
 }
 
-// Eight bytes as one number, lowest first: one load. Byte by byte, since `first_chunk` asks for the length each time:
-// with that question 11 takes up to 1.29 of its time.
+// Eight bytes as one number, lowest first: one load. Byte by byte, since with `first_chunk` the time of question 11
+// hangs more on where its code comes to lie (docs/DESIGN-PASS.md).
 pub fn word_at(s: &[u8], at: usize) -> u64
     requires { at + 8 ≤ length s.now }
     ensures { result ≡ word_of s.now at 8 }

@@ -9,6 +9,7 @@ use mathlib.Core.Bool.{cond}
 use mathlib.Core.List.{List}
 use native.Mathlib.Nat.{add-mul, one-mul, mul-zero}
 use Rattle.std.proofs.Common.{min}
+use native.Mathlib.Decide.{dec_lt}
 use native.Mathlib.Omega.{arith}
 use lib.Bits.{bit_xor, xor_zero_r}
 use lib.ListN.{length}
@@ -123,6 +124,20 @@ module _ (tree : List ℕ) (w δ count : ℕ) (fits : TreeFits tree w δ count) 
   pub after-fits : δ + 1 < n → (n - 1) * w ≤ length tree
   after-fits high = full-rows (n - 1 - 1) (n - 1) w (length tree) (omega arith) (rw (place-above δ (n - 1) (omega arith)) at (fits (n - 1) (omega arith) (λ e. omega arith)))
 
+-- m is the lesser of a and b, and below b
+first-least : (m a b : ℕ) → m ≤ a → (m < a → m ≡ b) → m < b → m ≡ a
+first-least m a b le other lt = go (dec_lt m a)
+  where
+    go : Dec (m < a) → m ≡ a
+    go (yes below) = absurd (omega (arith, other below))
+    go (no above) = omega arith
+
 -- where leaves are left after the four that are cut out, the leaf that is left out is among these
-pub cut_out : (δ count next : ℕ) → next ≡ min count (min δ count / 4 * 4 + 4) → next < count → (next % 4 ≡ 0) × (δ < next)
-cut_out δ count next is lt = (omega arith, omega arith)
+pub cut_out : (δ count m next : ℕ) → m ≤ δ → (m < δ → m ≡ count) → next ≤ m / 4 * 4 + 4 → (next < m / 4 * 4 + 4 → next ≡ count) → next < count → (next % 4 ≡ 0) × (δ < next)
+cut_out δ count m next le other le' other' lt =
+    let after : next ≡ m / 4 * 4 + 4 = first-least next (m / 4 * 4 + 4) count le' other' lt in
+    let here : m ≡ δ = first-least m δ count le other (omega arith) in
+    (omega arith, omega arith)
+
+pub cut-out_min : (δ count next : ℕ) → next ≡ min count (min δ count / 4 * 4 + 4) → next < count → (next % 4 ≡ 0) × (δ < next)
+cut-out_min δ count next is lt = cut_out δ count (min δ count) next (omega arith) (λ l. omega arith) (omega arith) (λ l. omega arith) lt

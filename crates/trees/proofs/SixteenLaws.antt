@@ -101,13 +101,19 @@ row_takes n j r p h k = go (dec_lt (count_trailing_zeros n (j + 1)) p)
     go (yes lt) = bit_stays n j p (omega arith) lt ∙ sym (ap (λ b. cond b 1 0) (ltb_no (r - count_trailing_zeros n (j + 1)) (r + 1 - p) (omega arith)))
     go (no ge) = bit_changes n j p (omega arith) (omega arith) ∙ sym (ap (λ b. cond b 1 0) (ltb_yes (r - count_trailing_zeros n (j + 1)) (r + 1 - p) (omega arith)))
 
--- what the held rows add up to in plane p, after a row was added to row k; q says whether the plane takes that row
-pub held_put : (held held' row : List ℕ) (r k p b q : ℕ) → length row ≡ 16 → b < 16 → q ≡ cond (ltb k (r + 1 - p)) 1 0 → RowAdded (length row) k row held held' → RowsKept (length row) k held held'
+-- what the held rows add up to in plane p, after x was added to row k; q says whether the plane takes that row
+pub held_put : (held held' : List ℕ) (r k p b x q : ℕ) → q ≡ cond (ltb k (r + 1 - p)) 1 0 → byte_at held' (k * 16 + b) ≡ bit_xor (byte_at held (k * 16 + b)) x
+    → ((i : ℕ) → (i ≡ k → ⊥) → byte_at held' (i * 16 + b) ≡ byte_at held (i * 16 + b)) → held_plane held' r p b ≡ bit_xor (held_plane held r p b) (q * x)
+held_put held held' r k p b x q takes here others =
+    sum_put (r + 1 - p) k x (λ i. byte_at held (i * 16 + b)) (λ i. byte_at held' (i * 16 + b)) here others ∙ ap (λ y. bit_xor (held_plane held r p b) (y * x)) (sym takes)
+
+-- the same of a whole row that is added
+pub held_put_row : (held held' row : List ℕ) (r k p b q : ℕ) → length row ≡ 16 → b < 16 → q ≡ cond (ltb k (r + 1 - p)) 1 0 → RowAdded (length row) k row held held' → RowsKept (length row) k held held'
     → held_plane held' r p b ≡ bit_xor (held_plane held r p b) (q * byte_at row b)
-held_put held held' row r k p b q long hb takes here others =
+held_put_row held held' row r k p b q long hb takes here others =
     let added = rw long at here in
     let left = rw long at others in
-    sum_put (r + 1 - p) k (byte_at row b) (λ i. byte_at held (i * 16 + b)) (λ i. byte_at held' (i * 16 + b)) (added b hb) (λ i other. left i b other hb) ∙ ap (λ y. bit_xor (held_plane held r p b) (y * byte_at row b)) (sym takes)
+    held_put held held' r k p b (byte_at row b) q takes (added b hb) (λ i other. left i b other hb)
 
 -- ---- a part of a string, changed byte by byte
 

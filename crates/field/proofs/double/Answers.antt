@@ -3,7 +3,7 @@
 use mathlib.Core.Path.{sym, subst, ap, ap₂, ◌∙◌}
 use Prim.Native.Nat.{◌*◌, ◌/◌, ◌%◌, ◌<◌}
 use lib.Bits.{bit_xor}
-use Rattle.field.proofs.ProductLaws.{doubled}
+use Rattle.field.proofs.ProductLaws.{doubled_moved}
 use Rattle.field.proofs.SizeLaws.{moved-fits, added-fits, top-bit, moved-is}
 use Rattle.field.proofs.double.Goals as goal
 
@@ -25,4 +25,4 @@ returns g c =
     let n = c.size.result in
     ap (bit_xor (x % (n / 2) * 2)) (c.masked.ensures ∙ ap₂ (λ m k. m % k * (x / (n / 2))) (c.from.ensures ∙ c.modulus.ensures) (c.size-2.ensures ∙ sym c.size.ensures))
     ∙ moved-is F.coded n c.size.ensures F.polynomial x
-    ∙ doubled F.coded.degree F.polynomial x g.met.F.Field.doubles (subst (λ n. x < n) F.coded.size_is c.requires)
+    ∙ doubled_moved F.coded.degree F.polynomial x g.met.F.Field.doubles (subst (λ n. x < n) F.coded.size_is c.requires)

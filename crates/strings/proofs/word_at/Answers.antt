@@ -1,6 +1,6 @@
 -- `strings::word_at` meets its contract: the library's sum of the bytes, each times its worth, is the word.
 -- Assumes nothing.
-use Rattle.std.proofs.Common.{◌≡◌, arith, ap, ◌∙◌}
+use Rattle.std.proofs.Common.{◌≡◌, arith, ap}
 use Prim.Native.Nat.{◌+◌}
 use Rattle.strings.specs.Sums.{byte_at}
 use Rattle.strings.specs.Words.{word_of}

@@ -4,7 +4,7 @@
 use mathlib.Core.Path.{sym, subst, ap₂, ◌∙◌}
 use Prim.Native.Nat.{◌%◌, ◌<◌, ◌≤◌}
 use Rattle.algebra.specs.Bits.{elem}
-use Rattle.field.proofs.ProductLaws.{Product, product_start, product-step, product-end}
+use Rattle.field.proofs.ProductLaws.{Turned, turned_start, turned-step, turned-end}
 use Rattle.field.proofs.Field.multiply.Goals as goal
 
 pub loop-init : goal.loop-init
@@ -14,7 +14,7 @@ loop-init g c =
     let m = elem r F.polynomial in
     let a = c.args.a in
     let b = c.args.b in
-    subst (λ x. Product r m a b 0 a x 0) (sym (ap₂ (λ x n. x % n) c.from.ensures (c.size.ensures ∙ F.coded.size_is))) (product_start r m a b)
+    subst (λ x. Turned r m a b 0 a x 0) (sym (ap₂ (λ x n. x % n) c.from.ensures (c.size.ensures ∙ F.coded.size_is))) (turned_start r m a b)
 
 pub loop-preserved : goal.loop-preserved
 loop-preserved g c =
@@ -22,7 +22,7 @@ loop-preserved g c =
     let r = F.coded.degree in
     let m = elem r F.polynomial in
     let l = c.loop in
-    product-step r m _ _ l.counter l.rest l.shifted l.sum _ _ (subst (λ n. l.counter < n) c.degree-end.ensures c.loop-test.true) c.masked-sum.ensures c.double-shifted.ensures l.invariant
+    turned-step r m _ _ l.counter l.rest l.shifted l.sum _ _ (subst (λ n. l.counter < n) c.degree-end.ensures c.loop-test.true) c.masked-sum.ensures c.double-shifted.ensures l.invariant
 
 pub returns : goal.returns
 returns g c =
@@ -30,4 +30,4 @@ returns g c =
     let r = F.coded.degree in
     let m = elem r F.polynomial in
     let l = c.loop in
-    product-end r m c.args.a c.args.b l.counter l.rest l.shifted l.sum (subst (λ n. n ≤ l.counter) c.degree-end.ensures c.loop-test.false) l.invariant ∙ sym (g.met.Self.Field.product c.args.a c.args.b)
+    turned-end r m c.args.a c.args.b l.counter l.rest l.shifted l.sum (subst (λ n. n ≤ l.counter) c.degree-end.ensures c.loop-test.false) l.invariant ∙ sym (g.met.Self.Field.product c.args.a c.args.b)

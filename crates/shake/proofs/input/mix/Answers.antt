@@ -1,7 +1,7 @@
 -- `shake::input::mix` meets its contract. Three parts are added one after the other.
 -- Assumes nothing.
 use Rattle.sponge.specs.Sponge.{added_all}
-use Rattle.shake.proofs.MixLaws.{three_parts, where_words}
+use Rattle.shake.proofs.MixLaws.{three_parts, where-words_min}
 use Prim.Native.Nat.{◌+◌, ◌*◌, ◌/◌, ◌-◌}
 use mathlib.Core.Path.{ap, ◌∙◌}
 use native.Mathlib.Omega.{arith}
@@ -29,4 +29,4 @@ returns c =
     c.mix_bytes-2.ensures
     ∙ ap (λ s. added_all s (a.at + t) (take (length p - t) (drop t p)))
     (c.mix_words.ensures ∙ ap (λ s. added_all s (8 * ((a.at + h) / 8)) (take (t - h) (drop h p))) c.mix_bytes.ensures)
-    ∙ three_parts p a.lanes.now a.at h t (omega arith) (omega arith) (where_words a.at h (length p) c.min-head.ensures)
+    ∙ three_parts p a.lanes.now a.at h t (omega arith) (omega arith) (where-words_min a.at h (length p) c.min-head.ensures)

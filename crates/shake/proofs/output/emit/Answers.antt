@@ -4,7 +4,7 @@ use Prim.Native.Nat.{◌+◌, ◌*◌, ◌/◌, ◌-◌}
 use native.Mathlib.Omega.{arith}
 use lib.ListN.{length, length-take}
 use Rattle.sponge.specs.Sponge.{byte_in}
-use Rattle.shake.proofs.MixLaws.{where_words}
+use Rattle.shake.proofs.MixLaws.{where-words_min}
 use Rattle.shake.proofs.EmitLaws.{three-given}
 use Rattle.shake.proofs.output.emit.Goals as goal
 
@@ -21,4 +21,4 @@ returns c =
     let o = a.out.now in
     let t = h + (length o - h) / 8 * 8 in
     three-given o c.emit_bytes.new.out c.emit_words.new.out c.emit_bytes-2.new.out (byte_in a.lanes.now) a.at h t (omega arith) (omega arith)
-    c.emit_bytes.ensures c.emit_words.ensures c.emit_bytes-2.ensures (where_words a.at h (length o) c.min-head.ensures)
+    c.emit_bytes.ensures c.emit_words.ensures c.emit_bytes-2.ensures (where-words_min a.at h (length o) c.min-head.ensures)

@@ -7,7 +7,7 @@ use Rattle.protocol.specs.Lists.{block_at}
 use Rattle.strings.specs.Sums.{byte_at}
 use Rattle.strings.proofs.Rows.{row-end}
 use Rattle.trees.specs.Partial.{held_plane, Handed}
-use Rattle.trees.proofs.SixteenLaws.{held_put}
+use Rattle.trees.proofs.SixteenLaws.{held_put_row}
 use Rattle.trees.proofs.FourLaws.{four-fits, held_more}
 use Rattle.trees.proofs.fours.add_fours.Goals as goal
 
@@ -65,7 +65,7 @@ loop-k-preserved c =
     (λ b h. leaf.ensures b h ∙ ap (bit_xor (byte_at added.new.sum b)) (sym (handed (j + 3) (j - run.skip + 3) four.result.now (omega arith) (omega arith) (omega arith) four.ensures.0 b h)))
     (held_plane more.new.table 8)
     (λ p b hp hb.
-    held_put l.held more.new.table leaf.new.dst 8 row.result p b _ leaf.array_long hb (row.ensures.by_index p hp) more.ensures.row_added more.ensures.rows_kept) in
+    held_put_row l.held more.new.table leaf.new.dst 8 row.result p b _ leaf.array_long hb (row.ensures.by_index p hp) more.ensures.row_added more.ensures.rows_kept) in
     let end : j + 3 + 1 ≡ run.from + (l.k + 1) * 4 = omega arith in
     rw end at run4
 

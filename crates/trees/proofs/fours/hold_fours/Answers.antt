@@ -6,7 +6,7 @@ use lib.Bits.{bit_xor}
 use lib.ListN.{get_or-replicate}
 use Rattle.strings.specs.Sums.{byte_at, bit_of}
 use Rattle.trees.specs.Partial.{RunningLow, held_plane}
-use Rattle.trees.proofs.SixteenLaws.{held_put}
+use Rattle.trees.proofs.SixteenLaws.{held_put_row}
 use Rattle.trees.proofs.FourLaws.{low-none}
 use Rattle.trees.proofs.fours.hold_fours.Goals as goal
 
@@ -25,8 +25,8 @@ returns c =
     let done = fours.ensures f placed begun in (
       done.0,
       λ p b hp hb.
-          held_put one.new.table two.new.table fours.new.second 8 row2.result p b (bit_of 3 p) fours.array_long4 hb (row2.ensures.by_index p hp) two.ensures.row_added two.ensures.rows_kept
+          held_put_row one.new.table two.new.table fours.new.second 8 row2.result p b (bit_of 3 p) fours.array_long4 hb (row2.ensures.by_index p hp) two.ensures.row_added two.ensures.rows_kept
           ∙ ap (λ z. bit_xor z (bit_of 3 p * byte_at fours.new.second b))
-          (held_put fours.new.held one.new.table fours.new.first 8 row.result p b (bit_of 1 p) fours.array_long3 hb (row.ensures.by_index p hp) one.ensures.row_added one.ensures.rows_kept)
+          (held_put_row fours.new.held one.new.table fours.new.first 8 row.result p b (bit_of 1 p) fours.array_long3 hb (row.ensures.by_index p hp) one.ensures.row_added one.ensures.rows_kept)
           ∙ done.1 p b hp hb,
     )

@@ -6,7 +6,7 @@ use Rattle.strings.proofs.SumLaws.{sum_same, sum-none}
 use Rattle.trees.specs.Trees.{leaf_byte}
 use Rattle.trees.specs.Partial.{held_plane, RunningHeld}
 use Rattle.trees.proofs.PartialLaws.{running_none}
-use Rattle.trees.proofs.FourLaws.{below-leaf, above-leaf, before-fits, after-fits, cut_out}
+use Rattle.trees.proofs.FourLaws.{below-leaf, above-leaf, before-fits, after-fits, cut-out_min}
 use Rattle.trees.proofs.sixteens.hold.Goals as goal
 
 -- of no leaf, nothing is held
@@ -37,7 +37,7 @@ hold_fours-requires-then-cut-count c =
       omega arith,
       omega arith,
       λ lt.
-          let cut = cut_out a.delta a.count next (omega arith) (omega arith) in
+          let cut = cut-out_min a.delta a.count next (omega arith) (omega arith) in
           (cut.0, omega arith, after-fits a.tree.now a.w a.delta a.count fits.2 (next + (a.count - next) / 4 * 4) (omega arith) (omega arith)),
     )
 
@@ -56,7 +56,7 @@ returns-then-cut-count c =
     let run3 =
     c.hold_fours-then-cut-count.ensures f
     (λ i low high b hb.
-    let cut = cut_out a.delta a.count next (omega arith) (omega arith) in
+    let cut = cut-out_min a.delta a.count next (omega arith) (omega arith) in
     above-leaf tree a.w a.delta i (omega arith) (a.at + b)) run2 in
     c.hold_leaves-then-cut-count.ensures run3
 

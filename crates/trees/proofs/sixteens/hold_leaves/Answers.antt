@@ -6,7 +6,7 @@ use Rattle.strings.specs.Sums.{byte_at}
 use Rattle.trees.specs.Trees.{leaf_byte}
 use Rattle.trees.specs.Partial.{held_plane}
 use Rattle.trees.proofs.PartialLaws.{running_more}
-use Rattle.trees.proofs.SixteenLaws.{held_put}
+use Rattle.trees.proofs.SixteenLaws.{held_put_row}
 use Rattle.trees.proofs.sixteens.hold_leaves.Goals as goal
 
 pub add_part-requires : goal.add_part-requires
@@ -23,4 +23,4 @@ loop-j-preserved c =
     running_more (λ i b. leaf_byte a.tree.now a.w a.delta i (a.at + b)) 8 16 (byte_at l.sum) (held_plane l.held 8) l.j (byte_at part.new.sum) (held_plane more.new.table 8)
     (l.invariant run) part.ensures
     (λ p b hp hb.
-    held_put l.held more.new.table part.new.sum 8 row.result p b _ part.array_long hb (row.ensures.by_index p hp) more.ensures.row_added more.ensures.rows_kept)
+    held_put_row l.held more.new.table part.new.sum 8 row.result p b _ part.array_long hb (row.ensures.by_index p hp) more.ensures.row_added more.ensures.rows_kept)
