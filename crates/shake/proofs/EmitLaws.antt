@@ -27,7 +27,7 @@ module _ (h : Held) (s : List ℕ) (at i n : ℕ) (is : (s, at) ≡ after h i) (
 unfoldable pub word_byte : ℕ → ℕ → ℕ
 word_byte w k = w / 2 ^ (8 * k) % 2 ^ 8
 
-word-bytes : (w : ℕ) → to_le_bytes w64 w ≡ listed 8 (word_byte w) 0
+pub word-bytes : (w : ℕ) → to_le_bytes w64 w ≡ listed 8 (word_byte w) 0
 unfolding listed word_byte
 word-bytes w =
     ap (λ x. x % 256 ∷ w / 2 ^ 8 % 256 ∷ w / 2 ^ 16 % 256 ∷ w / 2 ^ 24 % 256 ∷ w / 2 ^ 32 % 256 ∷ w / 2 ^ 40 % 256 ∷ w / 2 ^ 48 % 256 ∷ w / 2 ^ 56 % 256 ∷ []) (sym (div-one w))
